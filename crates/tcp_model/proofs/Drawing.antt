@@ -34,6 +34,7 @@ use Rattle.tcp_model.specs.Pauses.{Happening, Lasts, IsOneConnection, AreApart, 
 use Rattle.tcp_model.specs.Pauses.{IsAnsweredAtOnce}
 use Rattle.tcp_model.specs.Pauses.Happening.{Comes, Asked, Called}
 use Rattle.tcp_model.specs.Probing.{probe_moment, probe_started}
+use Rattle.tcp_model.specs.Probing.{probe_kept}
 use Rattle.tcp_model.specs.Retries.{heard, asked, gives_up, given_up}
 use Rattle.tcp_model.specs.Rules.{owes_syn, resends, resend_choice, has_text, text_choice, ack_moment, updates_window, keep_alive_moment, probe_choice}
 use Rattle.tcp_model.specs.Rules.{backed_off_now, time_wait_end}
@@ -181,7 +182,9 @@ fin_pause b old header size advance now =
 finished_pause : (cx : ContextValue) (old : Block) (t : Texted) (ip : IpRepr) (header : TcpHeader) (size : ℕ) →
     Keeps (pause_of t.socket) (finished cx old t ip header size)
 finished_pause cx old t ip header size =
-    answer_pause cx _ ip header size t.fills t.early ∙ fin_pause t.socket.block old header size t.advance cx.moment
+    answer_pause cx (with_block t.socket (probe_kept (with_fin t.socket.block old header size t.advance cx.moment) (queued_in t.socket))) ip header size t.fills
+    t.early
+    ∙ fin_pause t.socket.block old header size t.advance cx.moment
 
 acknowledged_pause : (v : TcpValue) (by : ℕ) (now : ℤ) → pause_of (acknowledged v by now) ≡ pause_of v
 acknowledged_pause v by now = either (is_closed (state_after_ack v.block by (queued_in v))) where

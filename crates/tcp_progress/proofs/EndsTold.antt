@@ -47,7 +47,7 @@ use Rattle.tcp_progress.proofs.Mirrored.{connected_mirrored}
 use Rattle.tcp_progress.proofs.Led.{offer_led}
 use Rattle.tcp_progress.proofs.Left.{left_same}
 use Rattle.tcp_progress.proofs.Offered.{GoesOut, goes_out_of}
-use Rattle.tcp_progress.proofs.Pair.{HasLess, HasTold, Moved, had_in, late_in, not_closed, out, partner_after, reach_in, reached_comes, reaches}
+use Rattle.tcp_progress.proofs.Pair.{HasLess, HasTold, Moved, had_in, late_in, not_closed, out, partner_after, ahead_in, reached_comes, reaches}
 use Rattle.tcp_progress.proofs.Positions.{IsPlaced, connected_in, next_small, placed, una_small}
 use Rattle.tcp_progress.proofs.Roused.{roused_calm, roused_reached}
 use Rattle.tcp_progress.proofs.SentPairs.{reached_took}
@@ -382,7 +382,7 @@ module _ (p : PairValue) (side : Side) (r : IsReached p) (s : BothStay p) (m : M
         ap (λ (n : SeqNumber). distance_of n (socket_of y (other side)).block.receiver.next)
         (ap (λ (v : TcpValue). v.block.sender.una) same_own ∙ goes.sent.una)
         ∙ (ap (λ (v : TcpValue). distance_of (socket_of x side).block.sender.una v.block.receiver.next) (sym same_other)
-        ∙ (whole (left_in q side) (reach_in x q side) (left_in x side) h.left none ∙ sym left))
+        ∙ (whole (left_in q side) (ahead_in x q side) (left_in x side) h.left none ∙ sym left))
 
     at : (over : Bool) → is_closed (socket_of q (other side)).block.state ≡ over → IsTaken q side
     at true e = taken_still x q side since (last_took x side rx theirs (moved.heard.closes_other e).0)

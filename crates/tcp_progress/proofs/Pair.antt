@@ -1,39 +1,26 @@
 -- An exchange of two sockets as events of a pair.
 use Rattle.std.proofs.Common.{◌≡◌, ◌⊎◌, inl, inr, ℕ, suc, ◌+◌, ◌-◌, ◌*◌, ◌%◌, ◌^◌, ◌<◌, ◌≤◌}
-use Rattle.std.proofs.Common.{◌==◌, ◌&&◌, ℤ, Bool, true, false, List, [], ◌∷◌, ◌++◌, length, Option, Some, None}
+use Rattle.std.proofs.Common.{ℤ, Bool, true, false, List, [], ◌∷◌, ◌++◌, length, Option, Some, None}
 use Rattle.std.proofs.Common.{slice_get, refl, sym, ap, ◌∙◌, subst, arith}
-use Rattle.std.proofs.lemmas.Bool.{eq-eqb}
-use Rattle.std.proofs.lemmas.Slice.Eq.{bytes_eq-Decides}
 use Rattle.net_base.specs.Ring.{Ring}
-use Rattle.ip_wire.specs.AddressTests.{is_same_address}
-use Rattle.ip_wire.specs.Ip.{source_of, destination_of}
-use Rattle.ip_wire.specs.IpAddress.{IpAddress}
-use Rattle.ip_wire.specs.IpAddress.TheVariants as Address
-use Rattle.ip_wire.specs.IpRepr.{IpRepr}
 use Rattle.ip_wire.specs.Seq.{distance_of}
 use Rattle.ip_wire.specs.SeqNumber.{SeqNumber}
 use Rattle.ip_wire.specs.TcpControl.TheVariants as Control
-use Rattle.ip_wire.specs.TcpHeader.{TcpHeader}
 use Rattle.tcp_law.specs.Invariant.{IsInStep, IsSilent}
 use Rattle.tcp_law.specs.Side.Phase.{Synchronized}
 use Rattle.tcp_tie.specs.Context.{ContextValue}
-use Rattle.tcp_tie.specs.Endpoints.{GoesBetween, GoesBack, IsLeftBy}
 use Rattle.tcp_tie.specs.Tie.{Past, Keeps, IsConnectedAs, core_of, unsent, phase_of}
 use Rattle.tcp_model.specs.Answers.{delayed}
 use Rattle.tcp_rules.specs.Acks.{IsAcknowledged, IsOwed}
 use Rattle.tcp_rules.specs.Controls.{is_fin, is_rst}
-use Rattle.tcp_rules.specs.EndpointPair.{EndpointPair}
-use Rattle.tcp_rules.specs.Endpoints.{local_of, remote_of, is_between, is_connected_by}
-use Rattle.tcp_rules.specs.Names.{Names}
 use Rattle.tcp_rules.specs.Offsets.{behind_by}
 use Rattle.tcp_rules.specs.OpenOffer.{OpenOffer}
 use Rattle.tcp_rules.specs.Reply.{Reply}
 use Rattle.tcp_rules.specs.State.{State}
 use Rattle.tcp_rules.specs.State.TheVariants as In
-use Rattle.tcp_rules.specs.States.{is_answering, is_closed}
+use Rattle.tcp_rules.specs.States.{is_closed}
 use Rattle.tcp_model.specs.Arrival.{arrives}
-use Rattle.tcp_model.specs.declared.block.Block.{Block}
-use Rattle.tcp_model.specs.Names.{accepts, accepts_in}
+use Rattle.tcp_model.specs.Names.{accepts}
 use Rattle.tcp_model.specs.Offers.{offer_of}
 use Rattle.tcp_model.specs.Settled.{settled}
 use Rattle.tcp_tie.specs.Pair.History.{pasts}
@@ -44,7 +31,6 @@ use Rattle.tcp_tie.specs.Pair.Values.{PairSide, PairValue, context_at, and_offer
 use Rattle.tcp_tie.specs.declared.pair.event.SentSegment.{SentSegment}
 use Rattle.tcp_tie.specs.declared.pair.event.Side.{Side}
 use Rattle.tcp_tie.specs.declared.pair.event.Side.TheVariants.{A, B}
-use Rattle.tcp_tie.proofs.NameLaws.{offer_between_ends, sent_names, answer_back}
 use Rattle.tcp_tie.proofs.Tied.{fits_connected, if_so}
 use Rattle.tcp_rules.proofs.OrderSteps.{clash}
 use Rattle.tcp_progress.specs.Arrivals.{EndsLastAck, is_synchronized}
@@ -54,7 +40,7 @@ use Rattle.tcp_progress.specs.Pair.{context_of, exchanged_in, left_in, next_sent
 use Rattle.tcp_progress.specs.Positions.{LiesWithin}
 use Rattle.tcp_progress.specs.Rounds.{comes}
 use Rattle.tcp_progress.specs.Reached.{IsReached}
-use Rattle.tcp_progress.specs.Sent.{SendsAll, is_early}
+use Rattle.tcp_progress.specs.Sent.{SendsAll}
 use Rattle.tcp_progress.proofs.Closes.{bare_still, closes_last}
 use Rattle.tcp_progress.proofs.Exchange.{IsHeardOf, IsPassed, IsUnheard, WasNew, heard_all, heard_or_not, last_of, outcome, reach_of, told_of}
 use Rattle.tcp_progress.proofs.Kept.{reached_keeps}
@@ -64,93 +50,8 @@ use Rattle.tcp_progress.proofs.Offered.{GoesOut, goes_out_of, goes_from_una}
 use Rattle.tcp_progress.proofs.Positions.{connected_in, placed, lies_within, una_small, next_small}
 use Rattle.tcp_progress.proofs.WindowPairs.{fits_in}
 use Rattle.tcp_progress.proofs.SentPairs.{offered_took, reached_sends, reached_took}
-
--- EACH ACCEPTS WHAT THE OTHER SENDS
-
-alike : (a b : IpAddress) → a ≡ b → is_same_address a b ≡ true
-alike a b e = subst (λ (b : IpAddress). is_same_address a b ≡ true) e (itself a) where
-  itself : (a : IpAddress) → is_same_address a a ≡ true
-  itself (Address.Ipv4 a) = (bytes_eq-Decides a.0 a.0).1 refl
-  itself (Address.Ipv6 a) = (bytes_eq-Decides a.0 a.0).1 refl
-
-all_four : (a b c d : Bool) → a ≡ true → b ≡ true → c ≡ true → d ≡ true → (a && (b && (c && d))) ≡ true
-all_four a b c d e f g h = ap (λ (t : Bool). t && (b && (c && d))) e ∙ (ap (λ (t : Bool). t && (c && d)) f ∙ (ap (λ (t : Bool). t && d) g ∙ h))
-
--- a segment between the endpoints of a connection
-pub between :
-    (pair : EndpointPair) (ip : IpRepr) (header : TcpHeader) → local_of pair.addresses ≡ destination_of ip → remote_of pair.addresses ≡ source_of ip
-    → pair.local_port ≡ header.dst_port → pair.remote_port ≡ header.src_port → is_between pair ip header ≡ true
-between pair ip header a b c d =
-    all_four (is_same_address (local_of pair.addresses) (destination_of ip)) (is_same_address (remote_of pair.addresses) (source_of ip))
-    (pair.local_port == header.dst_port) (pair.remote_port == header.src_port) (alike (local_of pair.addresses) (destination_of ip) a)
-    (alike (remote_of pair.addresses) (source_of ip) b) (eq-eqb pair.local_port header.dst_port c) (eq-eqb pair.remote_port header.src_port d)
-
-pub accepted_by :
-    (b : Block) (pair : EndpointPair) (ip : IpRepr) (header : TcpHeader) → is_synchronized b.state ≡ true → b.names.pair ≡ Some pair
-    → is_between pair ip header ≡ true → accepts b ip header ≡ true
-accepted_by b pair ip header past named fits =
-    in_state b.state past ∙ (ap (λ (names : Option EndpointPair). is_connected_by names ip header) named ∙ fits)
-  where
-    in_state : (state : State) → is_synchronized state ≡ true → accepts_in state b ip header ≡ is_connected_by b.names.pair ip header
-    in_state In.Closed e = clash (sym e)
-    in_state In.Listen e = clash (sym e)
-    in_state other e = refl
-
-one_pair : (x y : EndpointPair) → Some x ≡ Some y → x ≡ y
-one_pair x y e = cc
-
--- a mirrored partner accepts an offer
-offer_accepted :
-    (cx : ContextValue) (v : TcpValue) (b : Block) (o : OpenOffer) (m : AreMirrored v.block b) → is_synchronized b.state ≡ true
-    → (offer_of cx v).socket.offered ≡ Some o → accepts b o.header o.segment ≡ true
-offer_accepted cx v b o m past offered =
-    let it = offer_between_ends cx v o offered in
-    let same : m.own ≡ it.0 = one_pair m.own it.0 (sym m.named ∙ it.1) in
-    let g : GoesBetween m.own o = subst (λ (pair : EndpointPair). GoesBetween pair o) (sym same) it.2 in
-    accepted_by b m.theirs o.header o.segment past m.partner_named
-    (between m.theirs o.header o.segment (sym m.remote ∙ sym g.destination) (sym m.local ∙ sym g.source) (sym m.remote_port ∙ sym g.destination_port)
-    (sym m.local_port ∙ sym g.source_port))
-
--- the names stay with an offer, where the connection does
-names_stay : (old new : Block) → is_answering old.state ≡ false → is_closed new.state ≡ false → IsLeftBy old new → new.names ≡ old.names
-names_stay old new past alive (inl falls) = clash (sym falls.answering ∙ past)
-names_stay old new past alive (inr (inl keeps)) = keeps.names
-names_stay old new past alive (inr (inr forgets)) = clash (sym forgets.state ∙ alive)
-
-pub not_closed : (state : State) → is_synchronized state ≡ true → is_closed state ≡ false
-not_closed In.Closed e = clash (sym e)
-not_closed other e = refl
-
-pub late_in : (state : State) → is_synchronized state ≡ true → is_early state ≡ false
-late_in In.Closed e = clash (sym e)
-late_in In.Listen e = clash (sym e)
-late_in In.SynSent e = clash (sym e)
-late_in In.SynReceived e = clash (sym e)
-late_in other e = refl
-
-not_answered : (state : State) → is_synchronized state ≡ true → is_answering state ≡ false
-not_answered In.SynReceived e = clash (sym e)
-not_answered other e = refl
-
--- and the side accepts what answers it
-reply_accepted :
-    (cx cy : ContextValue) (v w : TcpValue) (bytes : List ℕ) (o : OpenOffer) (reply : Reply) (m : AreMirrored v.block w.block)
-    → (offer_of cx v).socket.offered ≡ Some o → is_synchronized v.block.state ≡ true
-    → is_synchronized (settled true (offer_of cx v).socket).block.state ≡ true → (arrives cy w o.header o.segment bytes).answer ≡ Some reply
-    → accepts (settled true (offer_of cx v).socket).block reply.header reply.segment ≡ true
-reply_accepted cx cy v w bytes o reply m offered past still answer =
-    let new = (settled true (offer_of cx v).socket).block in
-    let it = offer_between_ends cx v o offered in
-    let same : m.own ≡ it.0 = one_pair m.own it.0 (sym m.named ∙ it.1) in
-    let g : GoesBetween m.own o = subst (λ (pair : EndpointPair). GoesBetween pair o) (sym same) it.2 in
-    let back : GoesBack o.header o.segment reply = answer_back cy w o.header o.segment bytes reply answer in
-    let named : new.names.pair ≡ Some m.own =
-    ap (λ (names : Names). names.pair)
-    (names_stay v.block new (not_answered v.block.state past) (not_closed new.state still) (sent_names cx v))
-    ∙ m.named in
-    accepted_by new m.own reply.header reply.segment still named
-    (between m.own reply.header reply.segment (sym g.source ∙ sym back.destination) (sym g.destination ∙ sym back.source)
-    (sym g.source_port ∙ sym back.destination_port) (sym g.destination_port ∙ sym back.source_port))
+pub use Rattle.tcp_progress.proofs.Accepts.{accepted_by, between, late_in, not_closed}
+use Rattle.tcp_progress.proofs.Accepts.{offer_accepted, reply_accepted}
 
 -- THE EVENTS
 
@@ -505,14 +406,14 @@ pub record HasTaken (p new : PairValue) (side : Side) : Type 0 where
   pub state : (socket_of new side).block.state ≡ (socket_of p side).block.state
 
 -- how much of what a side hasn't acknowledged before lies before what the other has then
-abbrev pub reach_in : PairValue → PairValue → Side → ℕ
-reach_in p new side = distance_of (socket_of p side).block.sender.una (socket_of new (other side)).block.receiver.next
+abbrev pub ahead_in : PairValue → PairValue → Side → ℕ
+ahead_in p new side = distance_of (socket_of p side).block.sender.una (socket_of new (other side)).block.receiver.next
 
 pub record HasTold (p new : PairValue) (side : Side) : Type 0 where
   pub all : (socket_of new side).block.sender.una ≡ (socket_of new (other side)).block.receiver.next
-  pub had : 1 ≤ reach_in p new side
-  pub more : reach_in p p side ≤ reach_in p new side
-  pub left : left_in new side + reach_in p new side ≡ left_in p side
+  pub had : 1 ≤ ahead_in p new side
+  pub more : ahead_in p p side ≤ ahead_in p new side
+  pub left : left_in new side + ahead_in p new side ≡ left_in p side
 
 abbrev pub HasLess : PairValue → PairValue → Side → Type 0
 HasLess p new side = HasTaken p new side ⊎ (HasTold p new side ⊎ (is_closed (socket_of new (other side)).block.state ≡ true))
@@ -530,8 +431,8 @@ pub record Moved (X Z : Type 0) (p : PairValue) (side : Side) (moment : ℤ) : T
   pub less : HasLess p (exchanged_in p side moment) side ⊎ Z
   pub heard : Heard p (exchanged_in p side moment) side
 
-pub may_reach_in : (p : PairValue) (side : Side) (moment : ℤ) (o : OpenOffer) → MayExchangeIn p side moment o → MayReachIn p side moment o
-may_reach_in p side moment o may =
+pub reach_in : (p : PairValue) (side : Side) (moment : ℤ) (o : OpenOffer) → MayExchangeIn p side moment o → MayReachIn p side moment o
+reach_in p side moment o may =
     reach_of (context_of p side moment) (context_at (other side) (at p.sides (other side))) (socket_of p side) (socket_of p (other side)) o may
 
 -- the offer of a side, come to the other
@@ -681,7 +582,7 @@ pub pair_moves :
     → MayExchangeIn p side moment o → MovesIn p side moment
 pair_moves p side moment o k step sent fits heard mirrored may =
     let it : Moved ⊥ (Unit {0}) p side moment =
-    pair_moved p side moment o k step sent fits heard mirrored (may_reach_in p side moment o may) (inl may.space) (λ _. tt) (λ _. inr tt) in
+    pair_moved p side moment o k step sent fits heard mirrored (reach_in p side moment o may) (inl may.space) (λ _. tt) (λ _. inr tt) in
     of_either it.moves
 
 -- IN STEP
@@ -828,7 +729,7 @@ before p side moment n h open_still rest (inl t) =
     t.some
 before p side moment n h open_still rest (inr (inl t)) =
     acknowledged_once n (had_in p side) (had_in (exchanged_in p side moment) side) (left_in p side) (left_in (exchanged_in p side moment) side)
-    (reach_in p (exchanged_in p side moment) side) rest t.left t.had t.more
+    (ahead_in p (exchanged_in p side moment) side) rest t.left t.had t.more
 before p side moment n h open_still rest (inr (inr closed)) = absurd (open_still closed)
 
 pub still_open : (state : State) → is_synchronized state ≡ true → is_closed state ≡ true → ⊥
@@ -837,12 +738,12 @@ still_open state past closed = absurd (let clashes : true ≡ false = sym closed
 fits : (p : PairValue) (side : Side) (x : ℤ × OpenOffer) (more : List (ℤ × OpenOffer)) → Exchanges p side (x ∷ more) →
     suc (length more) + had_in p side ≤ left_in p side + left_in p side
 fits p side x [] e =
-    let h = has_some p side x.0 x.1 e.0 e.1 (may_reach_in p side x.0 x.1 e.2) in last_one (had_in p side) (left_in p side) h.within h.some
+    let h = has_some p side x.0 x.1 e.0 e.1 (reach_in p side x.0 x.1 e.2) in last_one (had_in p side) (left_in p side) h.within h.some
 fits p side x (y ∷ more) e =
-    before p side x.0 (length more) (has_some p side x.0 x.1 e.0 e.1 (may_reach_in p side x.0 x.1 e.2))
+    before p side x.0 (length more) (has_some p side x.0 x.1 e.0 e.1 (reach_in p side x.0 x.1 e.2))
     (λ closed. still_open (socket_of (exchanged_in p side x.0) (other side)).block.state e.3.2.theirs.synchronized closed)
     (fits (exchanged_in p side x.0) side y more e.3)
-    (reached_less p side x.0 x.1 e.0 e.1 (may_reach_in p side x.0 x.1 e.2) e.2.space)
+    (reached_less p side x.0 x.1 e.0 e.1 (reach_in p side x.0 x.1 e.2) e.2.space)
 
 pub exchanges_few : (p : PairValue) (side : Side) (exchanges : List (ℤ × OpenOffer)) → Exchanges p side exchanges → length exchanges ≤ 2 * left_in p side
 exchanges_few p side [] e = omega arith

@@ -208,12 +208,12 @@ without Control.Fin e = absurd (omega (arith, e))
 without Control.Rst e = (refl, refl)
 
 -- so nothing is taken that is answered at once
-abbrev later : ContextValue → TcpHeader → TcpValue → Arrived
+abbrev pub later : ContextValue → TcpHeader → TcpValue → Arrived
 later cx header y = dropped (with_block y (ack_due y.block header 0 false cx.moment))
 
 module _ (cx : ContextValue) (x : TcpValue) (ip : IpRepr) (header : TcpHeader) (bare : control_len header.control ≡ 0) where
-  plain : with_content cx x ip header [] ≡ later cx header (with_block x (probe_kept x.block (queued_in x)))
-  plain =
+  pub content_later : with_content cx x ip header [] ≡ later cx header (with_block x (probe_kept x.block (queued_in x)))
+  content_later =
       ap (λ (t : Texted). finished cx x.block t ip header 0)
       (if_not (takes_text x.block.state && has_new_text x place rest) (with_bytes_at x place rest) (texted x 0 false None)
       (not_second (takes_text x.block.state) (has_new_text x place rest)
@@ -320,7 +320,7 @@ module _ (cx : ContextValue) (w : TcpValue) (ip : IpRepr) (header : TcpHeader) (
 
   by_told : (x : TcpValue) → Opens w (dropped x) → (duplicates : ℕ) → Opens w (with_content cx (told x header duplicates cx.moment) ip header [])
   by_told x o duplicates =
-      subst (Opens w) (sym (plain cx (told x header duplicates cx.moment) ip header p.none))
+      subst (Opens w) (sym (content_later cx (told x header duplicates cx.moment) ip header p.none))
       (cond_both (names_window x.block header) (windowed x.block header) x.block
       (λ (b : Block). Opens w (later cx header (kept_by (with_block x (told_by b)))))
       (λ _. record {

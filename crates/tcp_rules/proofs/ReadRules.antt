@@ -30,10 +30,11 @@ use Rattle.tcp_model.specs.Checks.Check.{Passes, Old, Drops, Draws, Resets}
 use Rattle.tcp_model.specs.Context.{ContextValue}
 use Rattle.tcp_model.specs.Offers.{offer_of}
 use Rattle.tcp_model.specs.Opening.{acks_syn, is_first_syn, opens, syn_answered, takes_answer}
+use Rattle.tcp_model.specs.Probing.{probe_kept}
 use Rattle.tcp_model.specs.Retries.{heard}
 use Rattle.tcp_model.specs.Segments.{mss_for, next_if_heard, no_ranges, reset_ack, reset_for, reset_segment, rst_reply, sack_segment, stamp_of, syn_options, has_length}
 use Rattle.tcp_model.specs.Segments.{syn_segment}
-use Rattle.tcp_model.specs.Text.{Texted, has_new_text, held_early, laid, taken_in_order, texted, with_bytes_at, with_text}
+use Rattle.tcp_model.specs.Text.{with_fin, Texted, has_new_text, held_early, laid, taken_in_order, texted, with_bytes_at, with_text}
 use Rattle.tcp_model.specs.Timeout.{timeout_restarted}
 use Rattle.tcp_model.specs.Timestamps.{stamp_taken}
 use Rattle.tcp_model.specs.Value.{TcpValue, Arrived, answered_with, dropped, ended, free_in, queued_in, received_of, unoffered, window_of, with_block}
@@ -253,7 +254,10 @@ module _ (cx : ContextValue) (ip : IpRepr) (header : TcpHeader) where
   answer_read v size fills (Some place) held = acked_read v (ranges_held v place) (ranges_closed v place (held place refl))
 
   content_read : (v : TcpValue) (bytes : List ℕ) → Answers (with_content cx v ip header bytes)
-  content_read v bytes = answer_read _ (length bytes) (with_text v header bytes).fills (with_text v header bytes).early (text_holds v header bytes)
+  content_read v bytes =
+      let t = with_text v header bytes in
+      let y = with_block t.socket (probe_kept (with_fin t.socket.block v.block header (length bytes) t.advance cx.moment) (queued_in t.socket)) in
+      answer_read y (length bytes) t.fills t.early (text_holds v header bytes)
 
   taken_read : (v : TcpValue) (bytes : List ℕ) (by : ℕ) → Answers (taken cx v ip header bytes by)
   taken_read v bytes by =

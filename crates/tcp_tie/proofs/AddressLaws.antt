@@ -25,12 +25,13 @@ use Rattle.tcp_model.specs.EndpointPair.{EndpointPair}
 use Rattle.tcp_model.specs.Endpoints.{is_connected_by}
 use Rattle.tcp_model.specs.Names.{accepts, accepts_in}
 use Rattle.tcp_model.specs.Opening.{acks_syn, is_first_syn, opens, syn_answered, takes_answer}
+use Rattle.tcp_model.specs.Probing.{probe_kept}
 use Rattle.tcp_model.specs.Retries.{heard}
 use Rattle.tcp_model.specs.Segments.{no_ranges, rst_reply, has_length}
 use Rattle.tcp_model.specs.State.{State}
 use Rattle.tcp_model.specs.State.TheVariants as In
 use Rattle.tcp_model.specs.States.{is_closed}
-use Rattle.tcp_model.specs.Text.{with_text}
+use Rattle.tcp_model.specs.Text.{with_fin, with_text}
 use Rattle.tcp_model.specs.Timeout.{timeout_restarted}
 use Rattle.tcp_model.specs.Timestamps.{stamp_taken}
 use Rattle.tcp_model.specs.Value.{TcpValue, Arrived, answered_with, dropped, ended, free_in, queued_in, unoffered, with_block}
@@ -134,7 +135,10 @@ module _ (host : HostContext) (key : List ℕ) (moment : ℤ) (random words : �
   answer_bare v ip header size fills (Some place) = acked_bare v ip header (ranges_held v place)
 
   content_bare : (v : TcpValue) (ip : IpRepr) (header : TcpHeader) (bytes : List ℕ) → with_content cx v ip header bytes ≡ with_content cy v (bare ip) header bytes
-  content_bare v ip header bytes = answer_bare _ ip header (length bytes) (with_text v header bytes).fills (with_text v header bytes).early
+  content_bare v ip header bytes =
+      let t = with_text v header bytes in
+      let y = with_block t.socket (probe_kept (with_fin t.socket.block v.block header (length bytes) t.advance moment) (queued_in t.socket)) in
+      answer_bare y ip header (length bytes) t.fills t.early
 
   taken_bare : (v : TcpValue) (ip : IpRepr) (header : TcpHeader) (bytes : List ℕ) (by : ℕ) → taken cx v ip header bytes by ≡ taken cy v (bare ip) header bytes by
   taken_bare v ip header bytes by =
@@ -242,7 +246,10 @@ module _ (host : HostContext) (key : List ℕ) (moment : ℤ) (random : ℕ) whe
   answer_none v ip header size fills (Some place) = refl
 
   content_none : (v : TcpValue) (ip : IpRepr) (header : TcpHeader) (bytes : List ℕ) → DrawsNone (with_content kx v ip header bytes)
-  content_none v ip header bytes = answer_none _ ip header (length bytes) (with_text v header bytes).fills (with_text v header bytes).early
+  content_none v ip header bytes =
+      let t = with_text v header bytes in
+      let y = with_block t.socket (probe_kept (with_fin t.socket.block v.block header (length bytes) t.advance moment) (queued_in t.socket)) in
+      answer_none y ip header (length bytes) t.fills t.early
 
   taken_none : (v : TcpValue) (ip : IpRepr) (header : TcpHeader) (bytes : List ℕ) (by : ℕ) → DrawsNone (taken kx v ip header bytes by)
   taken_none v ip header bytes by =
