@@ -350,8 +350,8 @@ module _ (p : PairValue) (side : Side) (r : IsReached p) (s : BothStay p) (m : M
   abbrev y : PairValue
   y = offered_in x side t
 
-  goes : GoesOut (socket_of x side) (offer_of (context_of x side t) (socket_of x side)).socket m.o
-  goes = goes_out_of (context_of x side t) (socket_of x side) m.o may.own.acknowledged may.offered may.kind
+  offer_out : GoesOut (socket_of x side) (offer_of (context_of x side t) (socket_of x side)).socket m.o
+  offer_out = goes_out_of (context_of x side t) (socket_of x side) m.o may.own.acknowledged may.offered may.kind
 
   same_own : socket_of y side ≡ settled true (offer_of (context_of x side t) (socket_of x side)).socket
   same_own = at x side t where
@@ -372,7 +372,7 @@ module _ (p : PairValue) (side : Side) (r : IsReached p) (s : BothStay p) (m : M
     left =
         ap left_of same_own
         ∙ left_same (socket_of x side) (settled true (offer_of (context_of x side t) (socket_of x side)).socket)
-        (record { state = goes.sent.state; syn_unacked = goes.sent.syn_unacked; queued = goes.sent_queued })
+        (record { state = offer_out.sent.state; syn_unacked = offer_out.sent.syn_unacked; queued = offer_out.sent_queued })
 
     whole : (new reach left : ℕ) → new + reach ≡ left → new ≡ 0 → reach ≡ left
     whole new reach left e f = omega arith
@@ -380,7 +380,7 @@ module _ (p : PairValue) (side : Side) (r : IsReached p) (s : BothStay p) (m : M
     had : had_in y side ≡ left_in y side
     had =
         ap (λ (n : SeqNumber). distance_of n (socket_of y (other side)).block.receiver.next)
-        (ap (λ (v : TcpValue). v.block.sender.una) same_own ∙ goes.sent.una)
+        (ap (λ (v : TcpValue). v.block.sender.una) same_own ∙ offer_out.sent.una)
         ∙ (ap (λ (v : TcpValue). distance_of (socket_of x side).block.sender.una v.block.receiver.next) (sym same_other)
         ∙ (whole (left_in q side) (ahead_in x q side) (left_in x side) h.left none ∙ sym left))
 
@@ -389,11 +389,11 @@ module _ (p : PairValue) (side : Side) (r : IsReached p) (s : BothStay p) (m : M
     at false e =
         taken_still y q side (answer_comes_calm x side t sx.late)
         (all_taken y side (offer_led x side t m.o rx may m.wakes) (stream_still x y side before_answer m.stream)
-        (ap (λ (v : TcpValue). is_synchronized v.block.state) same_own ∙ (ap is_synchronized goes.sent.state ∙ mine))
+        (ap (λ (v : TcpValue). is_synchronized v.block.state) same_own ∙ (ap is_synchronized offer_out.sent.state ∙ mine))
         (late_on (socket_of y (other side)).block.state
         ((of_side x y (other side) before_answer).early (late_in (socket_of x (other side)).block.state theirs))
         (ap (λ (v : TcpValue). is_closed v.block.state) (sym same_other) ∙ e))
-        (ap (λ (v : TcpValue). v.block.state) same_own ∙ (goes.sent.state ∙ last)) had)
+        (ap (λ (v : TcpValue). v.block.state) same_own ∙ (offer_out.sent.state ∙ last)) had)
 
   own_finished : IsFinished q side
   own_finished over = by moved.less where

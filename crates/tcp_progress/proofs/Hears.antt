@@ -238,12 +238,12 @@ module _ (p : PairValue) (moment : ℤ) (o : OpenOffer) (r : IsReached p) where
       near : FitsBuffer p.sides.a.socket p.sides.b.socket
       near = fits_in p A r may.own may.theirs may.room
 
+      mirrored : AreMirrored p.sides.a.socket.block p.sides.b.socket.block
+      mirrored = connected_mirrored p A r may.own.synchronized may.theirs.synchronized
+
       took_there : is_synchronized (came A p.sides.a p.sides.b moment mirrored o may).socket.block.state ≡ true →
           TookAfter A p.sides.a p.sides.b moment mirrored o may
       took_there = reached_then p A moment o r may
-
-      mirrored : AreMirrored p.sides.a.socket.block p.sides.b.socket.block
-      mirrored = connected_mirrored p A r may.own.synchronized may.theirs.synchronized
 
       step : IsInStep k.side k.partner
       step = in_step p.sides.a.socket p.sides.b.socket (past_at p A) (past_at p B) k may.own.synchronized stream
@@ -293,12 +293,12 @@ module _ (p : PairValue) (moment : ℤ) (o : OpenOffer) (r : IsReached p) where
       near : FitsBuffer p.sides.b.socket p.sides.a.socket
       near = fits_in p B r may.own may.theirs may.room
 
+      mirrored : AreMirrored p.sides.b.socket.block p.sides.a.socket.block
+      mirrored = connected_mirrored p B r may.own.synchronized may.theirs.synchronized
+
       took_there : is_synchronized (came B p.sides.b p.sides.a moment mirrored o may).socket.block.state ≡ true →
           TookAfter B p.sides.b p.sides.a moment mirrored o may
       took_there = reached_then p B moment o r may
-
-      mirrored : AreMirrored p.sides.b.socket.block p.sides.a.socket.block
-      mirrored = connected_mirrored p B r may.own.synchronized may.theirs.synchronized
 
       step : IsInStep k.side k.partner
       step = in_step p.sides.b.socket p.sides.a.socket (past_at p B) (past_at p A) k may.own.synchronized stream
