@@ -594,7 +594,13 @@ module _ (cx : ContextValue) (ip : IpRepr) (header : TcpHeader) (bytes : List �
   StaysBy a = (a.socket.block.reno.timed_out ≡ true) ⊎ (queued_in a.socket < queued_in v)
 
   stays_content : (x : TcpValue) → StaysBy (record { socket = x; answer = None; draws = false }) → Content cx ip header bytes StaysBy x
-  stays_content x s = record { plain = (λ _. s, s); fin = λ _ _. (λ _. s, s); ordered = λ _ _ _ _. (λ _. s, s); ordered_fin = λ _ _ _ _. (λ _. s, s); early = λ _ _ _ _. s }
+  stays_content x s = record {
+    plain = (λ _. s, s);
+    fin = λ _ _. (λ _. s, s);
+    ordered = λ _ _ _ _. (λ _. s, s);
+    ordered_fin = λ _ _ _ _. (λ _. s, s);
+    early = λ _ _ _ _. s;
+  }
 
   stays_drawing : (x : TcpValue) → StaysBy (record { socket = x; answer = None; draws = false }) → Drawing cx ip header bytes StaysBy x
   stays_drawing x s = record { answers = λ _. s; at_once = s; pauses = s }

@@ -114,8 +114,11 @@ module _ (edge named : ℕ) (cx : ContextValue) (ip : IpRepr) (header : TcpHeade
 
     moves_content : v.block.receiver.took_syn ≡ true → free_in x ≤ 2 ^ 30 → Content cx ip header bytes Arrives x
     moves_content took few = record {
-      plain = (λ _. keeps edge named v small (due cx ip header bytes Arrives (kept x x.block) false) same p, answers_of (kept x x.block) edge on p (still edge
-      named v small (kept x x.block) same));
+      plain = (
+        λ _. keeps edge named v small (due cx ip header bytes Arrives (kept x x.block) false) same p,
+        answers_of (kept x x.block) edge on p (still edge
+            named v small (kept x x.block) same),
+      );
       fin = λ _ takes.
           rises (kept x (fin_taken x.block cx.moment)) false 1 one (ap (λ (n : SeqNumber). behind_by n 1) same) (fin_not_over x.block.state takes)
           (lowered 1 (after_fin x.block.state) (fin_later x.block.state takes) (fin_no_listener x.block.state takes));
