@@ -20,8 +20,8 @@ use Rattle.tcp_control.specs.declared.state.State.{State}
 use Rattle.tcp_control.specs.declared.state.State.TheVariants as In
 use Rattle.tcp_model.specs.Acknowledged.{acknowledged, block_acknowledged, acks_fin, in_state, una_moved, state_after_ack, ended_if, names_window, windowed}
 use Rattle.tcp_model.specs.Acknowledged.{duplicates_after}
-use Rattle.tcp_model.specs.Answers.{may_draw, with_draw, drawn, acked, answer_for}
-use Rattle.tcp_model.specs.Arrival.{arrives, arrives_in, is_void_syn, outside, tells_news, has_length, comes_again, passed_outside, waiting_anew, inside, taken}
+use Rattle.tcp_model.specs.Answers.{may_draw, with_draw, drawn, acked, answer_for, answers_at_once, ack_due}
+use Rattle.tcp_model.specs.Arrival.{arrives, arrives_in, is_void_syn, outside, tells_news, comes_again, passed_outside, waiting_anew, inside, taken}
 use Rattle.tcp_model.specs.Arrival.{told, with_content, continued, finished, checked, reset_comes, echo_heard, takes_reset, challenges_reset, draws_first}
 use Rattle.tcp_model.specs.Calls.{listening, send_after, close_after}
 use Rattle.tcp_model.specs.Checks.{Check, acknowledgement_check, is_in_window, lies_before, falls_back, taken_down}
@@ -34,10 +34,11 @@ use Rattle.tcp_model.specs.Pauses.{Happening, Lasts, IsOneConnection, AreApart, 
 use Rattle.tcp_model.specs.Pauses.{IsAnsweredAtOnce}
 use Rattle.tcp_model.specs.Pauses.Happening.{Comes, Asked, Called}
 use Rattle.tcp_model.specs.Probing.{probe_moment, probe_started}
+use Rattle.tcp_model.specs.Probing.{probe_kept}
 use Rattle.tcp_model.specs.Retries.{heard, asked, gives_up, given_up}
 use Rattle.tcp_model.specs.Rules.{owes_syn, resends, resend_choice, has_text, text_choice, ack_moment, updates_window, keep_alive_moment, probe_choice}
 use Rattle.tcp_model.specs.Rules.{backed_off_now, time_wait_end}
-use Rattle.tcp_model.specs.Segments.{no_ranges, segment_len, rst_reply}
+use Rattle.tcp_model.specs.Segments.{no_ranges, segment_len, rst_reply, has_length}
 use Rattle.tcp_model.specs.Settled.{settled, sent_as, recorded, probed, end_of}
 use Rattle.tcp_model.specs.Text.{Texted, texted, with_text, with_text_at, with_bytes_at, taken_in_order, held_early, has_new_text, laid, takes_fin, with_fin}
 use Rattle.tcp_model.specs.Text.{fin_taken}
@@ -169,7 +170,9 @@ text_pause v place bytes =
 
 answer_pause : (cx : ContextValue) (v : TcpValue) (ip : IpRepr) (header : TcpHeader) (size : ℕ) (fills : Bool) (early : Option ℕ) →
     Keeps (pause_of v) (answer_for cx v ip header size fills early)
-answer_pause cx v ip header size fills None = refl
+answer_pause cx v ip header size fills None =
+    cond_both (answers_at_once cx v.block ip header size) (acked cx v ip header no_ranges)
+    (dropped (with_block v (ack_due v.block header size fills cx.moment))) (Keeps (pause_of v)) (λ _. refl) (λ _. refl)
 answer_pause cx v ip header size fills (Some place) = refl
 
 fin_pause : (b old : Block) (header : TcpHeader) (size advance : ℕ) (now : ℤ) → (with_fin b old header size advance now).timers.draws_from ≡ b.timers.draws_from
@@ -179,7 +182,9 @@ fin_pause b old header size advance now =
 finished_pause : (cx : ContextValue) (old : Block) (t : Texted) (ip : IpRepr) (header : TcpHeader) (size : ℕ) →
     Keeps (pause_of t.socket) (finished cx old t ip header size)
 finished_pause cx old t ip header size =
-    answer_pause cx _ ip header size t.fills t.early ∙ fin_pause t.socket.block old header size t.advance cx.moment
+    answer_pause cx (with_block t.socket (probe_kept (with_fin t.socket.block old header size t.advance cx.moment) (queued_in t.socket))) ip header size t.fills
+    t.early
+    ∙ fin_pause t.socket.block old header size t.advance cx.moment
 
 acknowledged_pause : (v : TcpValue) (by : ℕ) (now : ℤ) → pause_of (acknowledged v by now) ≡ pause_of v
 acknowledged_pause v by now = either (is_closed (state_after_ack v.block by (queued_in v))) where

@@ -3,6 +3,7 @@ use Rattle.std.specs.Prelude.{ℕ, ◌*◌, ◌^◌, ◌==◌, nat_le, nat_lt, n
 use Rattle.std.specs.Prelude.{Option, Some, None}
 use Rattle.held_bytes.specs.Held.{runs_of}
 use Rattle.ip_wire.specs.IpRepr.{IpRepr}
+use Rattle.ip_wire.specs.Seq.{distance_of}
 use Rattle.ip_wire.specs.SeqNumber.{SeqNumber}
 use Rattle.ip_wire.specs.TcpHeader.{TcpHeader}
 use Rattle.tcp_control.specs.Context.{ContextValue}
@@ -10,9 +11,10 @@ use Rattle.tcp_model.specs.declared.block.Block.{Block}
 use Rattle.tcp_model.specs.Blocks.{own_shift, edge_after}
 use Rattle.tcp_control.specs.Controls.{is_fin}
 use Rattle.tcp_control.specs.Moments.{is_due, later, earlier, next_draw_from}
-use Rattle.tcp_control.specs.Endpoints.{pair_in}
+use Rattle.tcp_control.specs.Endpoints.{addresses_in, pair_in}
 use Rattle.tcp_control.specs.Offsets.{behind_by}
-use Rattle.tcp_model.specs.Segments.{no_ranges, sack_segment, reply_to, hops_of}
+use Rattle.tcp_model.specs.Rules.{size_limit}
+use Rattle.tcp_model.specs.Segments.{no_ranges, has_length, sack_segment, reply_to, hops_of}
 use Rattle.tcp_model.specs.Value.{TcpValue, Arrived, with_block, dropped, answered_with, room_of, window_of}
 
 -- an acknowledgement of all that came went out, with this window field, for a receive buffer of this capacity: none is due any more
@@ -99,6 +101,23 @@ ranges_held v place =
     then map (numbers_of v.block.receiver.next) (run_at (runs_of v.received.map) place ∷ first_two (others place (runs_of v.received.map)))
     else no_ranges
 
+-- AT ONCE (3.8.6.3; RFC 5681, 4.2)
+
+-- how many positions came since the last acknowledgement went
+abbrev pub came_since : Block → ℕ
+came_since b = distance_of b.receiver.last_ack b.receiver.next
+
+-- as many as two full segments take
+abbrev pub came_twice : ContextValue → Block → IpRepr → Bool
+came_twice cx b ip = nat_le (2 * size_limit b (addresses_in ip) cx.ip_mtu) (came_since b)
+
+-- A segment with text or a FIN is answered at once where that much came: many may be taken before the socket is asked.
+abbrev pub answers_at_once : ContextValue → Block → IpRepr → TcpHeader → ℕ → Bool
+answers_at_once cx b ip header size = has_length header size && came_twice cx b ip
+
 abbrev pub answer_for : ContextValue → TcpValue → IpRepr → TcpHeader → ℕ → Bool → Option ℕ → Arrived
 answer_for cx v ip header size fills (Some place) = acked cx v ip header (ranges_held v place)
-answer_for cx v ip header size fills None = dropped (with_block v (ack_due v.block header size fills cx.moment))
+answer_for cx v ip header size fills None =
+    if answers_at_once cx v.block ip header size
+    then acked cx v ip header no_ranges
+    else dropped (with_block v (ack_due v.block header size fills cx.moment))

@@ -16,7 +16,7 @@ use Rattle.tcp_model.specs.Opening.{opens, takes_answer}
 use Rattle.tcp_model.specs.Probing.{probe_kept}
 use Rattle.tcp_model.specs.Retries.{heard}
 use Rattle.tcp_model.specs.Settled.{nxt_past_held}
-use Rattle.tcp_model.specs.Segments.{no_ranges, segment_len, rst_reply}
+use Rattle.tcp_model.specs.Segments.{no_ranges, has_length, rst_reply}
 use Rattle.tcp_control.specs.States.{is_closed, is_answering, is_time_wait}
 use Rattle.tcp_model.specs.Text.{Texted, with_text, with_fin}
 use Rattle.tcp_model.specs.Timeout.{timeout_restarted}
@@ -44,10 +44,6 @@ outside cx v ip header again =
 -- a segment whose text is old, past SYN-RECEIVED: its acknowledgement may be new
 abbrev pub tells_news : TcpValue → TcpHeader → ℕ → Bool
 tells_news v header size = not (is_answering v.block.state) && lies_before v.block (room_of v.received) header size
-
--- it has text or a FIN (a SYN is challenged before)
-abbrev pub has_length : TcpHeader → ℕ → Bool
-has_length header size = not (segment_len header size == 0)
 
 abbrev pub comes_again : TcpValue → TcpHeader → ℕ → Bool
 comes_again v header size = tells_news v header size && has_length header size

@@ -8,10 +8,11 @@ use Rattle.tcp_control.specs.States.{is_closed, is_listening}
 use Rattle.tcp_control.specs.declared.state.State.{State}
 use Rattle.tcp_control.specs.declared.state.State.TheVariants as In
 use Rattle.tcp_model.specs.Acknowledged.{block_acknowledged}
-use Rattle.tcp_model.specs.Arrival.{arrives, is_void_syn, tells_news, has_length, comes_again, takes_reset, challenges_reset, draws_first}
+use Rattle.tcp_model.specs.Arrival.{arrives, is_void_syn, tells_news, comes_again, takes_reset, challenges_reset, draws_first}
 use Rattle.tcp_model.specs.Checks.{Check, acknowledgement_check, is_in_window}
 use Rattle.tcp_model.specs.Checks.Check.{Passes, Old, Draws}
 use Rattle.tcp_model.specs.Offers.{offer_of}
+use Rattle.tcp_model.specs.Segments.{has_length}
 use Rattle.tcp_model.specs.Settled.{settled}
 use Rattle.tcp_model.specs.Value.{TcpValue, Arrived, queued_in, free_in}
 

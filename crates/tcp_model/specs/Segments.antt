@@ -1,5 +1,5 @@
 -- The segments that a socket makes (RFC 9293, 3.1, with options of RFC 7323 and RFC 2018).
-use Rattle.std.specs.Prelude.{ℕ, ◌+◌, ◌-◌, ◌^◌, ◌||◌, not, min, ℤ, if◌then◌else◌, List, [], ◌∷◌, Option, Some, None, is_some}
+use Rattle.std.specs.Prelude.{ℕ, ◌+◌, ◌-◌, ◌^◌, ◌==◌, ◌||◌, not, min, ℤ, Bool, if◌then◌else◌, List, [], ◌∷◌, Option, Some, None, is_some}
 use Rattle.ip_wire.specs.IpRepr.{IpRepr}
 use Rattle.ip_wire.specs.SeqNumber.{SeqNumber}
 use Rattle.ip_wire.specs.Control.{control_len}
@@ -100,6 +100,10 @@ keep_alive_segment b pair now window = segment b pair now window Control.None (b
 -- how many positions a segment takes (3.4)
 abbrev pub segment_len : TcpHeader → ℕ → ℕ
 segment_len header size = size + control_len header.control
+
+-- it has text or a FIN (a SYN is challenged before)
+abbrev pub has_length : TcpHeader → ℕ → Bool
+has_length header size = not (segment_len header size == 0)
 
 -- the packet that answers one that came, behind its header and between its endpoints, exchanged
 abbrev pub reply_to : IpRepr → ℕ → TcpHeader → Reply

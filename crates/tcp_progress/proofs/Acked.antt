@@ -13,9 +13,9 @@ use Rattle.tcp_rules.specs.States.{is_closed, is_answering, takes_text}
 use Rattle.tcp_rules.specs.State.{State}
 use Rattle.tcp_rules.specs.State.TheVariants as In
 use Rattle.tcp_model.specs.Acknowledged.{acknowledged, names_window, windowed, duplicates_after}
-use Rattle.tcp_model.specs.Answers.{drawn, may_draw, with_draw, acked, answer_for}
+use Rattle.tcp_model.specs.Answers.{ack_due, answers_at_once, drawn, may_draw, with_draw, acked, answer_for}
 use Rattle.tcp_model.specs.Arrival.{arrives, arrives_in, is_void_syn, received, reset_comes, challenges_syn, checked, inside, taken, told, with_content}
-use Rattle.tcp_model.specs.Arrival.{passed_outside, outside, tells_news, has_length, waiting_anew}
+use Rattle.tcp_model.specs.Arrival.{passed_outside, outside, tells_news, waiting_anew}
 use Rattle.tcp_model.specs.Checks.{Check, acknowledgement_check, opening_check, synchronized_check, is_in_window, lies_before}
 use Rattle.tcp_model.specs.Checks.Check.{Passes, Drops, Draws}
 use Rattle.tcp_model.specs.Probing.{probe_kept}
@@ -24,7 +24,7 @@ use Rattle.tcp_rules.specs.Held.{runs_of}
 use Rattle.tcp_model.specs.Value.{TcpValue, Arrived, with_block, dropped, unoffered, queued_in, free_in, room_of, received_of}
 use Rattle.tcp_model.specs.declared.block.Block.{Block}
 use Rattle.tcp_model.specs.declared.block.Sender.{Sender}
-use Rattle.tcp_model.specs.Segments.{no_ranges}
+use Rattle.tcp_model.specs.Segments.{no_ranges, has_length}
 use Rattle.tcp_tie.proofs.Tied.{if_so, if_not}
 use Rattle.tcp_rules.proofs.ArrivalCases.{acked_cases}
 use Rattle.tcp_rules.proofs.OrderSteps.{clash}
@@ -130,7 +130,10 @@ record IsTold (number : SeqNumber) (s : Sender) : Type 0 where
 
 module _ (cx : ContextValue) (ip : IpRepr) (header : TcpHeader) where
   answer_keeps : (v : TcpValue) (size : ℕ) (fills : Bool) (early : Option ℕ) → (answer_for cx v ip header size fills early).socket.block.sender ≡ v.block.sender
-  answer_keeps v size fills None = refl
+  answer_keeps v size fills None =
+      cond_both (answers_at_once cx v.block ip header size) (acked cx v ip header no_ranges)
+      (dropped (with_block v (ack_due v.block header size fills cx.moment))) (λ (a : Arrived). a.socket.block.sender ≡ v.block.sender)
+      (λ _. refl) (λ _. refl)
   answer_keeps v size fills (Some place) = refl
 
   fin_keeps : (b old : Block) (size advance : ℕ) (now : ℤ) → (with_fin b old header size advance now).sender ≡ b.sender

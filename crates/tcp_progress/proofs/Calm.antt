@@ -280,20 +280,29 @@ module _ (cx : ContextValue) (ip : IpRepr) (header : TcpHeader) (bytes : List �
 
   calm_content : (x : TcpValue) → Since x → Content cx ip header bytes Calmly x
   calm_content x c = record {
-    plain = c;
-    fin = λ _ _. then_calm (load_of v) (load_of x) _ c (fin_calm (load_of x));
-    ordered = λ map is _ _. then_calm (load_of v) (load_of x) _ c (in_order x map is);
-    ordered_fin = λ map is _ _.
-        let y : Load = record (load_of x) {
-          waiting = length (x.received.waiting ++ front map);
-          room = length (x.received.waiting ++ front map) + length (behind map);
-        } in
-        then_calm (load_of v) y _ (then_calm (load_of v) (load_of x) y c (in_order x map is)) (fin_calm y);
+    plain = (λ _. c, c);
+    fin = λ _ _. (λ _. then_calm (load_of v) (load_of x) _ c (fin_calm (load_of x)), then_calm (load_of v) (load_of x) _ c (fin_calm (load_of x)));
+    ordered = λ map is _ _. (λ _. then_calm (load_of v) (load_of x) _ c (in_order x map is), then_calm (load_of v) (load_of x) _ c (in_order x map is));
+    ordered_fin = λ map is _ _. (λ _. both_calm map is, both_calm map is);
     early = λ map _ is _.
         then_calm (load_of v) (load_of x) _ c
         (text_calm (load_of x) (length x.received.waiting) (length x.received.waiting + length map) (same_load _)
         (ap (λ (n : ℕ). length x.received.waiting + n) is));
   }
+    where
+      both_calm : (map : List (Option ℕ)) → length map ≡ free_in x → IsCalm (load_of v)
+          (record (load_of x) {
+            waiting = length (x.received.waiting ++ front map);
+            room = length (x.received.waiting ++ front map) + length (behind map);
+            state = after_fin x.block.state;
+            took_fin = true;
+          })
+      both_calm map is =
+          let y : Load = record (load_of x) {
+            waiting = length (x.received.waiting ++ front map);
+            room = length (x.received.waiting ++ front map) + length (behind map);
+          } in
+          then_calm (load_of v) y _ (then_calm (load_of v) (load_of x) y c (in_order x map is)) (fin_calm y)
 
   acked_calm : (by : ℕ) → Since (acked_open (timed cx.moment header (unoffered v) by) by cx.moment)
   acked_calm by = record {
@@ -360,10 +369,10 @@ module _ (cx : ContextValue) (ip : IpRepr) (header : TcpHeader) (bytes : List �
 
   bare_content : (x : TcpValue) → x.block.peer.timestamps ≡ false → Content cx ip header bytes Bare x
   bare_content x none = record {
-    plain = refl;
-    fin = λ _ _. refl;
-    ordered = λ _ _ _ _. refl;
-    ordered_fin = λ _ _ _ _. refl;
+    plain = (λ _. refl, no_stamp x.block cx.moment none);
+    fin = λ _ _. (λ _. refl, no_stamp x.block cx.moment none);
+    ordered = λ _ _ _ _. (λ _. refl, no_stamp x.block cx.moment none);
+    ordered_fin = λ _ _ _ _. (λ _. refl, no_stamp x.block cx.moment none);
     early = λ _ _ _ _. no_stamp x.block cx.moment none;
   }
 

@@ -93,10 +93,10 @@ module _ (cx : ContextValue) (ip : IpRepr) (header : TcpHeader) (bytes : List �
 
   open_content : (x : TcpValue) → is_closed x.block.state ≡ false → Content cx ip header bytes Closing x
   open_content x on = record {
-    plain = λ e. clash (sym e ∙ on);
-    fin = λ _ _ e. clash (sym e ∙ fin_alive x.block.state on);
-    ordered = λ _ _ _ _ e. clash (sym e ∙ on);
-    ordered_fin = λ _ _ _ _ e. clash (sym e ∙ fin_alive x.block.state on);
+    plain = (λ _. λ e. clash (sym e ∙ on), λ e. clash (sym e ∙ on));
+    fin = λ _ _. (λ _. λ e. clash (sym e ∙ fin_alive x.block.state on), λ e. clash (sym e ∙ fin_alive x.block.state on));
+    ordered = λ _ _ _ _. (λ _. λ e. clash (sym e ∙ on), λ e. clash (sym e ∙ on));
+    ordered_fin = λ _ _ _ _. (λ _. λ e. clash (sym e ∙ fin_alive x.block.state on), λ e. clash (sym e ∙ fin_alive x.block.state on));
     early = λ _ _ _ _ e. clash (sym e ∙ on);
   }
 
@@ -146,7 +146,7 @@ module _ (cx : ContextValue) (ip : IpRepr) (header : TcpHeader) (v : TcpValue) (
 
   still_content : (x : TcpValue) → x.block.receiver.next ≡ v.block.receiver.next → Content cx ip header [] Still x
   still_content x e = record {
-    plain = e;
+    plain = (λ _. e, e);
     fin = λ fin _. clash (sym fin ∙ no_fin);
     ordered = λ _ _ _ some. clash some;
     ordered_fin = λ _ _ fin _. clash (sym fin ∙ no_fin);

@@ -245,10 +245,16 @@ module _ (cx : ContextValue) (ip : IpRepr) (header : TcpHeader) (bytes : List �
 
   content : (x : TcpValue) → EarlyBy x → CountedBy x → Content cx ip header bytes After x
   content x early counts = record {
-    plain = (early, tt, counts);
-    fin = λ _ takes. (λ e. late_fin x.block.state takes e, tt, λ mine _. fin_counts x counts takes mine);
-    ordered = λ map _ _ _. (early, tt, counts);
-    ordered_fin = λ map _ _ takes. (λ e. late_fin x.block.state takes e, tt, λ mine _. fin_counts x counts takes mine);
+    plain = (λ _. (early, tt, counts), (early, refl, counts));
+    fin = λ _ takes. (
+      λ _. (λ e. late_fin x.block.state takes e, tt, λ mine _. fin_counts x counts takes mine),
+      (λ e. late_fin x.block.state takes e, refl, λ mine _. fin_counts x counts takes mine),
+    );
+    ordered = λ map _ _ _. (λ _. (early, tt, counts), (early, refl, counts));
+    ordered_fin = λ map _ _ takes. (
+      λ _. (λ e. late_fin x.block.state takes e, tt, λ mine _. fin_counts x counts takes mine),
+      (λ e. late_fin x.block.state takes e, refl, λ mine _. fin_counts x counts takes mine),
+    );
     early = λ map place _ _. (early, refl, counts);
   }
 

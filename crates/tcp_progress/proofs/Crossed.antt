@@ -22,12 +22,12 @@ use Rattle.tcp_model.specs.Timeout.{timeout_restarted}
 use Rattle.tcp_model.specs.Acknowledged.{acknowledged}
 use Rattle.tcp_model.specs.Answers.{acked, drawn, may_draw, with_draw}
 use Rattle.tcp_model.specs.Arrival.{arrives, arrives_in, checked, draws_first, inside, is_void_syn, outside, passed_outside, reset_comes, tells_news}
-use Rattle.tcp_model.specs.Arrival.{echo_heard, has_length, waiting_anew}
+use Rattle.tcp_model.specs.Arrival.{echo_heard, waiting_anew}
 use Rattle.tcp_model.specs.declared.block.Block.{Block}
 use Rattle.tcp_model.specs.Blocks.{top}
 use Rattle.tcp_model.specs.Checks.{Check, acknowledgement_check, opening_check, synchronized_check, is_in_window, lies_before}
 use Rattle.tcp_model.specs.Checks.Check.{Passes, Resets}
-use Rattle.tcp_model.specs.Segments.{no_ranges, rst_reply, segment_len}
+use Rattle.tcp_model.specs.Segments.{no_ranges, rst_reply, segment_len, has_length}
 use Rattle.tcp_model.specs.Timestamps.{believed, is_stale}
 use Rattle.tcp_model.specs.Value.{TcpValue, Arrived, answered_with, dropped, ended, free_in, queued_in, room_of, unoffered, with_block}
 use Rattle.tcp_tie.proofs.Tied.{if_so, if_not}

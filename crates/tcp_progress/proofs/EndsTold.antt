@@ -25,6 +25,7 @@ use Rattle.tcp_model.specs.Checks.{acknowledgement_check, opening_check, synchro
 use Rattle.tcp_model.specs.Checks.Check.{Passes, Old, Drops, Draws}
 use Rattle.tcp_model.specs.Offers.{offer_of}
 use Rattle.tcp_model.specs.Retries.{heard}
+use Rattle.tcp_model.specs.Settled.{settled}
 use Rattle.tcp_tie.specs.Pair.Safe.{taken_in as taken_list, written}
 use Rattle.tcp_tie.specs.Pair.Sides.{other}
 use Rattle.tcp_model.specs.Timestamps.{stamp_taken}
@@ -35,7 +36,7 @@ use Rattle.tcp_tie.specs.declared.pair.event.Side.TheVariants.{A, B}
 use Rattle.tcp_progress.specs.Arrivals.{is_synchronized}
 use Rattle.tcp_progress.specs.BothWays.{MayAsk, MayRounds, MayTurn, bound, is_over, roused_in, rounds_in, total_in, turn_in, waits_in, wake_in, woken_in}
 use Rattle.tcp_progress.specs.Exchange.{CanHear, IsOpen, MayReach, left_of, text_of}
-use Rattle.tcp_progress.specs.Pair.{AreMirrored, HasStream, MayReachIn, exchanged_in, left_in, next_sent, offered_in, socket_of}
+use Rattle.tcp_progress.specs.Pair.{AreMirrored, HasStream, MayReachIn, context_of, exchanged_in, left_in, next_sent, offered_in, socket_of}
 use Rattle.tcp_progress.specs.Reached.{IsReached}
 use Rattle.tcp_progress.specs.Sent.{is_early, taken_in}
 use Rattle.tcp_progress.specs.Talking.{AreTalking, MayTalk}
@@ -43,14 +44,16 @@ use Rattle.tcp_progress.proofs.Closes.{IsLast, fin_alive, is_last}
 use Rattle.tcp_progress.proofs.Hears.{come_own}
 use Rattle.tcp_progress.proofs.Kept.{reached_keeps}
 use Rattle.tcp_progress.proofs.Mirrored.{connected_mirrored}
-use Rattle.tcp_progress.proofs.Offered.{GoesOut}
-use Rattle.tcp_progress.proofs.Pair.{HasLess, Moved, had_in, late_in, not_closed, out, partner_after, reached_comes, reaches}
+use Rattle.tcp_progress.proofs.Led.{offer_led}
+use Rattle.tcp_progress.proofs.Left.{left_same}
+use Rattle.tcp_progress.proofs.Offered.{GoesOut, goes_out_of}
+use Rattle.tcp_progress.proofs.Pair.{HasLess, HasTold, Moved, had_in, late_in, not_closed, out, partner_after, ahead_in, reached_comes, reaches}
 use Rattle.tcp_progress.proofs.Positions.{IsPlaced, connected_in, next_small, placed, una_small}
 use Rattle.tcp_progress.proofs.Roused.{roused_calm, roused_reached}
 use Rattle.tcp_progress.proofs.SentPairs.{reached_took}
 use Rattle.tcp_progress.proofs.Talks.{BothStay, both_on, fin_taken, late_at, of, some_taken, stay, taken_least, talks, there}
-use Rattle.tcp_progress.proofs.Turns.{BothFine, Ended, IsTaken, ends, last_took, late_on, taken_still, turned}
-use Rattle.tcp_progress.proofs.Ways.{BothCalm, balance, exchanged}
+use Rattle.tcp_progress.proofs.Turns.{BothFine, Ended, IsTaken, ends, last_took, late_on, stream_still, taken_still, turned}
+use Rattle.tcp_progress.proofs.Ways.{BothCalm, answer_comes_calm, balance, exchanged, of_side, offer_comes_calm}
 
 -- AN ACKNOWLEDGEMENT THAT ENDS A CONNECTION
 
@@ -126,10 +129,10 @@ module _ (cx : ContextValue) (ip : IpRepr) (header : TcpHeader) (bytes : List �
 
   open_content : (x : TcpValue) → is_closed x.block.state ≡ false → Content cx ip header bytes Closing x
   open_content x on = record {
-    plain = λ e. clash (sym e ∙ on);
-    fin = λ _ _ e. clash (sym e ∙ fin_alive x.block.state on);
-    ordered = λ _ _ _ _ e. clash (sym e ∙ on);
-    ordered_fin = λ _ _ _ _ e. clash (sym e ∙ fin_alive x.block.state on);
+    plain = (λ _. λ e. clash (sym e ∙ on), λ e. clash (sym e ∙ on));
+    fin = λ _ _. (λ _. λ e. clash (sym e ∙ fin_alive x.block.state on), λ e. clash (sym e ∙ fin_alive x.block.state on));
+    ordered = λ _ _ _ _. (λ _. λ e. clash (sym e ∙ on), λ e. clash (sym e ∙ on));
+    ordered_fin = λ _ _ _ _. (λ _. λ e. clash (sym e ∙ fin_alive x.block.state on), λ e. clash (sym e ∙ fin_alive x.block.state on));
     early = λ _ _ _ _ e. clash (sym e ∙ on);
   }
 
@@ -340,22 +343,66 @@ module _ (p : PairValue) (side : Side) (r : IsReached p) (s : BothStay p) (m : M
         inl (hears_last x side rx may.own may.theirs (of x (other side) sx).stream (in_last_ack (socket_of x side).block.state e))
     by false e = inr e
 
-  moved : Moved Else x side t
+  moved : Moved Else Else x side t
   moved = reached_comes x side t m.o rx m.stream may hears
+
+  -- as the other took its offer, before the answer came
+  abbrev y : PairValue
+  y = offered_in x side t
+
+  offer_out : GoesOut (socket_of x side) (offer_of (context_of x side t) (socket_of x side)).socket m.o
+  offer_out = goes_out_of (context_of x side t) (socket_of x side) m.o may.own.acknowledged may.offered may.kind
+
+  same_own : socket_of y side ≡ settled true (offer_of (context_of x side t) (socket_of x side)).socket
+  same_own = at x side t where
+    at : (x : PairValue) (side : Side) (t : ℤ) → socket_of (offered_in x side t) side ≡ settled true (offer_of (context_of x side t) (socket_of x side)).socket
+    at x A t = refl
+    at x B t = refl
+
+  same_other : socket_of q (other side) ≡ socket_of y (other side)
+  same_other = come_own (next_sent y (other side) - next_sent x (other side)) (other side) (next_sent x (other side)) y
+
+  before_answer : BothCalm x y
+  before_answer = offer_comes_calm x side t sx.late
+
+  -- a side in LAST-ACK all of which is acknowledged: the other took all
+  told_taken : HasTold x q side → (socket_of x side).block.state ≡ In.LastAck → left_in q side ≡ 0 → IsTaken q side
+  told_taken h last none = at (is_closed (socket_of q (other side)).block.state) refl where
+    left : left_in y side ≡ left_in x side
+    left =
+        ap left_of same_own
+        ∙ left_same (socket_of x side) (settled true (offer_of (context_of x side t) (socket_of x side)).socket)
+        (record { state = offer_out.sent.state; syn_unacked = offer_out.sent.syn_unacked; queued = offer_out.sent_queued })
+
+    whole : (new reach left : ℕ) → new + reach ≡ left → new ≡ 0 → reach ≡ left
+    whole new reach left e f = omega arith
+
+    had : had_in y side ≡ left_in y side
+    had =
+        ap (λ (n : SeqNumber). distance_of n (socket_of y (other side)).block.receiver.next)
+        (ap (λ (v : TcpValue). v.block.sender.una) same_own ∙ offer_out.sent.una)
+        ∙ (ap (λ (v : TcpValue). distance_of (socket_of x side).block.sender.una v.block.receiver.next) (sym same_other)
+        ∙ (whole (left_in q side) (ahead_in x q side) (left_in x side) h.left none ∙ sym left))
+
+    at : (over : Bool) → is_closed (socket_of q (other side)).block.state ≡ over → IsTaken q side
+    at true e = taken_still x q side since (last_took x side rx theirs (moved.heard.closes_other e).0)
+    at false e =
+        taken_still y q side (answer_comes_calm x side t sx.late)
+        (all_taken y side (offer_led x side t m.o rx may m.wakes) (stream_still x y side before_answer m.stream)
+        (ap (λ (v : TcpValue). is_synchronized v.block.state) same_own ∙ (ap is_synchronized offer_out.sent.state ∙ mine))
+        (late_on (socket_of y (other side)).block.state
+        ((of_side x y (other side) before_answer).early (late_in (socket_of x (other side)).block.state theirs))
+        (ap (λ (v : TcpValue). is_closed v.block.state) (sym same_other) ∙ e))
+        (ap (λ (v : TcpValue). v.block.state) same_own ∙ (offer_out.sent.state ∙ last)) had)
 
   own_finished : IsFinished q side
   own_finished over = by moved.less where
     last : ((socket_of x side).block.state ≡ In.LastAck) × (left_in q side ≡ 0)
     last = moved.heard.closes over
 
-    whole : (new had left : ℕ) → new + had ≡ left → new ≡ 0 → had ≡ left
-    whole new had left e f = omega arith
-
     by : HasLess x q side ⊎ Else → IsTaken q side
     by (inl (inl h)) = clash (sym over ∙ (ap is_closed h.state ∙ not_closed (socket_of x side).block.state mine))
-    by (inl (inr (inl h))) =
-        taken_still x q side since
-        (all_taken x side rx m.stream mine theirs last.0 (whole (left_in q side) (had_in x side) (left_in x side) h.left last.1))
+    by (inl (inr (inl h))) = told_taken h last.0 last.1
     by (inl (inr (inr over_there))) =
         taken_still x q side since (last_took x side rx theirs (moved.heard.closes_other over_there).0)
     by (inr not_last) = clash (sym (ap is_in_last_ack last.0) ∙ not_last)

@@ -34,7 +34,9 @@ use Rattle.tcp_tie.proofs.ArrivalLaws.{keeps_arrival}
 use Rattle.tcp_tie.proofs.OfferLaws.{keeps_sent_offer}
 use Rattle.tcp_tie.proofs.PromiseLemmas.{keeps_turned, safe_sockets}
 use Rattle.tcp_model.specs.declared.block.Peer.{Peer}
+use Rattle.tcp_model.specs.declared.block.Sender.{Sender}
 use Rattle.tcp_rules.proofs.OrderSteps.{clash}
+use Rattle.tcp_rules.specs.Acks.{IsAcknowledged}
 use Rattle.tcp_progress.specs.Arrivals.{is_synchronized, Counts, IsNearWindow, IsNew, IsAgain, IsAnswered, EndsLastAck, Rises}
 use Rattle.tcp_progress.specs.Clocks.{comes_stale}
 use Rattle.tcp_progress.specs.Exchange.{CanHear, FitsBuffer, IsOpen, TookWhatWasSent, HasSpace, text_of, GoesFromUna, offer_comes}
@@ -44,7 +46,7 @@ use Rattle.tcp_progress.proofs.Acked.{IsHeard, none_unanswered, una_rises}
 use Rattle.tcp_progress.proofs.Left.{left_same, lowered}
 use Rattle.tcp_progress.proofs.Offered.{GoesOut, StaysBut, goes_out_of, goes_from_una}
 use Rattle.tcp_progress.proofs.Positions.{IsPlaced, placed, lies_within, whole_taken, una_small, next_small}
-use Rattle.tcp_progress.proofs.Taken.{next_rises, again_answered, again_lies_before, new_is_inside}
+use Rattle.tcp_progress.proofs.Taken.{Still, next_rises, again_answered, again_lies_before, new_is_inside, past_still}
 
 -- WHAT GOES FROM SND.UNA ON
 
@@ -518,6 +520,172 @@ module _ (cx cy cz : ContextValue) (v w : TcpValue) (p q : Past) (k : Keeps v p 
   was_new : IsNew w o.segment (length bytes) → WasNew
   unfolding is_taken
   was_new new = record { new = new; taken = is_taken (next_rises cy w o.header o.segment bytes v.block.receiver.next counts new); same = refl }
+
+  -- WHAT IS NEW, AND ACKNOWLEDGED AT ONCE
+
+  module _ (was : WasNew) (r : IsAcknowledged came) (took : TookWhatWasSent gone came.socket) where
+    -- the side, once the answer has come
+    abbrev told_side : TcpValue
+    told_side = (arrives cz gone r.reply.header r.reply.segment []).socket
+
+    abbrev next : SeqNumber
+    next = came.socket.block.receiver.next
+
+    -- so much lies between SND.UNA and all that the partner took
+    abbrev reach : ℕ
+    reach = distance_of v.block.sender.una next
+
+    kept_there : Keeps gone after came.socket (with_answer q came.answer)
+    kept_there = keeps_turned came.socket gone (with_answer q came.answer) after (taken was.taken.rises)
+
+    theirs_on : is_synchronized came.socket.block.state ≡ true
+    theirs_on = was.taken.rises.on
+
+    here : IsPlaced gone kept_there.side
+    here = placed gone kept_there.side kept_there.fits kept_there.holds.0.well_formed mine.synchronized
+
+    there_now : IsPlaced came.socket kept_there.partner
+    there_now = placed came.socket kept_there.partner kept_there.partner_fits kept_there.holds.1.well_formed theirs_on
+
+    fresh_answer : comes_stale gone.block r.reply.segment.options.timestamp ≡ false
+    fresh_answer =
+        ap (λ (peer : Peer). peer.timestamps && comes_older r.reply.segment.options.timestamp peer.recent) out.sent.peer
+        ∙ may.answer_fresh r.reply r.answer
+
+    answer_back : Counts gone.block r.reply.segment next
+    answer_back =
+        counts_for gone came.socket after (with_answer q came.answer) kept_there r.reply.segment mine theirs_on took (ap is_syn r.plain)
+        (ap is_rst r.plain) fresh_answer r.acknowledges
+
+    -- the partner knows of all that the side took
+    knows : TookWhatWasSent came.socket gone
+    knows =
+        subst (λ (n : SeqNumber). distance_of n gone.block.receiver.next ≤ came.socket.block.sender.top) (sym (heard_all ∙ sym out.sent.next))
+        (none gone.block.receiver.next.0 came.socket.block.sender.top (next_small gone kept_there.side here))
+      where
+        none : (n top : ℕ) → n < 2 ^ 32 → (n + (2 ^ 32 - n)) % 2 ^ 32 ≤ top
+        none n top e = omega arith
+
+    gone_una : distance_of gone.block.sender.una next ≡ reach
+    gone_una = ap (λ (n : SeqNumber). distance_of n next) out.sent.una
+
+    within_left : distance_of gone.block.sender.una next ≤ left_of gone
+    within_left = up_to (distance_of gone.block.sender.una next) gone.block.sender.top (left_of gone) took here.top
+
+    -- it is farther by what was taken
+    farther : reach ≡ far + was.taken.next.by
+    farther =
+        ap (λ (n : SeqNumber). distance_of v.block.sender.una n) was.taken.next.moved
+        ∙ by v.block.sender.una.0 w.block.receiver.next.0 was.taken.next.by (una_small v k.side a)
+        (next_small w k.partner (placed w k.partner k.partner_fits k.holds.1.well_formed may.theirs.synchronized))
+        (below far (left_of v) l.within l.few) was.taken.next.few
+      where
+        by : (una next more : ℕ) → una < 2 ^ 32 → next < 2 ^ 32 → (next + (2 ^ 32 - una)) % 2 ^ 32 < 2 ^ 30 → more < 2 ^ 30
+            → ((next + more) % 2 ^ 32 + (2 ^ 32 - una)) % 2 ^ 32 ≡ (next + (2 ^ 32 - una)) % 2 ^ 32 + more
+        by una next more a b c d = omega arith
+
+        below : (far all : ℕ) → far ≤ all → all < 2 ^ 30 → far < 2 ^ 30
+        below far all c d = omega arith
+
+    some_reach : 1 ≤ reach
+    some_reach = by reach far was.taken.next.by farther was.taken.next.some where
+      by : (reach far more : ℕ) → reach ≡ far + more → 1 ≤ more → 1 ≤ reach
+      by reach far more c d = omega arith
+
+    had_less : far ≤ reach
+    had_less = by reach far was.taken.next.by farther where
+      by : (reach far more : ℕ) → reach ≡ far + more → far ≤ reach
+      by reach far more c = omega arith
+
+    -- The side hears of it.
+    pub record IsHeardOf : Type 0 where
+      pub una : MovesOn v.block.sender.una told_side.block.sender.una
+      pub all : told_side.block.sender.una ≡ next
+      pub had : 1 ≤ reach
+      pub more : far ≤ reach
+      pub left : left_of told_side + reach ≡ left_of v
+      pub answered : IsHeard told_side.block.sender
+
+    heard_of : is_in_window gone.block (free_in gone) r.reply.segment 0 ≡ true → IsHeardOf
+    heard_of inside = record {
+      una =
+          moves_to v.block.sender.una told_side.block.sender.una next (left_of v) (una_small v k.side a)
+          answer_back.number_small
+          caught some_reach (subst (λ (n : ℕ). n ≤ left_of v) gone_una (subst (λ (n : ℕ). distance_of gone.block.sender.una next ≤ n) same_left within_left))
+          l.few;
+      all = same_number told_side.block.sender.una next caught;
+      had = some_reach;
+      more = had_less;
+      left =
+          ap (λ (n : ℕ). left_of told_side + n) (sym gone_una)
+          ∙ (lowered cz gone r.reply.header r.reply.segment [] next answer_back mine.acknowledged within_left (ap is_fin r.plain) inside
+          ∙ same_left);
+      answered = none_unanswered cz gone r.reply.header r.reply.segment [] next answer_back (inl inside);
+    }
+      where
+        caught : told_side.block.sender.una.0 ≡ next.0
+        caught = una_rises cz gone r.reply.header r.reply.segment [] next answer_back (inl inside)
+
+    -- It lies past the window of the side, which stays as its offer left it.
+    pub record IsUnheard : Type 0 where
+      pub una : told_side.block.sender.una ≡ v.block.sender.una
+      pub left : left_of told_side ≡ left_of v
+      pub state : told_side.block.state ≡ v.block.state
+
+    unheard : is_in_window gone.block (free_in gone) r.reply.segment 0 ≡ false → IsUnheard
+    unheard outside = record {
+      una = ap (λ (s : Sender). s.una) still.0 ∙ out.sent.una;
+      left =
+          left_same gone told_side
+          (record { state = still.1; syn_unacked = ap (λ (s : Sender). s.syn_unacked) still.0; queued = still.2 })
+          ∙ same_left;
+      state = still.1 ∙ out.sent.state;
+    }
+      where
+        ahead : distance_of gone.block.receiver.next (top came.socket.block) < 2 ^ 31
+        ahead =
+            past_next came.socket.block.sender.una.0 gone.block.receiver.next.0 came.socket.block.sender.top (una_small came.socket kept_there.partner there_now)
+            (next_small gone kept_there.side here) knows
+            (few came.socket.block.sender.top (unacked came.socket.block (queued_in came.socket)) there_now.top there_now.few)
+          where
+            few : (top all : ℕ) → top ≤ all → all < 2 ^ 30 → top < 2 ^ 30
+            few top all c d = omega arith
+
+        past : before_by gone.block.receiver.next r.reply.segment.seq_number ≡ 0
+        past =
+            ap (λ (n : SeqNumber). before_by gone.block.receiver.next n) r.bare
+            ∙ ap (λ (t : Bool). if t then 0 else 2 ^ 32 - distance_of gone.block.receiver.next (top came.socket.block))
+            (lt-ltb (distance_of gone.block.receiver.next (top came.socket.block)) (2 ^ 31) ahead)
+
+        still : Still gone (arrives cz gone r.reply.header r.reply.segment [])
+        still = past_still cz gone r.reply.header r.reply.segment [] next answer_back outside past
+
+    pub heard_or_not : IsHeardOf ⊎ IsUnheard
+    heard_or_not = by (is_in_window gone.block (free_in gone) r.reply.segment 0) refl where
+      by : (inside : Bool) → is_in_window gone.block (free_in gone) r.reply.segment 0 ≡ inside → IsHeardOf ⊎ IsUnheard
+      by true e = inl (heard_of e)
+      by false e = inr (unheard e)
+
+    -- it is heard where the partner has sent all that it had
+    pub heard_then : left_of came.socket ≡ 0 → IsHeardOf
+    heard_then none = heard_of inside where
+      least : (top all : ℕ) → top ≤ all → all ≡ 0 → top ≡ 0
+      least top all e f = omega arith
+
+      at_next : (n top : ℕ) → n < 2 ^ 32 → top ≡ 0 → ((n + top) % 2 ^ 32 + (2 ^ 32 - n)) % 2 ^ 32 ≡ 0
+      at_next n top e f = omega arith
+
+      space : HasSpace gone came.socket
+      space =
+          inl
+          (ap (λ (n : SeqNumber). distance_of gone.block.receiver.next (behind_by n came.socket.block.sender.top)) (heard_all ∙ sym out.sent.next)
+          ∙ at_next gone.block.receiver.next.0 came.socket.block.sender.top (next_small gone kept_there.side here)
+          (least came.socket.block.sender.top (left_of came.socket) there_now.top none))
+
+      inside : is_in_window gone.block (free_in gone) r.reply.segment 0 ≡ true
+      inside =
+          bare_lies_inside gone came.socket after (with_answer q came.answer) kept_there r.reply.segment mine.synchronized theirs_on knows space r.bare
+          (ap (λ (control : TcpControl). 0 + control_len control) r.plain)
 
   -- whether or not the side hears of it
   pub outcome : WasNew ⊎ (IsPassed w o.segment (length bytes) came ⊎ EndsLastAck w came)

@@ -116,15 +116,15 @@ module _ (cx : ContextValue) (ip : IpRepr) (header : TcpHeader) (bytes : List �
 
   content : (x : TcpValue) → x.received ≡ v.received → x.block.receiver.took_fin ≡ v.block.receiver.took_fin → Content cx ip header bytes FreesBy x
   content x same fin = record {
-    plain = inl free;
-    fin = λ _ _. inl free;
+    plain = (λ _. inl free, inl free);
+    fin = λ _ _. (λ _. inl free, inl free);
     ordered = λ map is _ _.
-        from (length (x.received.waiting ++ front map) + one_if x.block.receiver.took_fin) (length (behind map))
+        let it = from (length (x.received.waiting ++ front map) + one_if x.block.receiver.took_fin) (length (behind map))
         (ordered map x.received.waiting (free_in x) (one_if x.block.receiver.took_fin) (one_if x.block.receiver.took_fin) is
-        (itself (one_if x.block.receiver.took_fin)));
+        (itself (one_if x.block.receiver.took_fin))) in (λ _. it, it);
     ordered_fin = λ map is _ _.
-        from (length (x.received.waiting ++ front map) + 1) (length (behind map))
-        (ordered map x.received.waiting (free_in x) (one_if x.block.receiver.took_fin) 1 is (one_most x.block.receiver.took_fin));
+        let it = from (length (x.received.waiting ++ front map) + 1) (length (behind map))
+        (ordered map x.received.waiting (free_in x) (one_if x.block.receiver.took_fin) 1 is (one_most x.block.receiver.took_fin)) in (λ _. it, it);
     early = λ map place is _. inl (no_less (length map) (free_in v) (is ∙ ap length (ap (λ (r : Buffer). r.map) same)));
   }
     where

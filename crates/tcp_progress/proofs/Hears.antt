@@ -7,6 +7,8 @@ use Rattle.ip_wire.specs.SeqNumber.{SeqNumber}
 use Rattle.tcp_law.specs.Invariant.{IsInStep}
 use Rattle.tcp_tie.specs.Context.{ContextValue}
 use Rattle.tcp_tie.specs.Tie.{Past, Keeps}
+use Rattle.tcp_model.specs.Answers.{delayed}
+use Rattle.tcp_rules.specs.Acks.{IsAcknowledged, IsOwed}
 use Rattle.tcp_rules.specs.Offsets.{behind_by}
 use Rattle.tcp_rules.specs.OpenOffer.{OpenOffer}
 use Rattle.tcp_rules.specs.States.{is_closed}
@@ -29,11 +31,11 @@ use Rattle.tcp_progress.specs.Reached.{IsReached}
 use Rattle.tcp_progress.specs.Rounds.{comes, takes}
 use Rattle.tcp_progress.specs.Sent.{is_early}
 use Rattle.tcp_progress.proofs.Acked.{IsHeard}
-use Rattle.tcp_progress.proofs.Exchange.{IsPassed, WasNew, answered_none, heard_all, heard_none, outcome}
+use Rattle.tcp_progress.proofs.Exchange.{IsPassed, WasNew, answered_none, heard_all, heard_none, heard_then, outcome}
 use Rattle.tcp_progress.proofs.Kept.{reached_keeps}
 use Rattle.tcp_progress.proofs.Led.{leads_on}
 use Rattle.tcp_progress.proofs.Mirrored.{connected_mirrored}
-use Rattle.tcp_progress.proofs.Pair.{back, came, in_step, late_in, none_answered, one_answered, partner_after, reaches, side_after}
+use Rattle.tcp_progress.proofs.Pair.{TookAfter, back, came, in_step, late_in, none_answered, one_answered, partner_after, reached_then, reaches, side_after}
 use Rattle.tcp_progress.proofs.Positions.{next_small, placed}
 use Rattle.tcp_progress.proofs.SentPairs.{TookEach, reached_took}
 use Rattle.tcp_progress.proofs.Settles.{some_left}
@@ -66,6 +68,7 @@ module _ (side : Side) (s r : PairSide) (moment : ℤ) (m : AreMirrored s.socket
     (may : MayReach (context_at side (record s { moment = moment })) (context_at (other side) r) s.socket r.socket o) (p q : Past)
     (k : Keeps s.socket p r.socket q) (step : IsInStep k.side k.partner) (theirs_sent : TookWhatWasSent s.socket r.socket)
     (fits : FitsBuffer s.socket r.socket) (heard : TookWhatWasSent r.socket s.socket)
+    (took : is_synchronized (came side s r moment m o may).socket.block.state ≡ true → TookAfter side s r moment m o may)
     (empty : left_of (partner_after side s r moment).socket ≡ 0 → (partner_after side s r moment).socket.block.sender.top ≡ 0) where
   abbrev cx : ContextValue
   cx = context_at side (record s { moment = moment })
@@ -103,9 +106,9 @@ module _ (side : Side) (s r : PairSide) (moment : ℤ) (m : AreMirrored s.socket
       subst (λ (t : PairSide). IsHeard t.socket.block.sender) (sym (reaches side s r moment m o may))
       (heard_none cx cy cx s.socket r.socket p q k o step theirs_sent fits heard may)
 
-  silent : WasNew cx cy cx s.socket r.socket p q k o step theirs_sent fits heard may → Silent
-  silent w = record {
-    none = none_answered side s r moment m o may w.taken.rises.silent;
+  silent : WasNew cx cy cx s.socket r.socket p q k o step theirs_sent fits heard may → (came side s r moment m o may).answer ≡ None → Silent
+  silent w none = record {
+    none = none_answered side s r moment m o may none;
     by = w.taken.rises.by;
     some = w.taken.rises.some;
     few = subst (λ (n : ℕ). n < 2 ^ 30) (sym w.same) w.taken.next.few;
@@ -113,6 +116,30 @@ module _ (side : Side) (s r : PairSide) (moment : ℤ) (m : AreMirrored s.socket
     new = w.new;
     all = w.taken.rises.all;
   }
+
+  -- what was new is acknowledged at once: that is heard where the other has sent all that it had
+  at_once : WasNew cx cy cx s.socket r.socket p q k o step theirs_sent fits heard may → IsAcknowledged (came side s r moment m o may) → Hears
+  at_once w ack = at (left_of after.socket == 0) refl where
+    at : (none : Bool) → (left_of after.socket == 0) ≡ none → Hears
+    at false e = inr (inr (inr (some_left (left_of after.socket) e)))
+    at true e =
+        inr
+        (inl
+        (record {
+          one = one_answered side s r moment m o may ack.reply ack.answer;
+          answered =
+              subst (λ (v : TcpValue). IsHeard v.block.sender) (sym (back side s r moment m o may ack.reply ack.answer))
+              (heard_then cx cy cx s.socket r.socket p q k o step theirs_sent fits heard may w ack (took w.taken.rises.on)
+              (sym (ap (λ (t : PairSide). left_of t.socket) (reaches side s r moment m o may)) ∙ eqb-true (left_of after.socket) 0 e)).answered;
+        }))
+
+  of_new : WasNew cx cy cx s.socket r.socket p q k o step theirs_sent fits heard may → Hears
+  of_new w = by w.taken.rises.acknowledged where
+    by :
+        IsAcknowledged (came side s r moment m o may)
+        ⊎ IsOwed (came side s r moment m o may) (delayed cy.moment r.socket.block.settings.ack_delay) → Hears
+    by (inl ack) = at_once w ack
+    by (inr owed) = inl (silent w owed.silent)
 
   -- a side of which nothing is left answers where the other listens
   listens : IsPassed r.socket o.segment size (came side s r moment m o may) → left_of after.socket ≡ 0 → CanHear s.socket r.socket
@@ -151,7 +178,7 @@ module _ (side : Side) (s r : PairSide) (moment : ℤ) (m : AreMirrored s.socket
     by : WasNew cx cy cx s.socket r.socket p q k o step theirs_sent fits heard may
         ⊎ (IsPassed r.socket o.segment size (came side s r moment m o may) ⊎ EndsLastAck r.socket (came side s r moment m o may))
         → Hears
-    by (inl new) = inl (silent new)
+    by (inl new) = of_new new
     by (inr (inl passed)) = answers passed
     by (inr (inr ends)) =
         inr (inr (inl (ap (λ (t : PairSide). is_closed t.socket.block.state) (reaches side s r moment m o may) ∙ ends.closed)))
@@ -186,10 +213,10 @@ module _ (p : PairValue) (moment : ℤ) (o : OpenOffer) (r : IsReached p) where
       (left_in (exchanged_in p A moment) B ≡ 0 → (socket_of (exchanged_in p A moment) B).block.sender.top ≡ 0) → Heard p A moment o
   heard_a stream may empty =
       record {
-        outcome = by (hears A p.sides.a p.sides.b moment mirrored o may (past_at p A) (past_at p B) k step each.sent near each.heard empty_there);
+        outcome = by (hears A p.sides.a p.sides.b moment mirrored o may (past_at p A) (past_at p B) k step each.sent near each.heard took_there empty_there);
         theirs =
             subst (λ (v : TcpValue). IsHeard v.block.sender) (sym own)
-            (partner_heard A p.sides.a p.sides.b moment mirrored o may (past_at p A) (past_at p B) k step each.sent near each.heard empty_there);
+            (partner_heard A p.sides.a p.sides.b moment mirrored o may (past_at p A) (past_at p B) k step each.sent near each.heard took_there empty_there);
       }
     where
       -- so many segments of the other come
@@ -214,10 +241,14 @@ module _ (p : PairValue) (moment : ℤ) (o : OpenOffer) (r : IsReached p) where
       mirrored : AreMirrored p.sides.a.socket.block p.sides.b.socket.block
       mirrored = connected_mirrored p A r may.own.synchronized may.theirs.synchronized
 
+      took_there : is_synchronized (came A p.sides.a p.sides.b moment mirrored o may).socket.block.state ≡ true →
+          TookAfter A p.sides.a p.sides.b moment mirrored o may
+      took_there = reached_then p A moment o r may
+
       step : IsInStep k.side k.partner
       step = in_step p.sides.a.socket p.sides.b.socket (past_at p A) (past_at p B) k may.own.synchronized stream
 
-      by : Hears A p.sides.a p.sides.b moment mirrored o may (past_at p A) (past_at p B) k step each.sent near each.heard empty_there →
+      by : Hears A p.sides.a p.sides.b moment mirrored o may (past_at p A) (past_at p B) k step each.sent near each.heard took_there empty_there →
           Outcome p A moment o
       by (inl x) =
           inl
@@ -238,10 +269,10 @@ module _ (p : PairValue) (moment : ℤ) (o : OpenOffer) (r : IsReached p) where
       (left_in (exchanged_in p B moment) A ≡ 0 → (socket_of (exchanged_in p B moment) A).block.sender.top ≡ 0) → Heard p B moment o
   heard_b stream may empty =
       record {
-        outcome = by (hears B p.sides.b p.sides.a moment mirrored o may (past_at p B) (past_at p A) k step each.sent near each.heard empty_there);
+        outcome = by (hears B p.sides.b p.sides.a moment mirrored o may (past_at p B) (past_at p A) k step each.sent near each.heard took_there empty_there);
         theirs =
             subst (λ (v : TcpValue). IsHeard v.block.sender) (sym own)
-            (partner_heard B p.sides.b p.sides.a moment mirrored o may (past_at p B) (past_at p A) k step each.sent near each.heard empty_there);
+            (partner_heard B p.sides.b p.sides.a moment mirrored o may (past_at p B) (past_at p A) k step each.sent near each.heard took_there empty_there);
       }
     where
       after : ℕ → PairValue
@@ -265,10 +296,14 @@ module _ (p : PairValue) (moment : ℤ) (o : OpenOffer) (r : IsReached p) where
       mirrored : AreMirrored p.sides.b.socket.block p.sides.a.socket.block
       mirrored = connected_mirrored p B r may.own.synchronized may.theirs.synchronized
 
+      took_there : is_synchronized (came B p.sides.b p.sides.a moment mirrored o may).socket.block.state ≡ true →
+          TookAfter B p.sides.b p.sides.a moment mirrored o may
+      took_there = reached_then p B moment o r may
+
       step : IsInStep k.side k.partner
       step = in_step p.sides.b.socket p.sides.a.socket (past_at p B) (past_at p A) k may.own.synchronized stream
 
-      by : Hears B p.sides.b p.sides.a moment mirrored o may (past_at p B) (past_at p A) k step each.sent near each.heard empty_there →
+      by : Hears B p.sides.b p.sides.a moment mirrored o may (past_at p B) (past_at p A) k step each.sent near each.heard took_there empty_there →
           Outcome p B moment o
       by (inl x) =
           inl

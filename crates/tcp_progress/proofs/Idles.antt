@@ -74,7 +74,13 @@ module _ (cx : ContextValue) (ip : IpRepr) (header : TcpHeader) (bytes : List �
   drawing x h = record { answers = λ _. h; at_once = h; pauses = h }
 
   content : (x : TcpValue) → Since x.block → Content cx ip header bytes Stays x
-  content x h = record { plain = h; fin = λ _ _. h; ordered = λ _ _ _ _. h; ordered_fin = λ _ _ _ _. h; early = λ _ _ _ _. h }
+  content x h = record {
+    plain = (λ _. h, h);
+    fin = λ _ _. (λ _. h, h);
+    ordered = λ _ _ _ _. (λ _. h, h);
+    ordered_fin = λ _ _ _ _. (λ _. h, h);
+    early = λ _ _ _ _. h;
+  }
 
   -- nothing new is acknowledged
   none_by : (by : ℕ) → acknowledgement_check v.block header.ack_number ≡ Passes by → behind_by v.block.sender.una by ≡ v.block.sender.una → by ≡ 0

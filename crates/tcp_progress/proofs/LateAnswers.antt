@@ -127,7 +127,13 @@ module _ (cx : ContextValue) (ip : IpRepr) (header : TcpHeader) (bytes : List �
 
   still_content : (x : TcpValue) → x.block.sender.una ≡ v.block.sender.una → Content cx ip header bytes Still x
   still_content x e =
-      record { plain = e; fin = λ _ _. e; ordered = λ _ _ _ _. e; ordered_fin = λ _ _ _ _. e; early = λ _ _ _ _. e }
+      record {
+        plain = (λ _. e, e);
+        fin = λ _ _. (λ _. e, e);
+        ordered = λ _ _ _ _. (λ _. e, e);
+        ordered_fin = λ _ _ _ _. (λ _. e, e);
+        early = λ _ _ _ _. e;
+      }
 
   still_received : Received cx ip header bytes Still (unoffered v)
   still_received = record {

@@ -41,16 +41,30 @@ within k n less = ap (λ (t : Bool). if_so (not t) NoSegment) (lt-ltb k n less)
 pub one_more : (k n : ℕ) → n - k ≡ 1 → k < n
 one_more k n e = omega arith
 
+-- an offer that comes
+pub offer_led :
+    (p : PairValue) (side : Side) (moment : ℤ) (o : OpenOffer) → IsReached p → MayReachIn p side moment o → refusal p (Offer side moment true) ≡ None
+    → IsReached (offered_in p side moment)
+offer_led p A moment o r may asked =
+    let mirrored = connected_mirrored p A r may.own.synchronized may.theirs.synchronized in
+    by_two p A moment r asked
+    (within (next_sent p A) (length (asked_side A p.sides.a p.sides.b moment).sent)
+    (slice_get_within (asked_side A p.sides.a p.sides.b moment).sent (next_sent p A) (first A p.sides.a p.sides.b moment mirrored o may)
+    (sent A p.sides.a p.sides.b moment mirrored o may)))
+offer_led p B moment o r may asked =
+    let mirrored = connected_mirrored p B r may.own.synchronized may.theirs.synchronized in
+    by_two p B moment r asked
+    (within (next_sent p B) (length (asked_side B p.sides.b p.sides.a moment).sent)
+    (slice_get_within (asked_side B p.sides.b p.sides.a moment).sent (next_sent p B) (first B p.sides.b p.sides.a moment mirrored o may)
+    (sent B p.sides.b p.sides.a moment mirrored o may)))
+
 module _ (p : PairValue) (moment : ℤ) (o : OpenOffer) (r : IsReached p) where
   led_a : HasStream (past_at p A) → MayReachIn p A moment o → refusal p (Offer A moment true) ≡ None → IsReached (exchanged_in p A moment)
   led_a stream may asked =
       by_answer (offered_in p A moment) B (next_sent p B) (next_sent (offered_in p A moment) B - next_sent p B)
       (how_many A p.sides.a p.sides.b moment mirrored o may moves)
       (λ one. within (next_sent p B) (next_sent (offered_in p A moment) B) (one_more (next_sent p B) (next_sent (offered_in p A moment) B) one))
-      (by_two p A moment r asked
-      (within (next_sent p A) (length (asked_side A p.sides.a p.sides.b moment).sent)
-      (slice_get_within (asked_side A p.sides.a p.sides.b moment).sent (next_sent p A) (first A p.sides.a p.sides.b moment mirrored o may)
-      (sent A p.sides.a p.sides.b moment mirrored o may))))
+      (offer_led p A moment o r may asked)
     where
       k : Keeps p.sides.a.socket (past_at p A) p.sides.b.socket (past_at p B)
       k = reached_keeps p A r
@@ -61,21 +75,18 @@ module _ (p : PairValue) (moment : ℤ) (o : OpenOffer) (r : IsReached p) where
       mirrored : AreMirrored p.sides.a.socket.block p.sides.b.socket.block
       mirrored = connected_mirrored p A r may.own.synchronized may.theirs.synchronized
 
-      moves : Comes A p.sides.a p.sides.b moment mirrored o may (Unit {0})
+      moves : Comes A p.sides.a p.sides.b moment mirrored o may (Unit {0}) (Unit {0})
       moves =
           side_comes A p.sides.a p.sides.b moment mirrored o may (past_at p A) (past_at p B) k
           (in_step p.sides.a.socket p.sides.b.socket (past_at p A) (past_at p B) k may.own.synchronized stream) each.sent
-          (fits_in p A r may.own may.theirs may.room) each.heard (inr tt)
+          (fits_in p A r may.own may.theirs may.room) each.heard (inr tt) (λ _. inr tt)
 
   led_b : HasStream (past_at p B) → MayReachIn p B moment o → refusal p (Offer B moment true) ≡ None → IsReached (exchanged_in p B moment)
   led_b stream may asked =
       by_answer (offered_in p B moment) A (next_sent p A) (next_sent (offered_in p B moment) A - next_sent p A)
       (how_many B p.sides.b p.sides.a moment mirrored o may moves)
       (λ one. within (next_sent p A) (next_sent (offered_in p B moment) A) (one_more (next_sent p A) (next_sent (offered_in p B moment) A) one))
-      (by_two p B moment r asked
-      (within (next_sent p B) (length (asked_side B p.sides.b p.sides.a moment).sent)
-      (slice_get_within (asked_side B p.sides.b p.sides.a moment).sent (next_sent p B) (first B p.sides.b p.sides.a moment mirrored o may)
-      (sent B p.sides.b p.sides.a moment mirrored o may))))
+      (offer_led p B moment o r may asked)
     where
       k : Keeps p.sides.b.socket (past_at p B) p.sides.a.socket (past_at p A)
       k = reached_keeps p B r
@@ -86,11 +97,11 @@ module _ (p : PairValue) (moment : ℤ) (o : OpenOffer) (r : IsReached p) where
       mirrored : AreMirrored p.sides.b.socket.block p.sides.a.socket.block
       mirrored = connected_mirrored p B r may.own.synchronized may.theirs.synchronized
 
-      moves : Comes B p.sides.b p.sides.a moment mirrored o may (Unit {0})
+      moves : Comes B p.sides.b p.sides.a moment mirrored o may (Unit {0}) (Unit {0})
       moves =
           side_comes B p.sides.b p.sides.a moment mirrored o may (past_at p B) (past_at p A) k
           (in_step p.sides.b.socket p.sides.a.socket (past_at p B) (past_at p A) k may.own.synchronized stream) each.sent
-          (fits_in p B r may.own may.theirs may.room) each.heard (inr tt)
+          (fits_in p B r may.own may.theirs may.room) each.heard (inr tt) (λ _. inr tt)
 
 pub leads_on :
     (p : PairValue) (side : Side) (moment : ℤ) (o : OpenOffer) → IsReached p → HasStream (past_at p side) → MayReachIn p side moment o

@@ -15,7 +15,7 @@ use Rattle.tcp_rules.specs.State.{State}
 use Rattle.tcp_rules.specs.State.TheVariants as In
 use Rattle.tcp_rules.specs.States.{is_closed, takes_text, owes_fin, after_ack, after_ack_of_fin}
 use Rattle.tcp_model.specs.Acknowledged.{acks_fin, state_after_ack, freed_by, names_window, windowed, duplicates_after}
-use Rattle.tcp_model.specs.Answers.{answer_for, drawn}
+use Rattle.tcp_model.specs.Answers.{ack_due, acked, answer_for, answers_at_once, drawn}
 use Rattle.tcp_model.specs.Arrival.{arrives, checked, inside, taken, continued, told, with_content, passed_outside}
 use Rattle.tcp_model.specs.declared.block.Block.{Block}
 use Rattle.tcp_model.specs.Blocks.{one_if, unacked}
@@ -24,6 +24,7 @@ use Rattle.tcp_model.specs.Checks.Check.{Passes}
 use Rattle.tcp_model.specs.Probing.{probe_kept}
 use Rattle.tcp_model.specs.Text.{Texted, texted, with_text, with_bytes_at, taken_in_order, held_early}
 use Rattle.tcp_model.specs.Text.{laid, has_new_text, with_fin, takes_fin, is_at_fin, fin_taken}
+use Rattle.tcp_model.specs.Segments.{no_ranges}
 use Rattle.tcp_model.specs.Value.{TcpValue, Arrived, with_block, dropped, unoffered, queued_in, free_in, received_of}
 use Rattle.tcp_tie.proofs.Tied.{if_so, if_not}
 use Rattle.tcp_rules.proofs.ArrivalCases.{acked_cases, acked_open, acked_last, timed}
@@ -138,7 +139,10 @@ then_left u v w a b =
 
 module _ (cx : ContextValue) (ip : IpRepr) (header : TcpHeader) where
   answer_left : (v : TcpValue) (size : ℕ) (fills : Bool) (early : Option ℕ) → KeepsLeft v (answer_for cx v ip header size fills early).socket
-  answer_left v size fills None = record { state = refl; syn_unacked = refl; queued = refl }
+  answer_left v size fills None =
+      cond_both (answers_at_once cx v.block ip header size) (acked cx v ip header no_ranges)
+      (dropped (with_block v (ack_due v.block header size fills cx.moment))) (λ (a : Arrived). KeepsLeft v a.socket)
+      (λ _. record { state = refl; syn_unacked = refl; queued = refl }) (λ _. record { state = refl; syn_unacked = refl; queued = refl })
   answer_left v size fills (Some place) = record { state = refl; syn_unacked = refl; queued = refl }
 
   abbrev Left : TcpValue → Texted → Type 0

@@ -7,6 +7,7 @@ pub mod Again
 pub mod Offered
 pub mod Exchange
 pub mod Closes
+pub mod Accepts
 pub mod Pair
 pub mod Stampless
 pub mod Left
@@ -35,6 +36,7 @@ pub mod ShakenAcross
 pub mod Resumes
 pub mod Leads
 pub mod Resent
+pub mod Unanswered
 pub mod Wide
 pub mod Held
 pub mod OfItself

@@ -219,10 +219,10 @@ module _ (most n : ℕ) where
 
     stays_content : (x : TcpValue) → Since x → Content cx ip header bytes Stays x
     stays_content x s = record {
-      plain = inr s;
-      fin = λ _ _. inr s;
-      ordered = λ _ _ _ _. inr s;
-      ordered_fin = λ _ _ _ _. inr s;
+      plain = (λ _. inr s, inr s);
+      fin = λ _ _. (λ _. inr s, inr s);
+      ordered = λ _ _ _ _. (λ _. inr s, inr s);
+      ordered_fin = λ _ _ _ _. (λ _. inr s, inr s);
       early = λ _ _ _ _. inr s;
     }
 

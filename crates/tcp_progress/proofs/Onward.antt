@@ -314,14 +314,18 @@ module _ (cx : ContextValue) (ip : IpRepr) (header : TcpHeader) (bytes : List �
 
   on_content : (x : TcpValue) → Open x → Content cx ip header bytes On x
   on_content x o = record {
-    plain = o.on;
+    plain = (λ _. o.on, o.on);
     fin = λ _ takes.
-        then_on (stand_of v) (stand_of x) _ (λ _. o.alive) o.on (fin_on x (behind_by x.block.receiver.next 1) (o.unfinished takes));
-    ordered = λ map _ _ _. then_on (stand_of v) (stand_of x) _ (λ on. on) o.on (text_on x (front map) o.next);
+        let it = then_on (stand_of v) (stand_of x) _ (λ _. o.alive) o.on (fin_on x (behind_by x.block.receiver.next 1) (o.unfinished takes)) in
+        (λ _. it, it);
+    ordered = λ map _ _ _. let it = then_on (stand_of v) (stand_of x) _ (λ on. on) o.on (text_on x (front map) o.next) in (λ _. it, it);
     ordered_fin = λ map _ _ takes.
+        let it =
         then_on (stand_of v) (stand_of (taken_in_order x map).socket) _ (λ _. o.alive)
         (then_on (stand_of v) (stand_of x) _ (λ on. on) o.on (text_on x (front map) o.next))
-        (fin_on (taken_in_order x map).socket (behind_by (taken_in_order x map).socket.block.receiver.next 1) (o.unfinished takes));
+        (fin_on (taken_in_order x map).socket (behind_by (taken_in_order x map).socket.block.receiver.next 1) (o.unfinished takes))
+        in
+        (λ _. it, it);
     early = λ _ _ _ _. o.on;
   }
 

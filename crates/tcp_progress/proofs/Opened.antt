@@ -81,10 +81,10 @@ module _ (cx : ContextValue) (ip : IpRepr) (header : TcpHeader) (bytes : List �
 
   content_counts : (x : TcpValue) → Has x.block → Content cx ip header bytes CountsAfter x
   content_counts x has = record {
-    plain = λ _ acked. has acked;
-    fin = λ _ _ _ acked. has acked;
-    ordered = λ _ _ _ _ _ acked. has acked;
-    ordered_fin = λ _ _ _ _ _ acked. has acked;
+    plain = (λ _. λ _ acked. has acked, λ _ acked. has acked);
+    fin = λ _ _. (λ _. λ _ acked. has acked, λ _ acked. has acked);
+    ordered = λ _ _ _ _. (λ _. λ _ acked. has acked, λ _ acked. has acked);
+    ordered_fin = λ _ _ _ _. (λ _. λ _ acked. has acked, λ _ acked. has acked);
     early = λ _ _ _ _ _ acked. has acked;
   }
 

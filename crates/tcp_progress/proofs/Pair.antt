@@ -1,47 +1,36 @@
 -- An exchange of two sockets as events of a pair.
 use Rattle.std.proofs.Common.{◌≡◌, ◌⊎◌, inl, inr, ℕ, suc, ◌+◌, ◌-◌, ◌*◌, ◌%◌, ◌^◌, ◌<◌, ◌≤◌}
-use Rattle.std.proofs.Common.{◌==◌, ◌&&◌, ℤ, Bool, true, false, List, [], ◌∷◌, ◌++◌, length, Option, Some, None}
+use Rattle.std.proofs.Common.{ℤ, Bool, true, false, List, [], ◌∷◌, ◌++◌, length, Option, Some, None}
 use Rattle.std.proofs.Common.{slice_get, refl, sym, ap, ◌∙◌, subst, arith}
-use Rattle.std.proofs.lemmas.Bool.{eq-eqb}
-use Rattle.std.proofs.lemmas.Slice.Eq.{bytes_eq-Decides}
 use Rattle.net_base.specs.Ring.{Ring}
-use Rattle.ip_wire.specs.AddressTests.{is_same_address}
-use Rattle.ip_wire.specs.Ip.{source_of, destination_of}
-use Rattle.ip_wire.specs.IpAddress.{IpAddress}
-use Rattle.ip_wire.specs.IpAddress.TheVariants as Address
-use Rattle.ip_wire.specs.IpRepr.{IpRepr}
 use Rattle.ip_wire.specs.Seq.{distance_of}
 use Rattle.ip_wire.specs.SeqNumber.{SeqNumber}
 use Rattle.ip_wire.specs.TcpControl.TheVariants as Control
-use Rattle.ip_wire.specs.TcpHeader.{TcpHeader}
 use Rattle.tcp_law.specs.Invariant.{IsInStep, IsSilent}
 use Rattle.tcp_law.specs.Side.Phase.{Synchronized}
 use Rattle.tcp_tie.specs.Context.{ContextValue}
-use Rattle.tcp_tie.specs.Endpoints.{GoesBetween, GoesBack, IsLeftBy}
 use Rattle.tcp_tie.specs.Tie.{Past, Keeps, IsConnectedAs, core_of, unsent, phase_of}
+use Rattle.tcp_model.specs.Answers.{delayed}
+use Rattle.tcp_rules.specs.Acks.{IsAcknowledged, IsOwed}
 use Rattle.tcp_rules.specs.Controls.{is_fin, is_rst}
-use Rattle.tcp_rules.specs.EndpointPair.{EndpointPair}
-use Rattle.tcp_rules.specs.Endpoints.{local_of, remote_of, is_between, is_connected_by}
-use Rattle.tcp_rules.specs.Names.{Names}
 use Rattle.tcp_rules.specs.Offsets.{behind_by}
 use Rattle.tcp_rules.specs.OpenOffer.{OpenOffer}
 use Rattle.tcp_rules.specs.Reply.{Reply}
 use Rattle.tcp_rules.specs.State.{State}
 use Rattle.tcp_rules.specs.State.TheVariants as In
-use Rattle.tcp_rules.specs.States.{is_answering, is_closed}
+use Rattle.tcp_rules.specs.States.{is_closed}
 use Rattle.tcp_model.specs.Arrival.{arrives}
-use Rattle.tcp_model.specs.declared.block.Block.{Block}
-use Rattle.tcp_model.specs.Names.{accepts, accepts_in}
+use Rattle.tcp_model.specs.Names.{accepts}
 use Rattle.tcp_model.specs.Offers.{offer_of}
 use Rattle.tcp_model.specs.Settled.{settled}
+use Rattle.tcp_tie.specs.Pair.History.{pasts}
 use Rattle.tcp_tie.specs.Pair.Sides.{at, other}
 use Rattle.tcp_tie.specs.Pair.Steps.{offered_at, handed, taken_at}
 use Rattle.tcp_model.specs.Value.{TcpValue, Arrived}
-use Rattle.tcp_tie.specs.Pair.Values.{PairSide, PairValue, context_at, and_offer, and_reply, past_at}
+use Rattle.tcp_tie.specs.Pair.Values.{PairSide, PairValue, context_at, and_offer, and_reply, past_at, with_segments}
 use Rattle.tcp_tie.specs.declared.pair.event.SentSegment.{SentSegment}
 use Rattle.tcp_tie.specs.declared.pair.event.Side.{Side}
 use Rattle.tcp_tie.specs.declared.pair.event.Side.TheVariants.{A, B}
-use Rattle.tcp_tie.proofs.NameLaws.{offer_between_ends, sent_names, answer_back}
 use Rattle.tcp_tie.proofs.Tied.{fits_connected, if_so}
 use Rattle.tcp_rules.proofs.OrderSteps.{clash}
 use Rattle.tcp_progress.specs.Arrivals.{EndsLastAck, is_synchronized}
@@ -51,103 +40,18 @@ use Rattle.tcp_progress.specs.Pair.{context_of, exchanged_in, left_in, next_sent
 use Rattle.tcp_progress.specs.Positions.{LiesWithin}
 use Rattle.tcp_progress.specs.Rounds.{comes}
 use Rattle.tcp_progress.specs.Reached.{IsReached}
-use Rattle.tcp_progress.specs.Sent.{is_early}
+use Rattle.tcp_progress.specs.Sent.{SendsAll}
 use Rattle.tcp_progress.proofs.Closes.{bare_still, closes_last}
-use Rattle.tcp_progress.proofs.Exchange.{IsPassed, WasNew, heard_all, last_of, outcome, reach_of, told_of}
+use Rattle.tcp_progress.proofs.Exchange.{IsHeardOf, IsPassed, IsUnheard, WasNew, heard_all, heard_or_not, last_of, outcome, reach_of, told_of}
 use Rattle.tcp_progress.proofs.Kept.{reached_keeps}
 use Rattle.tcp_progress.proofs.Left.{left_same}
 use Rattle.tcp_progress.proofs.Mirrored.{connected_mirrored}
 use Rattle.tcp_progress.proofs.Offered.{GoesOut, goes_out_of, goes_from_una}
 use Rattle.tcp_progress.proofs.Positions.{connected_in, placed, lies_within, una_small, next_small}
 use Rattle.tcp_progress.proofs.WindowPairs.{fits_in}
-use Rattle.tcp_progress.proofs.SentPairs.{reached_took}
-
--- EACH ACCEPTS WHAT THE OTHER SENDS
-
-alike : (a b : IpAddress) → a ≡ b → is_same_address a b ≡ true
-alike a b e = subst (λ (b : IpAddress). is_same_address a b ≡ true) e (itself a) where
-  itself : (a : IpAddress) → is_same_address a a ≡ true
-  itself (Address.Ipv4 a) = (bytes_eq-Decides a.0 a.0).1 refl
-  itself (Address.Ipv6 a) = (bytes_eq-Decides a.0 a.0).1 refl
-
-all_four : (a b c d : Bool) → a ≡ true → b ≡ true → c ≡ true → d ≡ true → (a && (b && (c && d))) ≡ true
-all_four a b c d e f g h = ap (λ (t : Bool). t && (b && (c && d))) e ∙ (ap (λ (t : Bool). t && (c && d)) f ∙ (ap (λ (t : Bool). t && d) g ∙ h))
-
--- a segment between the endpoints of a connection
-pub between :
-    (pair : EndpointPair) (ip : IpRepr) (header : TcpHeader) → local_of pair.addresses ≡ destination_of ip → remote_of pair.addresses ≡ source_of ip
-    → pair.local_port ≡ header.dst_port → pair.remote_port ≡ header.src_port → is_between pair ip header ≡ true
-between pair ip header a b c d =
-    all_four (is_same_address (local_of pair.addresses) (destination_of ip)) (is_same_address (remote_of pair.addresses) (source_of ip))
-    (pair.local_port == header.dst_port) (pair.remote_port == header.src_port) (alike (local_of pair.addresses) (destination_of ip) a)
-    (alike (remote_of pair.addresses) (source_of ip) b) (eq-eqb pair.local_port header.dst_port c) (eq-eqb pair.remote_port header.src_port d)
-
-pub accepted_by :
-    (b : Block) (pair : EndpointPair) (ip : IpRepr) (header : TcpHeader) → is_synchronized b.state ≡ true → b.names.pair ≡ Some pair
-    → is_between pair ip header ≡ true → accepts b ip header ≡ true
-accepted_by b pair ip header past named fits =
-    in_state b.state past ∙ (ap (λ (names : Option EndpointPair). is_connected_by names ip header) named ∙ fits)
-  where
-    in_state : (state : State) → is_synchronized state ≡ true → accepts_in state b ip header ≡ is_connected_by b.names.pair ip header
-    in_state In.Closed e = clash (sym e)
-    in_state In.Listen e = clash (sym e)
-    in_state other e = refl
-
-one_pair : (x y : EndpointPair) → Some x ≡ Some y → x ≡ y
-one_pair x y e = cc
-
--- a mirrored partner accepts an offer
-offer_accepted :
-    (cx : ContextValue) (v : TcpValue) (b : Block) (o : OpenOffer) (m : AreMirrored v.block b) → is_synchronized b.state ≡ true
-    → (offer_of cx v).socket.offered ≡ Some o → accepts b o.header o.segment ≡ true
-offer_accepted cx v b o m past offered =
-    let it = offer_between_ends cx v o offered in
-    let same : m.own ≡ it.0 = one_pair m.own it.0 (sym m.named ∙ it.1) in
-    let g : GoesBetween m.own o = subst (λ (pair : EndpointPair). GoesBetween pair o) (sym same) it.2 in
-    accepted_by b m.theirs o.header o.segment past m.partner_named
-    (between m.theirs o.header o.segment (sym m.remote ∙ sym g.destination) (sym m.local ∙ sym g.source) (sym m.remote_port ∙ sym g.destination_port)
-    (sym m.local_port ∙ sym g.source_port))
-
--- the names stay with an offer, where the connection does
-names_stay : (old new : Block) → is_answering old.state ≡ false → is_closed new.state ≡ false → IsLeftBy old new → new.names ≡ old.names
-names_stay old new past alive (inl falls) = clash (sym falls.answering ∙ past)
-names_stay old new past alive (inr (inl keeps)) = keeps.names
-names_stay old new past alive (inr (inr forgets)) = clash (sym forgets.state ∙ alive)
-
-pub not_closed : (state : State) → is_synchronized state ≡ true → is_closed state ≡ false
-not_closed In.Closed e = clash (sym e)
-not_closed other e = refl
-
-pub late_in : (state : State) → is_synchronized state ≡ true → is_early state ≡ false
-late_in In.Closed e = clash (sym e)
-late_in In.Listen e = clash (sym e)
-late_in In.SynSent e = clash (sym e)
-late_in In.SynReceived e = clash (sym e)
-late_in other e = refl
-
-not_answered : (state : State) → is_synchronized state ≡ true → is_answering state ≡ false
-not_answered In.SynReceived e = clash (sym e)
-not_answered other e = refl
-
--- and the side accepts what answers it
-reply_accepted :
-    (cx cy : ContextValue) (v w : TcpValue) (bytes : List ℕ) (o : OpenOffer) (reply : Reply) (m : AreMirrored v.block w.block)
-    → (offer_of cx v).socket.offered ≡ Some o → is_synchronized v.block.state ≡ true
-    → is_synchronized (settled true (offer_of cx v).socket).block.state ≡ true → (arrives cy w o.header o.segment bytes).answer ≡ Some reply
-    → accepts (settled true (offer_of cx v).socket).block reply.header reply.segment ≡ true
-reply_accepted cx cy v w bytes o reply m offered past still answer =
-    let new = (settled true (offer_of cx v).socket).block in
-    let it = offer_between_ends cx v o offered in
-    let same : m.own ≡ it.0 = one_pair m.own it.0 (sym m.named ∙ it.1) in
-    let g : GoesBetween m.own o = subst (λ (pair : EndpointPair). GoesBetween pair o) (sym same) it.2 in
-    let back : GoesBack o.header o.segment reply = answer_back cy w o.header o.segment bytes reply answer in
-    let named : new.names.pair ≡ Some m.own =
-    ap (λ (names : Names). names.pair)
-    (names_stay v.block new (not_answered v.block.state past) (not_closed new.state still) (sent_names cx v))
-    ∙ m.named in
-    accepted_by new m.own reply.header reply.segment still named
-    (between m.own reply.header reply.segment (sym g.source ∙ sym back.destination) (sym g.destination ∙ sym back.source)
-    (sym g.source_port ∙ sym back.destination_port) (sym g.destination_port ∙ sym back.source_port))
+use Rattle.tcp_progress.proofs.SentPairs.{offered_took, reached_sends, reached_took}
+pub use Rattle.tcp_progress.proofs.Accepts.{accepted_by, between, late_in, not_closed}
+use Rattle.tcp_progress.proofs.Accepts.{offer_accepted, reply_accepted}
 
 -- THE EVENTS
 
@@ -259,13 +163,17 @@ module _ (side : Side) (s r : PairSide) (moment : ℤ) where
       pub state : asked_side.socket.block.state ≡ s.socket.block.state
       pub leaves : Leaves asked_side.socket
 
+    -- the side hears of all that the other took
     pub record Tells : Type 0 where
       pub one : length partner_after.sent - length r.sent ≡ 1
       pub una : MovesOn s.socket.block.sender.una side_after.socket.block.sender.una
       pub all : side_after.socket.block.sender.una ≡ partner_after.socket.block.receiver.next
-      pub had : 1 ≤ distance_of s.socket.block.sender.una r.socket.block.receiver.next
+      pub had : 1 ≤ distance_of s.socket.block.sender.una partner_after.socket.block.receiver.next
+      pub more :
+          distance_of s.socket.block.sender.una r.socket.block.receiver.next
+          ≤ distance_of s.socket.block.sender.una partner_after.socket.block.receiver.next
       pub left :
-          left_of side_after.socket + distance_of s.socket.block.sender.una r.socket.block.receiver.next ≡ left_of s.socket
+          left_of side_after.socket + distance_of s.socket.block.sender.una partner_after.socket.block.receiver.next ≡ left_of s.socket
       pub leaves : Leaves side_after.socket
 
     pub record Ends : Type 0 where
@@ -279,14 +187,43 @@ module _ (side : Side) (s r : PairSide) (moment : ℤ) where
       pub one : length partner_after.sent - length r.sent ≡ 1
       pub leaves : Leaves side_after.socket
 
-    abbrev pub Comes : Type 0 → Type 0
-    Comes X = Takes ⊎ (Tells ⊎ (Ends ⊎ (Passes × X)))
+    -- the other took more and acknowledged it at once, which lies past the window of the side
+    pub record TakesUnheard : Type 0 where
+      pub one : length partner_after.sent - length r.sent ≡ 1
+      pub next : MovesOn r.socket.block.receiver.next partner_after.socket.block.receiver.next
+      pub una : side_after.socket.block.sender.una ≡ s.socket.block.sender.una
+      pub left : left_of side_after.socket ≡ left_of s.socket
+      pub state : side_after.socket.block.state ≡ s.socket.block.state
+      pub leaves : Leaves side_after.socket
 
-    pub how_many : {X : Type 0} → Comes X → (length partner_after.sent - length r.sent ≡ 0) ⊎ (length partner_after.sent - length r.sent ≡ 1)
+    -- and whether the side hears of it isn't known
+    pub record TakesAtOnce : Type 0 where
+      pub one : length partner_after.sent - length r.sent ≡ 1
+      pub next : MovesOn r.socket.block.receiver.next partner_after.socket.block.receiver.next
+      pub leaves : Leaves side_after.socket
+
+    abbrev pub Comes : Type 0 → Type 0 → Type 0
+    Comes X Z = Takes ⊎ (Tells ⊎ (Ends ⊎ ((Passes × X) ⊎ (TakesUnheard ⊎ (TakesAtOnce × Z)))))
+
+    pub how_many : {X Z : Type 0} → Comes X Z → (length partner_after.sent - length r.sent ≡ 0) ⊎ (length partner_after.sent - length r.sent ≡ 1)
     how_many (inl x) = inl x.none
     how_many (inr (inl x)) = inr x.one
     how_many (inr (inr (inl x))) = inl x.none
-    how_many (inr (inr (inr x))) = inr x.0.one
+    how_many (inr (inr (inr (inl x)))) = inr x.0.one
+    how_many (inr (inr (inr (inr (inl x))))) = inr x.one
+    how_many (inr (inr (inr (inr (inr x))))) = inr x.0.one
+
+    -- what the other has taken then lies within what the side has sent
+    abbrev pub TookAfter : Type 0
+    TookAfter = TookWhatWasSent asked_side.socket came.socket
+
+    pub took_after :
+        (p q : Past) (k : Keeps s.socket (with_segments p s.sent) r.socket (with_segments q r.sent))
+        → SendsAll s.socket (with_segments p s.sent) r.socket (with_segments q r.sent) → is_synchronized came.socket.block.state ≡ true → TookAfter
+    took_after p q k sends on =
+        subst (λ (t : PairSide). TookWhatWasSent asked_side.socket t.socket) reaches
+        (offered_took side s r moment p q k sends still (out.sent.syn_unacked ∙ may.own.acknowledged)
+        (ap (λ (t : PairSide). is_synchronized t.socket.block.state) reaches ∙ on))
 
     module _ (p q : Past) (k : Keeps s.socket p r.socket q) (step : IsInStep k.side k.partner) (theirs_sent : TookWhatWasSent s.socket r.socket)
         (fits : FitsBuffer s.socket r.socket) (heard : TookWhatWasSent r.socket s.socket) where
@@ -331,10 +268,13 @@ module _ (side : Side) (s r : PairSide) (moment : ℤ) where
         closes_other = ends_there;
       }
 
-      of_taken : IsTaken cy r.socket o.segment size came → Takes
-      of_taken taken = record {
-        none = none_answered taken.rises.silent;
-        next = subst (λ (t : PairSide). MovesOn r.socket.block.receiver.next t.socket.block.receiver.next) (sym reaches) taken.next;
+      moves_there : IsTaken cy r.socket o.segment size came → MovesOn r.socket.block.receiver.next partner_after.socket.block.receiver.next
+      moves_there taken = subst (λ (t : PairSide). MovesOn r.socket.block.receiver.next t.socket.block.receiver.next) (sym reaches) taken.next
+
+      of_taken : IsTaken cy r.socket o.segment size came → came.answer ≡ None → Takes
+      of_taken taken silent = record {
+        none = none_answered silent;
+        next = moves_there taken;
         una = out.sent.una;
         left =
             left_same s.socket asked_side.socket
@@ -343,19 +283,86 @@ module _ (side : Side) (s r : PairSide) (moment : ℤ) where
         leaves = leaves_asked;
       }
 
+      -- what was new is acknowledged at once
+      module _ (was : WasNew cx cy cx s.socket r.socket p q k o step theirs_sent fits heard may) (ack : IsAcknowledged came) where
+        leaves_at_once : Leaves side_after.socket
+        leaves_at_once = leaves_after ack.reply ack.answer ack.plain
+
+        of_heard : (took : TookAfter) → IsHeardOf cx cy cx s.socket r.socket p q k o step theirs_sent fits heard may was ack took → Tells
+        of_heard took h = record {
+          one = one_answered ack.reply ack.answer;
+          una = subst (λ (v : TcpValue). MovesOn s.socket.block.sender.una v.block.sender.una) (sym (back ack.reply ack.answer)) h.una;
+          all =
+              ap (λ (v : TcpValue). v.block.sender.una) (back ack.reply ack.answer)
+              ∙ (h.all ∙ sym (ap (λ (t : PairSide). t.socket.block.receiver.next) reaches));
+          had = subst (λ (t : PairSide). 1 ≤ distance_of s.socket.block.sender.una t.socket.block.receiver.next) (sym reaches) h.had;
+          more =
+              subst
+              (λ (t : PairSide). distance_of s.socket.block.sender.una r.socket.block.receiver.next
+              ≤ distance_of s.socket.block.sender.una t.socket.block.receiver.next) (sym reaches) h.more;
+          left =
+              subst
+              (λ (t : PairSide). left_of side_after.socket + distance_of s.socket.block.sender.una t.socket.block.receiver.next ≡ left_of s.socket)
+              (sym reaches)
+              (ap (λ (v : TcpValue). left_of v + distance_of s.socket.block.sender.una came.socket.block.receiver.next) (back ack.reply ack.answer)
+              ∙ h.left);
+          leaves = leaves_at_once;
+        }
+
+        of_unheard : (took : TookAfter) → IsUnheard cx cy cx s.socket r.socket p q k o step theirs_sent fits heard may was ack took → TakesUnheard
+        of_unheard took h = record {
+          one = one_answered ack.reply ack.answer;
+          next = moves_there was.taken;
+          una = ap (λ (v : TcpValue). v.block.sender.una) (back ack.reply ack.answer) ∙ h.una;
+          left = ap left_of (back ack.reply ack.answer) ∙ h.left;
+          state = ap (λ (v : TcpValue). v.block.state) (back ack.reply ack.answer) ∙ h.state;
+          leaves = leaves_at_once;
+        }
+
+        of_at_once : {X Z : Type 0} → TookAfter ⊎ Z → Comes X Z
+        of_at_once {X} {Z} (inl took) = by (heard_or_not cx cy cx s.socket r.socket p q k o step theirs_sent fits heard may was ack took) where
+          by :
+              IsHeardOf cx cy cx s.socket r.socket p q k o step theirs_sent fits heard may was ack took
+              ⊎ IsUnheard cx cy cx s.socket r.socket p q k o step theirs_sent fits heard may was ack took
+              → Comes X Z
+          by (inl h) = inr (inl (of_heard took h))
+          by (inr h) = inr (inr (inr (inr (inl (of_unheard took h)))))
+        of_at_once (inr z) =
+            inr
+            (inr
+            (inr
+            (inr (inr (record { one = one_answered ack.reply ack.answer; next = moves_there was.taken; leaves = leaves_at_once }, z)))))
+
+      of_new :
+          {X Z : Type 0} → (is_synchronized came.socket.block.state ≡ true → TookAfter ⊎ Z)
+          → WasNew cx cy cx s.socket r.socket p q k o step theirs_sent fits heard may → Comes X Z
+      of_new {X} {Z} took was = by was.taken.rises.acknowledged where
+        by : IsAcknowledged came ⊎ IsOwed came (delayed cy.moment r.socket.block.settings.ack_delay) → Comes X Z
+        by (inl ack) = of_at_once was ack (took was.taken.rises.on)
+        by (inr owed) = inl (of_taken was.taken owed.silent)
+
       of_told : IsPassed r.socket o.segment size came → IsTold cx cx s.socket r.socket came → Tells
       of_told passed told = record {
         one = one_answered told.reply told.answer;
         una = subst (λ (v : TcpValue). MovesOn s.socket.block.sender.una v.block.sender.una) (sym (back told.reply told.answer)) told.una;
-        all =
-            ap (λ (v : TcpValue). v.block.sender.una) (back told.reply told.answer)
-            ∙ (told.all ∙ (sym told.still ∙ ap (λ (t : PairSide). t.socket.block.receiver.next) (sym reaches)));
-        had = told.had;
+        all = ap (λ (v : TcpValue). v.block.sender.una) (back told.reply told.answer) ∙ (told.all ∙ sym there);
+        had = subst (λ (n : SeqNumber). 1 ≤ distance_of s.socket.block.sender.una n) (sym there) told.had;
+        more =
+            subst
+            (λ (n : SeqNumber). distance_of s.socket.block.sender.una r.socket.block.receiver.next ≤ distance_of s.socket.block.sender.una n)
+            (sym there) (itself (distance_of s.socket.block.sender.una r.socket.block.receiver.next));
         left =
-            ap (λ (v : TcpValue). left_of v + distance_of s.socket.block.sender.una r.socket.block.receiver.next) (back told.reply told.answer)
-            ∙ told.left;
+            subst (λ (n : SeqNumber). left_of side_after.socket + distance_of s.socket.block.sender.una n ≡ left_of s.socket) (sym there)
+            (ap (λ (v : TcpValue). left_of v + distance_of s.socket.block.sender.una r.socket.block.receiver.next) (back told.reply told.answer)
+            ∙ told.left);
         leaves = leaves_after passed.answer.reply passed.answer.answer passed.answer.plain;
       }
+        where
+          there : partner_after.socket.block.receiver.next ≡ r.socket.block.receiver.next
+          there = ap (λ (t : PairSide). t.socket.block.receiver.next) reaches ∙ told.still
+
+          itself : (n : ℕ) → n ≤ n
+          itself n = omega arith
 
       of_ends : EndsLastAck r.socket came → Ends
       of_ends ends = record {
@@ -372,17 +379,18 @@ module _ (side : Side) (s r : PairSide) (moment : ℤ) where
       }
 
       -- what the side may not hear it needn't, where something else is known
-      pub side_comes : {X : Type 0} → CanHear s.socket r.socket ⊎ X → Comes X
-      side_comes {X} which = by which (outcome cx cy cx s.socket r.socket p q k o step theirs_sent fits heard may) where
+      pub side_comes :
+          {X Z : Type 0} → CanHear s.socket r.socket ⊎ X → (is_synchronized came.socket.block.state ≡ true → TookAfter ⊎ Z) → Comes X Z
+      side_comes {X} {Z} which took = by which (outcome cx cy cx s.socket r.socket p q k o step theirs_sent fits heard may) where
         by :
             CanHear s.socket r.socket ⊎ X
             → WasNew cx cy cx s.socket r.socket p q k o step theirs_sent fits heard may
             ⊎ (IsPassed r.socket o.segment size came ⊎ EndsLastAck r.socket came)
-            → Comes X
-        by which (inl it) = inl (of_taken it.taken)
+            → Comes X Z
+        by which (inl it) = of_new took it
         by (inl space) (inr (inl passed)) =
             inr (inl (of_told passed (told_of cx cy cx s.socket r.socket p q k o step theirs_sent fits heard may space passed)))
-        by (inr x) (inr (inl passed)) = inr (inr (inr (of_passed passed, x)))
+        by (inr x) (inr (inl passed)) = inr (inr (inr (inl (of_passed passed, x))))
         by which (inr (inr ends)) = inr (inr (inl (of_ends ends)))
 
 -- OF A PAIR
@@ -397,10 +405,15 @@ pub record HasTaken (p new : PairValue) (side : Side) : Type 0 where
   pub left : left_in new side ≡ left_in p side
   pub state : (socket_of new side).block.state ≡ (socket_of p side).block.state
 
+-- how much of what a side hasn't acknowledged before lies before what the other has then
+abbrev pub ahead_in : PairValue → PairValue → Side → ℕ
+ahead_in p new side = distance_of (socket_of p side).block.sender.una (socket_of new (other side)).block.receiver.next
+
 pub record HasTold (p new : PairValue) (side : Side) : Type 0 where
   pub all : (socket_of new side).block.sender.una ≡ (socket_of new (other side)).block.receiver.next
-  pub had : 1 ≤ distance_of (socket_of p side).block.sender.una (socket_of p (other side)).block.receiver.next
-  pub left : left_in new side + distance_of (socket_of p side).block.sender.una (socket_of p (other side)).block.receiver.next ≡ left_in p side
+  pub had : 1 ≤ ahead_in p new side
+  pub more : ahead_in p p side ≤ ahead_in p new side
+  pub left : left_in new side + ahead_in p new side ≡ left_in p side
 
 abbrev pub HasLess : PairValue → PairValue → Side → Type 0
 HasLess p new side = HasTaken p new side ⊎ (HasTold p new side ⊎ (is_closed (socket_of new (other side)).block.state ≡ true))
@@ -413,40 +426,56 @@ pub record Heard (p new : PairValue) (side : Side) : Type 0 where
       is_closed (socket_of new (other side)).block.state ≡ true
       → ((socket_of p (other side)).block.state ≡ In.LastAck) × (left_in new (other side) ≡ 0)
 
-pub record Moved (X : Type 0) (p : PairValue) (side : Side) (moment : ℤ) : Type 0 where
+pub record Moved (X Z : Type 0) (p : PairValue) (side : Side) (moment : ℤ) : Type 0 where
   pub moves : MovesIn p side moment ⊎ X
-  pub less : HasLess p (exchanged_in p side moment) side ⊎ X
+  pub less : HasLess p (exchanged_in p side moment) side ⊎ Z
   pub heard : Heard p (exchanged_in p side moment) side
 
 pub reach_in : (p : PairValue) (side : Side) (moment : ℤ) (o : OpenOffer) → MayExchangeIn p side moment o → MayReachIn p side moment o
 reach_in p side moment o may =
     reach_of (context_of p side moment) (context_at (other side) (at p.sides (other side))) (socket_of p side) (socket_of p (other side)) o may
 
+-- the offer of a side, come to the other
+abbrev pub came_in : PairValue → Side → ℤ → OpenOffer → Arrived
+came_in p side moment o =
+    offer_comes (context_at (other side) (at p.sides (other side))) (socket_of p (other side)) (socket_of p side) o
+
+-- what the other has taken then lies within what the side has sent
+abbrev pub TookThen : PairValue → Side → ℤ → OpenOffer → Type 0
+TookThen p side moment o = TookWhatWasSent (settled true (offer_of (context_of p side moment) (socket_of p side)).socket) (came_in p side moment o).socket
+
 pub pair_moved :
-    {X : Type 0} → (p : PairValue) (side : Side) (moment : ℤ) (o : OpenOffer)
+    {X Z : Type 0} → (p : PairValue) (side : Side) (moment : ℤ) (o : OpenOffer)
     (k : Keeps (socket_of p side) (past_at p side) (socket_of p (other side)) (past_at p (other side)))
     → IsInStep k.side k.partner → TookWhatWasSent (socket_of p side) (socket_of p (other side))
     → FitsBuffer (socket_of p side) (socket_of p (other side)) → TookWhatWasSent (socket_of p (other side)) (socket_of p side)
     → AreMirrored (socket_of p side).block (socket_of p (other side)).block
-    → MayReachIn p side moment o → CanHear (socket_of p side) (socket_of p (other side)) ⊎ X → Moved X p side moment
-pair_moved {X} p A moment o k step sent fits heard mirrored may space =
+    → MayReachIn p side moment o → CanHear (socket_of p side) (socket_of p (other side)) ⊎ X → (X → Z)
+    → (is_synchronized (came_in p side moment o).socket.block.state ≡ true → TookThen p side moment o ⊎ Z) → Moved X Z p side moment
+pair_moved {X} {Z} p A moment o k step sent fits heard mirrored may space known took =
     by
-    (side_comes A p.sides.a p.sides.b moment mirrored o may (past_at p A) (past_at p B) k step sent fits heard space)
+    (side_comes A p.sides.a p.sides.b moment mirrored o may (past_at p A) (past_at p B) k step sent fits heard space took)
   where
     -- so many segments of the other come
     after : ℕ → PairValue
     after n = comes n B (next_sent p B) (offered_in p A moment)
 
-    by : Comes A p.sides.a p.sides.b moment mirrored o may X → Moved X p A moment
+    heard_of : (n : ℕ) → Heard p (after n) A → length (partner_after A p.sides.a p.sides.b moment).sent - length p.sides.b.sent ≡ n →
+        Heard p (exchanged_in p A moment) A
+    heard_of n h is = subst (λ (n : ℕ). Heard p (after n) A) (sym is) h
+
+    less_of : (n : ℕ) → HasLess p (after n) A → length (partner_after A p.sides.a p.sides.b moment).sent - length p.sides.b.sent ≡ n →
+        HasLess p (exchanged_in p A moment) A ⊎ Z
+    less_of n h is = inl (subst (λ (n : ℕ). HasLess p (after n) A) (sym is) h)
+
+    by : Comes A p.sides.a p.sides.b moment mirrored o may X Z → Moved X Z p A moment
     by (inl x) = record {
       moves = inl (inl x.next);
       less =
-          subst (λ (n : ℕ). HasLess p (after n) A ⊎ X) (sym x.none)
-          (inl
-          (inl (record { more = x.next.by; some = x.next.some; few = x.next.few; una = x.una; next = x.next.moved; left = x.left; state = x.state })));
-      heard =
-          subst (λ (n : ℕ). Heard p (after n) A) (sym x.none)
-          (record { known = x.leaves.known; closes = x.leaves.closes; closes_other = x.leaves.closes_other });
+          less_of 0
+          (inl (record { more = x.next.by; some = x.next.some; few = x.next.few; una = x.una; next = x.next.moved; left = x.left; state = x.state }))
+          x.none;
+      heard = heard_of 0 (record { known = x.leaves.known; closes = x.leaves.closes; closes_other = x.leaves.closes_other }) x.none;
     }
     by (inr (inl x)) = record {
       moves =
@@ -455,45 +484,56 @@ pair_moved {X} p A moment o k step sent fits heard mirrored may space =
           (inl
           (subst (λ (n : ℕ). MovesOn p.sides.a.socket.block.sender.una (socket_of (after n) A).block.sender.una)
           (sym x.one) x.una)));
-      less =
-          subst (λ (n : ℕ). HasLess p (after n) A ⊎ X) (sym x.one)
-          (inl (inr (inl (record { all = x.all; had = x.had; left = x.left }))));
-      heard =
-          subst (λ (n : ℕ). Heard p (after n) A) (sym x.one)
-          (record { known = x.leaves.known; closes = x.leaves.closes; closes_other = x.leaves.closes_other });
+      less = less_of 1 (inr (inl (record { all = x.all; had = x.had; more = x.more; left = x.left }))) x.one;
+      heard = heard_of 1 (record { known = x.leaves.known; closes = x.leaves.closes; closes_other = x.leaves.closes_other }) x.one;
     }
     by (inr (inr (inl x))) = record {
       moves = inl (inr (inr (x.last, x.closed)));
-      less = subst (λ (n : ℕ). HasLess p (after n) A ⊎ X) (sym x.none) (inl (inr (inr x.closed)));
-      heard =
-          subst (λ (n : ℕ). Heard p (after n) A) (sym x.none)
-          (record { known = x.leaves.known; closes = x.leaves.closes; closes_other = x.leaves.closes_other });
+      less = less_of 0 (inr (inr x.closed)) x.none;
+      heard = heard_of 0 (record { known = x.leaves.known; closes = x.leaves.closes; closes_other = x.leaves.closes_other }) x.none;
     }
-    by (inr (inr (inr x))) = record {
+    by (inr (inr (inr (inl x)))) = record {
       moves = inr x.1;
-      less = inr x.1;
-      heard =
-          subst (λ (n : ℕ). Heard p (after n) A) (sym x.0.one)
-          (record { known = x.0.leaves.known; closes = x.0.leaves.closes; closes_other = x.0.leaves.closes_other });
+      less = inr (known x.1);
+      heard = heard_of 1 (record { known = x.0.leaves.known; closes = x.0.leaves.closes; closes_other = x.0.leaves.closes_other }) x.0.one;
     }
-pair_moved {X} p B moment o k step sent fits heard mirrored may space =
+    by (inr (inr (inr (inr (inl x))))) = record {
+      moves = inl (inl x.next);
+      less =
+          less_of 1
+          (inl (record { more = x.next.by; some = x.next.some; few = x.next.few; una = x.una; next = x.next.moved; left = x.left; state = x.state }))
+          x.one;
+      heard = heard_of 1 (record { known = x.leaves.known; closes = x.leaves.closes; closes_other = x.leaves.closes_other }) x.one;
+    }
+    by (inr (inr (inr (inr (inr x))))) = record {
+      moves = inl (inl x.0.next);
+      less = inr x.1;
+      heard = heard_of 1 (record { known = x.0.leaves.known; closes = x.0.leaves.closes; closes_other = x.0.leaves.closes_other }) x.0.one;
+    }
+pair_moved {X} {Z} p B moment o k step sent fits heard mirrored may space known took =
     by
-    (side_comes B p.sides.b p.sides.a moment mirrored o may (past_at p B) (past_at p A) k step sent fits heard space)
+    (side_comes B p.sides.b p.sides.a moment mirrored o may (past_at p B) (past_at p A) k step sent fits heard space took)
   where
     -- so many segments of the other come
     after : ℕ → PairValue
     after n = comes n A (next_sent p A) (offered_in p B moment)
 
-    by : Comes B p.sides.b p.sides.a moment mirrored o may X → Moved X p B moment
+    heard_of : (n : ℕ) → Heard p (after n) B → length (partner_after B p.sides.b p.sides.a moment).sent - length p.sides.a.sent ≡ n →
+        Heard p (exchanged_in p B moment) B
+    heard_of n h is = subst (λ (n : ℕ). Heard p (after n) B) (sym is) h
+
+    less_of : (n : ℕ) → HasLess p (after n) B → length (partner_after B p.sides.b p.sides.a moment).sent - length p.sides.a.sent ≡ n →
+        HasLess p (exchanged_in p B moment) B ⊎ Z
+    less_of n h is = inl (subst (λ (n : ℕ). HasLess p (after n) B) (sym is) h)
+
+    by : Comes B p.sides.b p.sides.a moment mirrored o may X Z → Moved X Z p B moment
     by (inl x) = record {
       moves = inl (inl x.next);
       less =
-          subst (λ (n : ℕ). HasLess p (after n) B ⊎ X) (sym x.none)
-          (inl
-          (inl (record { more = x.next.by; some = x.next.some; few = x.next.few; una = x.una; next = x.next.moved; left = x.left; state = x.state })));
-      heard =
-          subst (λ (n : ℕ). Heard p (after n) B) (sym x.none)
-          (record { known = x.leaves.known; closes = x.leaves.closes; closes_other = x.leaves.closes_other });
+          less_of 0
+          (inl (record { more = x.next.by; some = x.next.some; few = x.next.few; una = x.una; next = x.next.moved; left = x.left; state = x.state }))
+          x.none;
+      heard = heard_of 0 (record { known = x.leaves.known; closes = x.leaves.closes; closes_other = x.leaves.closes_other }) x.none;
     }
     by (inr (inl x)) = record {
       moves =
@@ -502,26 +542,31 @@ pair_moved {X} p B moment o k step sent fits heard mirrored may space =
           (inl
           (subst (λ (n : ℕ). MovesOn p.sides.b.socket.block.sender.una (socket_of (after n) B).block.sender.una)
           (sym x.one) x.una)));
-      less =
-          subst (λ (n : ℕ). HasLess p (after n) B ⊎ X) (sym x.one)
-          (inl (inr (inl (record { all = x.all; had = x.had; left = x.left }))));
-      heard =
-          subst (λ (n : ℕ). Heard p (after n) B) (sym x.one)
-          (record { known = x.leaves.known; closes = x.leaves.closes; closes_other = x.leaves.closes_other });
+      less = less_of 1 (inr (inl (record { all = x.all; had = x.had; more = x.more; left = x.left }))) x.one;
+      heard = heard_of 1 (record { known = x.leaves.known; closes = x.leaves.closes; closes_other = x.leaves.closes_other }) x.one;
     }
     by (inr (inr (inl x))) = record {
       moves = inl (inr (inr (x.last, x.closed)));
-      less = subst (λ (n : ℕ). HasLess p (after n) B ⊎ X) (sym x.none) (inl (inr (inr x.closed)));
-      heard =
-          subst (λ (n : ℕ). Heard p (after n) B) (sym x.none)
-          (record { known = x.leaves.known; closes = x.leaves.closes; closes_other = x.leaves.closes_other });
+      less = less_of 0 (inr (inr x.closed)) x.none;
+      heard = heard_of 0 (record { known = x.leaves.known; closes = x.leaves.closes; closes_other = x.leaves.closes_other }) x.none;
     }
-    by (inr (inr (inr x))) = record {
+    by (inr (inr (inr (inl x)))) = record {
       moves = inr x.1;
+      less = inr (known x.1);
+      heard = heard_of 1 (record { known = x.0.leaves.known; closes = x.0.leaves.closes; closes_other = x.0.leaves.closes_other }) x.0.one;
+    }
+    by (inr (inr (inr (inr (inl x))))) = record {
+      moves = inl (inl x.next);
+      less =
+          less_of 1
+          (inl (record { more = x.next.by; some = x.next.some; few = x.next.few; una = x.una; next = x.next.moved; left = x.left; state = x.state }))
+          x.one;
+      heard = heard_of 1 (record { known = x.leaves.known; closes = x.leaves.closes; closes_other = x.leaves.closes_other }) x.one;
+    }
+    by (inr (inr (inr (inr (inr x))))) = record {
+      moves = inl (inl x.0.next);
       less = inr x.1;
-      heard =
-          subst (λ (n : ℕ). Heard p (after n) B) (sym x.0.one)
-          (record { known = x.0.leaves.known; closes = x.0.leaves.closes; closes_other = x.0.leaves.closes_other });
+      heard = heard_of 1 (record { known = x.0.leaves.known; closes = x.0.leaves.closes; closes_other = x.0.leaves.closes_other }) x.0.one;
     }
 
 of_either : {A : Type 0} → A ⊎ ⊥ → A
@@ -536,7 +581,8 @@ pub pair_moves :
     → AreMirrored (socket_of p side).block (socket_of p (other side)).block
     → MayExchangeIn p side moment o → MovesIn p side moment
 pair_moves p side moment o k step sent fits heard mirrored may =
-    let it : Moved ⊥ p side moment = pair_moved p side moment o k step sent fits heard mirrored (reach_in p side moment o may) (inl may.space) in
+    let it : Moved ⊥ (Unit {0}) p side moment =
+    pair_moved p side moment o k step sent fits heard mirrored (reach_in p side moment o may) (inl may.space) (λ _. tt) (λ _. inr tt) in
     of_either it.moves
 
 -- IN STEP
@@ -568,29 +614,41 @@ in_step v w p q k mine stream = by k.holds.0.sync where
 
 -- WHAT EVENTS LED TO
 
+-- what the other took lies within what was sent
+pub reached_then :
+    (p : PairValue) (side : Side) (moment : ℤ) (o : OpenOffer) → IsReached p → MayReachIn p side moment o
+    → is_synchronized (came_in p side moment o).socket.block.state ≡ true → TookThen p side moment o
+reached_then p A moment o reached may =
+    took_after A p.sides.a p.sides.b moment (connected_mirrored p A reached may.own.synchronized may.theirs.synchronized) o may (at (pasts p.history) A)
+    (at (pasts p.history) B) (reached_keeps p A reached) (reached_sends p A reached)
+reached_then p B moment o reached may =
+    took_after B p.sides.b p.sides.a moment (connected_mirrored p B reached may.own.synchronized may.theirs.synchronized) o may (at (pasts p.history) B)
+    (at (pasts p.history) A) (reached_keeps p B reached) (reached_sends p B reached)
+
 -- the side hears the answer, or something else is known
 pub reached_comes :
     {X : Type 0} → (p : PairValue) (side : Side) (moment : ℤ) (o : OpenOffer) → IsReached p → HasStream (past_at p side) → MayReachIn p side moment o
-    → CanHear (socket_of p side) (socket_of p (other side)) ⊎ X → Moved X p side moment
+    → CanHear (socket_of p side) (socket_of p (other side)) ⊎ X → Moved X X p side moment
 reached_comes p side moment o reached stream may space =
     let k = reached_keeps p side reached in
     let each = reached_took p side reached may.own may.theirs in
     pair_moved p side moment o k
     (in_step (socket_of p side) (socket_of p (other side)) (past_at p side) (past_at p (other side)) k may.own.synchronized stream) each.sent
     (fits_in p side reached may.own may.theirs may.room) each.heard
-    (connected_mirrored p side reached may.own.synchronized may.theirs.synchronized) may space
+    (connected_mirrored p side reached may.own.synchronized may.theirs.synchronized) may space (λ x. x)
+    (λ on. inl (reached_then p side moment o reached may on))
 
 pub reached_less :
     (p : PairValue) (side : Side) (moment : ℤ) (o : OpenOffer) → IsReached p → HasStream (past_at p side) → MayReachIn p side moment o
     → CanHear (socket_of p side) (socket_of p (other side)) → HasLess p (exchanged_in p side moment) side
 reached_less p side moment o reached stream may space =
-    let it : Moved ⊥ p side moment = reached_comes p side moment o reached stream may (inl space) in of_either it.less
+    let it : Moved ⊥ ⊥ p side moment = reached_comes p side moment o reached stream may (inl space) in of_either it.less
 
 pub reached_moves :
     (p : PairValue) (side : Side) (moment : ℤ) (o : OpenOffer) → IsReached p → HasStream (past_at p side) → MayReachIn p side moment o
     → CanHear (socket_of p side) (socket_of p (other side)) → MovesIn p side moment
 reached_moves p side moment o reached stream may space =
-    let it : Moved ⊥ p side moment = reached_comes p side moment o reached stream may (inl space) in of_either it.moves
+    let it : Moved ⊥ ⊥ p side moment = reached_comes p side moment o reached stream may (inl space) in of_either it.moves
 
 -- HOW MANY
 
@@ -646,9 +704,9 @@ once_more : (n had had_new left left_new more : ℕ) → suc n + had_new ≤ lef
 once_more n had had_new left left_new more a b c d = omega arith
 
 acknowledged_once :
-    (n had had_new left left_new : ℕ) → suc n + had_new ≤ left_new + left_new → left_new + had ≡ left → 1 ≤ had
+    (n had had_new left left_new reach : ℕ) → suc n + had_new ≤ left_new + left_new → left_new + reach ≡ left → 1 ≤ reach → had ≤ reach
     → suc (suc n) + had ≤ left + left
-acknowledged_once n had had_new left left_new a b c = omega arith
+acknowledged_once n had had_new left left_new reach a b c d = omega arith
 
 last_one : (had left : ℕ) → had ≤ left → 1 ≤ left → 1 + had ≤ left + left
 last_one had left a b = omega arith
@@ -670,8 +728,8 @@ before p side moment n h open_still rest (inl t) =
     (below_quarter (had_in p side) (left_in p side) h.within h.few) t.few))
     t.some
 before p side moment n h open_still rest (inr (inl t)) =
-    acknowledged_once n (had_in p side) (had_in (exchanged_in p side moment) side) (left_in p side) (left_in (exchanged_in p side moment) side) rest
-    t.left t.had
+    acknowledged_once n (had_in p side) (had_in (exchanged_in p side moment) side) (left_in p side) (left_in (exchanged_in p side moment) side)
+    (ahead_in p (exchanged_in p side moment) side) rest t.left t.had t.more
 before p side moment n h open_still rest (inr (inr closed)) = absurd (open_still closed)
 
 pub still_open : (state : State) → is_synchronized state ≡ true → is_closed state ≡ true → ⊥

@@ -133,10 +133,10 @@ module _ (cx : ContextValue) (ip : IpRepr) (header : TcpHeader) (bytes : List �
 
   stays_content : (x : TcpValue) → Since x → Content cx ip header bytes Stays x
   stays_content x h = record {
-    plain = inr h;
-    fin = λ _ _. inr h;
-    ordered = λ _ _ _ _. inr h;
-    ordered_fin = λ _ _ _ _. inr h;
+    plain = (λ _. inr h, inr h);
+    fin = λ _ _. (λ _. inr h, inr h);
+    ordered = λ _ _ _ _. (λ _. inr h, inr h);
+    ordered_fin = λ _ _ _ _. (λ _. inr h, inr h);
     early = λ _ _ _ _. inr h;
   }
 

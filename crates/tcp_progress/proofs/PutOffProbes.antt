@@ -72,10 +72,10 @@ module _ (cx : ContextValue) (ip : IpRepr) (header : TcpHeader) (bytes : List �
 
   stays_content : (x : TcpValue) → Since x → Content cx ip header bytes Stays x
   stays_content x h = record {
-    plain = kept_probe x.block (queued_in x) v.block.timers.probe_at h;
-    fin = λ _ _. kept_probe (fin_taken x.block cx.moment) (queued_in x) v.block.timers.probe_at h;
-    ordered = λ map _ _ _. kept_probe (taken_in_order x map).socket.block (queued_in x) v.block.timers.probe_at h;
-    ordered_fin = λ map _ _ _. kept_probe (fin_taken (taken_in_order x map).socket.block cx.moment) (queued_in x) v.block.timers.probe_at h;
+    plain = let it = kept_probe x.block (queued_in x) v.block.timers.probe_at h in (λ _. it, it);
+    fin = λ _ _. let it = kept_probe (fin_taken x.block cx.moment) (queued_in x) v.block.timers.probe_at h in (λ _. it, it);
+    ordered = λ map _ _ _. let it = kept_probe (taken_in_order x map).socket.block (queued_in x) v.block.timers.probe_at h in (λ _. it, it);
+    ordered_fin = λ map _ _ _. let it = kept_probe (fin_taken (taken_in_order x map).socket.block cx.moment) (queued_in x) v.block.timers.probe_at h in (λ _. it, it);
     early = λ _ _ _ _. kept_probe x.block (queued_in x) v.block.timers.probe_at h;
   }
 

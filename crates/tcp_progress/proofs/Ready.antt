@@ -118,10 +118,10 @@ module _ (cx : ContextValue) (ip : IpRepr) (header : TcpHeader) (bytes : List �
 
   named_content : (x : TcpValue) → is_some x.block.names.pair ≡ true → Content cx ip header bytes NamedAfter x
   named_content x some = record {
-    plain = λ _ _. some;
-    fin = λ _ _ _ _. some;
-    ordered = λ _ _ _ _ _ _. some;
-    ordered_fin = λ _ _ _ _ _ _. some;
+    plain = (λ _. λ _ _. some, λ _ _. some);
+    fin = λ _ _. (λ _. λ _ _. some, λ _ _. some);
+    ordered = λ _ _ _ _. (λ _. λ _ _. some, λ _ _. some);
+    ordered_fin = λ _ _ _ _. (λ _. λ _ _. some, λ _ _. some);
     early = λ _ _ _ _ _ _. some;
   }
 

@@ -289,7 +289,13 @@ module _ (cx : ContextValue) (ip : IpRepr) (header : TcpHeader) (bytes : List �
   sent_drawing x h = record { answers = λ _. h; at_once = h; pauses = h }
 
   sent_content : (x : TcpValue) → After x → Content cx ip header bytes SentAfter x
-  sent_content x h = record { plain = h; fin = λ _ _. h; ordered = λ _ _ _ _. h; ordered_fin = λ _ _ _ _. h; early = λ _ _ _ _. h }
+  sent_content x h = record {
+    plain = (λ _. h, h);
+    fin = λ _ _. (λ _. h, h);
+    ordered = λ _ _ _ _. (λ _. h, h);
+    ordered_fin = λ _ _ _ _. (λ _. h, h);
+    early = λ _ _ _ _. h;
+  }
 
   risen : (u : TcpValue) (by : ℕ) → Sent u.block → Sent (acked_open (timed cx.moment header u by) by cx.moment).block
   risen u by h = acked_sent (timed cx.moment header u by).block by (queued_in u) cx.moment (undone_sent u.block header by (queued_in u) cx.moment h)

@@ -1,6 +1,6 @@
 -- Of each pair that events led to, each side took no more than the other sent.
 use Rattle.std.proofs.Common.{◌≡◌, ◌⊎◌, inl, inr, ℕ, suc, ◌+◌, ◌-◌, ◌%◌, ◌^◌, ◌<◌, ◌≤◌, nat_le, nat_lt, min, Bool, true, false, List, [], ◌∷◌, ◌++◌}
-use Rattle.std.proofs.Common.{length, None, refl, sym, ap, ◌∙◌, subst, arith, length-take}
+use Rattle.std.proofs.Common.{length, slice_get, ℤ, None, refl, sym, ap, ◌∙◌, subst, arith, length-take}
 use Rattle.std.proofs.lemmas.Bool.{and_parts, ltb-true}
 use Rattle.std.proofs.lemmas.Bool.Decides.{nat_tests}
 use Rattle.ip_wire.specs.Seq.{distance_of}
@@ -12,23 +12,24 @@ use Rattle.tcp_law.specs.Side.Opening.{NotYet, Passive, Active}
 use Rattle.tcp_law.proofs.Lists.{Begins-length, Begins-nothing}
 use Rattle.tcp_tie.specs.Side.{Opening}
 use Rattle.tcp_tie.specs.Tie.{Past, Keeps, IsConnectedAs, core_of, unsent}
-use Rattle.tcp_tie.proofs.PromiseLemmas.{Shows, shows}
+use Rattle.tcp_tie.proofs.PromiseLemmas.{Shows, keeps_turned, shows}
 use Rattle.tcp_tie.proofs.Tied.{fits_connected}
 use Rattle.tcp_rules.proofs.OrderSteps.{clash}
 use Rattle.tcp_model.specs.Blocks.{one_if}
 use Rattle.tcp_tie.specs.Pair.History.{pasts, side_of, adds}
 use Rattle.tcp_tie.specs.Pair.Safe.{IsKept}
 use Rattle.tcp_tie.specs.Pair.Sides.{Both, at, put, other}
-use Rattle.tcp_tie.specs.Pair.Steps.{Steps, refusal, happens, acting, was_opened, if_so}
+use Rattle.tcp_tie.specs.Pair.Steps.{Steps, refusal, happens, acting, handed, offered_at, was_opened, if_so}
 use Rattle.tcp_model.specs.Value.{TcpValue, room_of}
 use Rattle.tcp_tie.specs.Pair.Values.{PairSide, PairValue, past_at, with_segments}
 use Rattle.tcp_tie.specs.declared.pair.event.PairEvent.{PairEvent}
 use Rattle.tcp_tie.specs.declared.pair.event.PairEvent.TheVariants.{Listen, Connect, Send, Recv, Close, Abort, TcpSetting, Clock, Offer, Deliver}
+use Rattle.tcp_tie.specs.declared.pair.event.PairAnswer.TheVariants.{Done}
 use Rattle.tcp_tie.specs.declared.pair.event.PairRefused.TheVariants.{OpenedTwice, TooManyBytes}
 use Rattle.tcp_tie.specs.declared.pair.event.Side.{Side}
 use Rattle.tcp_tie.specs.declared.pair.event.Side.TheVariants.{A, B}
 use Rattle.tcp_tie.proofs.PairLaws.{kept_after}
-use Rattle.tcp_tie.proofs.SideLaws.{IsAllowed}
+use Rattle.tcp_tie.proofs.SideLaws.{IsAllowed, led}
 use Rattle.tcp_progress.specs.Arrivals.{is_synchronized}
 use Rattle.tcp_progress.specs.Exchange.{IsOpen, TookWhatWasSent}
 use Rattle.tcp_progress.specs.Pair.{socket_of}
@@ -288,3 +289,38 @@ pub record TookEach (p : PairValue) (side : Side) : Type 0 where
 pub reached_took : (p : PairValue) (side : Side) → IsReached p → IsOpen (socket_of p side).block → IsOpen (socket_of p (other side)).block → TookEach p side
 reached_took p A r mine theirs = record { sent = reached_sent p A r mine theirs.synchronized; heard = reached_sent p B r theirs mine.synchronized }
 reached_took p B r mine theirs = record { sent = reached_sent p B r mine theirs.synchronized; heard = reached_sent p A r theirs mine.synchronized }
+
+-- AN OFFER THAT COMES
+
+-- what the partner took of it lies within what was sent
+pub offered_took :
+    (side : Side) (s r : PairSide) (moment : ℤ) (p q : Past) (k : Keeps s.socket (with_segments p s.sent) r.socket (with_segments q r.sent))
+    → SendsAll s.socket (with_segments p s.sent) r.socket (with_segments q r.sent)
+    → is_synchronized (offered_at side (record s { moment = moment }) true).socket.block.state ≡ true
+    → (offered_at side (record s { moment = moment }) true).socket.block.sender.syn_unacked ≡ false
+    → is_synchronized (handed (other side) r (slice_get (offered_at side (record s { moment = moment }) true).sent (length s.sent))).socket.block.state ≡ true
+    → TookWhatWasSent (offered_at side (record s { moment = moment }) true).socket
+    (handed (other side) r (slice_get (offered_at side (record s { moment = moment }) true).sent (length s.sent))).socket
+offered_took side s r moment p q k sends on acked theirs =
+    took_what gone.socket there.socket (with_segments mine gone.sent) (with_segments others there.sent)
+    (keeps_turned there.socket gone.socket (with_segments others there.sent) (with_segments mine gone.sent)
+    (led r gone.socket q mine gone.sent kept (Deliver side (length s.sent)) tt))
+    ((partners r gone.socket q mine gone.sent kept (Deliver side (length s.sent)) tt
+    (own s r.socket p q r.sent k (Offer side moment true) tt sends)).keeps on)
+    on theirs acked
+  where
+    gone : PairSide
+    gone = offered_at side (record s { moment = moment }) true
+
+    there : PairSide
+    there = handed (other side) r (slice_get gone.sent (length s.sent))
+
+    mine : Past
+    mine = adds (Offer side moment true) Done s.socket.block.state p
+
+    others : Past
+    others = adds (Deliver side (length s.sent)) Done r.socket.block.state q
+
+    kept : Keeps r.socket (with_segments q r.sent) gone.socket (with_segments mine gone.sent)
+    kept =
+        keeps_turned gone.socket r.socket (with_segments mine gone.sent) (with_segments q r.sent) (led s r.socket p q r.sent k (Offer side moment true) tt)

@@ -28,7 +28,7 @@ use Rattle.tcp_progress.specs.Rounds.{comes, takes}
 use Rattle.tcp_progress.specs.Settle.{MayRound, MaySettle, read_in, restart_in, resumed_in, settled_in}
 use Rattle.tcp_progress.proofs.Kept.{reached_by, reached_keeps, reached_kept}
 use Rattle.tcp_progress.proofs.OfItself.{leads_of_itself, may_reach, sends_in}
-use Rattle.tcp_progress.proofs.Pair.{HasLess, HasSome, below_quarter, further, had_in, has_some, reached_less, still_open}
+use Rattle.tcp_progress.proofs.Pair.{HasLess, HasSome, below_quarter, further, had_in, has_some, ahead_in, reached_less, still_open}
 
 -- READING
 
@@ -117,8 +117,9 @@ taken_once :
     → left_new + left_new ≤ n + had_new
 taken_once n had had_new left left_new more a b c d = omega arith
 
-told_once : (n had had_new left left_new : ℕ) → left + left ≤ suc n + had → left_new + had ≡ left → 1 ≤ had → left_new + left_new ≤ n + had_new
-told_once n had had_new left left_new a b c = omega arith
+told_once : (n had had_new left left_new reach : ℕ) → left + left ≤ suc n + had → left_new + reach ≡ left → 1 ≤ reach → had ≤ reach →
+    left_new + left_new ≤ n + had_new
+told_once n had had_new left left_new reach a b c d = omega arith
 
 too_few : (had left : ℕ) → left + left ≤ 0 + had → had ≤ left → 1 ≤ left → ⊥
 too_few had left a b c = absurd (omega arith)
@@ -202,7 +203,7 @@ after_round n p side e it rest others = by it.less where
       ∙ further (socket_of x side).block.sender.una.0 (socket_of x (other side)).block.receiver.next.0 t.more it.some.una it.some.next
       (below_quarter (had_in x side) (left_in x side) it.some.within it.some.few) t.few))
       t.some)
-  by (inr (inl t)) = others (told_once n (had_in x side) (had_in q side) (left_in x side) (left_in q side) start t.left t.had)
+  by (inr (inl t)) = others (told_once n (had_in x side) (had_in q side) (left_in x side) (left_in q side) (ahead_in x q side) start t.left t.had t.more)
   by (inr (inr closed)) = last closed (left_in q side == 0) refl
 
 none_more : (p : PairValue) (side : Side) → IsReached p → (1 ≤ left_in p side → MayRound p side) → left_in p side + left_in p side ≤ 0 + had_in p side →

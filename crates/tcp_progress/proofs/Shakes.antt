@@ -20,7 +20,7 @@ use Rattle.tcp_model.specs.Opening.{acks_syn, answering, connected, crossed, is_
 use Rattle.tcp_model.specs.Settled.{nxt_past_held}
 use Rattle.tcp_model.specs.Timeout.{timeout_restarted}
 use Rattle.tcp_model.specs.Acknowledged.{counted, duplicates_after, names_window, ranges_taken, windowed, state_after_ack}
-use Rattle.tcp_model.specs.Answers.{drawn, answer_for}
+use Rattle.tcp_model.specs.Answers.{ack_due, acked, answer_for, answers_at_once, came_twice, drawn}
 use Rattle.tcp_model.specs.Arrival.{arrives, arrives_in, checked, continued, draws_first, echo_heard, finished, inside, is_void_syn, passed_outside}
 use Rattle.tcp_model.specs.Arrival.{reset_comes, taken, told, with_content}
 use Rattle.tcp_model.specs.declared.block.Block.{Block}
@@ -29,7 +29,7 @@ use Rattle.tcp_model.specs.Checks.{Check, acknowledgement_check, opening_check, 
 use Rattle.tcp_model.specs.Checks.Check.{Passes, Resets}
 use Rattle.tcp_model.specs.FirstNumbers.{first_number, draws_number}
 use Rattle.tcp_model.specs.Probing.{probe_kept}
-use Rattle.tcp_model.specs.Segments.{rst_reply, segment_len}
+use Rattle.tcp_model.specs.Segments.{no_ranges, rst_reply, segment_len}
 use Rattle.tcp_model.specs.Text.{Texted, texted, with_bytes_at, has_new_text, takes_fin, fin_taken}
 use Rattle.tcp_model.specs.Timestamps.{believed, is_stale, stamp_taken}
 use Rattle.tcp_model.specs.Value.{TcpValue, Arrived, with_block, answered_with, dropped, unoffered, ended, queued_in, free_in, room_of}
@@ -200,16 +200,32 @@ no_bytes n xs e = eq-eqb (length (drop n xs)) 0 (none (length (drop n xs)) (leng
   none : (len all : ℕ) → len ≡ all - n → all ≡ 0 → len ≡ 0
   none len all e f = omega arith
 
-module _ (cx : ContextValue) (x : TcpValue) (ip : IpRepr) (header : TcpHeader) (no_fin : is_fin header.control ≡ false) where
-  plain : with_content cx x ip header [] ≡ answer_for cx (with_block x (probe_kept x.block (queued_in x))) ip header 0 false None
-  plain =
+without : (control : TcpControl) → control_len control ≡ 0 → (is_syn control ≡ false) × (is_fin control ≡ false)
+without Control.None e = (refl, refl)
+without Control.Psh e = (refl, refl)
+without Control.Syn e = absurd (omega (arith, e))
+without Control.Fin e = absurd (omega (arith, e))
+without Control.Rst e = (refl, refl)
+
+-- so nothing is taken that is answered at once
+abbrev pub later : ContextValue → TcpHeader → TcpValue → Arrived
+later cx header y = dropped (with_block y (ack_due y.block header 0 false cx.moment))
+
+module _ (cx : ContextValue) (x : TcpValue) (ip : IpRepr) (header : TcpHeader) (bare : control_len header.control ≡ 0) where
+  pub content_later : with_content cx x ip header [] ≡ later cx header (with_block x (probe_kept x.block (queued_in x)))
+  content_later =
       ap (λ (t : Texted). finished cx x.block t ip header 0)
       (if_not (takes_text x.block.state && has_new_text x place rest) (with_bytes_at x place rest) (texted x 0 false None)
       (not_second (takes_text x.block.state) (has_new_text x place rest)
       (ap (λ (t : Bool). not t && nat_lt place (free_in x)) (no_bytes (before_by x.block.receiver.next header.seq_number) [] refl))))
       ∙ ap (λ (b : Block). answer_for cx (with_block x (probe_kept b (queued_in x))) ip header 0 false None)
-      (if_not (takes_fin x.block header 0 0) (fin_taken x.block cx.moment) x.block (and_not (is_fin header.control) _ no_fin))
+      (if_not (takes_fin x.block header 0 0) (fin_taken x.block cx.moment) x.block (and_not (is_fin header.control) _ (without header.control bare).1))
+      ∙ if_not (answers_at_once cx y.block ip header 0) (acked cx y ip header no_ranges) (later cx header y)
+      (ap (λ (n : ℕ). not (0 + n == 0) && came_twice cx y.block ip) bare)
     where
+      y : TcpValue
+      y = with_block x (probe_kept x.block (queued_in x))
+
       place : ℕ
       place = past_by x.block.receiver.next header.seq_number
 
@@ -236,13 +252,6 @@ pub record Opens (w : TcpValue) (a : Arrived) : Type 0 where
 pub record IsPlain (header : TcpHeader) : Type 0 where
   pub no_reset : is_rst header.control ≡ false
   pub none : control_len header.control ≡ 0
-
-without : (control : TcpControl) → control_len control ≡ 0 → (is_syn control ≡ false) × (is_fin control ≡ false)
-without Control.None e = (refl, refl)
-without Control.Psh e = (refl, refl)
-without Control.Syn e = absurd (omega (arith, e))
-without Control.Fin e = absurd (omega (arith, e))
-without Control.Rst e = (refl, refl)
 
 at_itself : (n : ℕ) → n < 2 ^ 32 → (n + (2 ^ 32 - n)) % 2 ^ 32 ≡ 0
 at_itself n e = omega arith
@@ -311,9 +320,9 @@ module _ (cx : ContextValue) (w : TcpValue) (ip : IpRepr) (header : TcpHeader) (
 
   by_told : (x : TcpValue) → Opens w (dropped x) → (duplicates : ℕ) → Opens w (with_content cx (told x header duplicates cx.moment) ip header [])
   by_told x o duplicates =
-      subst (Opens w) (sym (plain cx (told x header duplicates cx.moment) ip header (without header.control p.none).1))
+      subst (Opens w) (sym (content_later cx (told x header duplicates cx.moment) ip header p.none))
       (cond_both (names_window x.block header) (windowed x.block header) x.block
-      (λ (b : Block). Opens w (answer_for cx (kept_by (with_block x (told_by b))) ip header 0 false None))
+      (λ (b : Block). Opens w (later cx header (kept_by (with_block x (told_by b)))))
       (λ _. record {
         state = o.state;
         una = o.una;

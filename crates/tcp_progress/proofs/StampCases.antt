@@ -134,10 +134,10 @@ module _ (cx : ContextValue) (ip : IpRepr) (header : TcpHeader) (bytes : List �
 
   hears_content : (x : TcpValue) → Since x.block → x.block.stamps.generator ≡ v.block.stamps.generator → Content cx ip header bytes Hears x
   hears_content x l e = record {
-    plain = (l, tt);
-    fin = λ _ _. (l, tt);
-    ordered = λ _ _ _ _. (l, tt);
-    ordered_fin = λ _ _ _ _. (l, tt);
+    plain = (λ _. (l, tt), (l, own x e));
+    fin = λ _ _. (λ _. (l, tt), (l, own x e));
+    ordered = λ _ _ _ _. (λ _. (l, tt), (l, own x e));
+    ordered_fin = λ _ _ _ _. (λ _. (l, tt), (l, own x e));
     early = λ _ _ _ _. (l, own x e);
   }
 

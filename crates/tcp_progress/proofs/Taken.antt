@@ -14,18 +14,18 @@ use Rattle.net_base.specs.Time.{last_moment}
 use Rattle.tcp_tie.specs.Context.{ContextValue}
 use Rattle.tcp_rules.specs.Controls.{is_syn, is_fin}
 use Rattle.tcp_rules.specs.Offsets.{past_by, before_by, behind_by, meets_window}
-use Rattle.tcp_rules.specs.States.{is_closed, takes_text, after_ack, after_ack_of_fin}
+use Rattle.tcp_rules.specs.States.{is_closed, takes_text, after_ack, after_ack_of_fin, after_fin}
 use Rattle.tcp_rules.specs.State.{State}
 use Rattle.tcp_rules.specs.State.TheVariants as In
 use Rattle.tcp_law.specs.ReceiveMap.{store, front}
 use Rattle.tcp_model.specs.Acknowledged.{acknowledged, acks_fin, state_after_ack, names_window, windowed, duplicates_after}
-use Rattle.tcp_model.specs.Answers.{drawn, may_draw, with_draw, acked, answer_for, delayed, sooner, ack_moment_after}
+use Rattle.tcp_model.specs.Answers.{ack_due, answers_at_once, drawn, may_draw, with_draw, acked, answer_for, delayed, sooner, ack_moment_after}
 use Rattle.tcp_model.specs.Arrival.{arrives, checked, inside, taken, continued, told, with_content, finished, passed_outside}
-use Rattle.tcp_model.specs.Arrival.{outside, tells_news, has_length, waiting_anew}
+use Rattle.tcp_model.specs.Arrival.{outside, tells_news, waiting_anew}
 use Rattle.tcp_model.specs.Checks.{is_in_window, lies_before}
 use Rattle.tcp_model.specs.Checks.Check.{Passes}
 use Rattle.tcp_model.specs.Probing.{probe_kept}
-use Rattle.tcp_model.specs.Segments.{no_ranges, segment_len, reply_to, sack_segment, hops_of}
+use Rattle.tcp_model.specs.Segments.{no_ranges, segment_len, reply_to, sack_segment, hops_of, has_length}
 use Rattle.tcp_rules.specs.Endpoints.{pair_in}
 use Rattle.tcp_model.specs.Text.{Texted, texted, with_text, with_text_at, with_bytes_at, taken_in_order, is_holding}
 use Rattle.tcp_model.specs.Text.{laid, has_new_text, takes_fin, fin_taken}
@@ -38,6 +38,7 @@ use Rattle.tcp_rules.proofs.OrderSteps.{clash}
 use Rattle.tcp_rules.specs.Acks.{IsDueWithin}
 use Rattle.tcp_progress.specs.Arrivals.{is_synchronized, Counts, IsNew, Rises, IsAgain, IsAnswered, IsShutOut, EndsLastAck}
 use Rattle.tcp_progress.proofs.Acked.{comes_to, not_answering}
+use Rattle.tcp_rules.proofs.AckRules.{at_once_acknowledged}
 use Rattle.tcp_rules.proofs.ArrivalCases.{timed}
 
 -- WHERE IT BEGINS
@@ -194,6 +195,13 @@ put_behind [] ys = same (length ys) where
   same n = omega arith
 put_behind (x ∷ xs) ys = omega (arith, put_behind xs ys)
 
+-- text is taken in these states, and with the FIN behind it the connection goes on, too
+on_after : (state : State) → takes_text state ≡ true → (is_synchronized state ≡ true) × (is_synchronized (after_fin state) ≡ true)
+on_after In.Established e = (refl, refl)
+on_after In.FinWait1 e = (refl, refl)
+on_after In.FinWait2 e = (refl, refl)
+on_after other e = clash (sym e)
+
 abbrev number : ℕ → SeqNumber
 number n = record { 0 = n }
 
@@ -238,6 +246,36 @@ module _ (cx : ContextValue) (ip : IpRepr) (header : TcpHeader) (bytes : List �
       ap (λ (p : ℕ). with_text_at x p (drop (before_by x.block.receiver.next header.seq_number) bytes)) at_next.past
       ∙ ap (λ (k : ℕ). with_text_at x 0 (drop k bytes)) at_next.before
 
+  -- what was taken is acknowledged at once, or later
+  rises_by :
+      (y : TcpValue) (fills : Bool) (by : ℕ) → y.block.receiver.next ≡ behind_by x.block.receiver.next by → 1 ≤ by → min (length bytes - d) (free_in x) ≤ by
+      → by ≤ length y.received.waiting + 1 → is_synchronized y.block.state ≡ true
+      → IsDueWithin (ack_moment_after y.block header (length bytes) fills cx.moment) (delayed cx.moment x.block.settings.ack_delay)
+      → Risen (answer_for cx y ip header (length bytes) fills None)
+  rises_by y fills by next one enough there on due =
+      cond_both (answers_at_once cx y.block ip header (length bytes)) (acked cx y ip header no_ranges)
+      (dropped (with_block y (ack_due y.block header (length bytes) fills cx.moment))) Risen
+      (λ _.
+      record {
+        by = by;
+        next = next;
+        some = one;
+        all = enough;
+        waits = there;
+        on = on;
+        acknowledged = inl (at_once_acknowledged cx ip header y);
+      })
+      (λ _.
+      record {
+        by = by;
+        next = next;
+        some = one;
+        all = enough;
+        waits = there;
+        on = on;
+        acknowledged = inr (record { silent = refl; due = due });
+      })
+
   -- some of its text is new
   by_text : d < size → Risen (finished cx x.block (with_text_at x 0 rest) ip header (length bytes))
   by_text more = subst (λ (t : Texted). Risen (finished cx x.block t ip header (length bytes))) (sym is) taken_text where
@@ -280,19 +318,13 @@ module _ (cx : ContextValue) (ip : IpRepr) (header : TcpHeader) (bytes : List �
     waits = put_behind x.received.waiting (front map)
 
     with_fin_or_not : (b : Block) → (by : ℕ) → b.receiver.next ≡ behind_by x.block.receiver.next by → 1 ≤ by → min (length bytes - d) (free_in x) ≤ by
-        → by ≤ length (x.received.waiting ++ front map) + 1 → b.settings.ack_delay ≡ x.block.settings.ack_delay
+        → by ≤ length (x.received.waiting ++ front map) + 1 → b.settings.ack_delay ≡ x.block.settings.ack_delay → is_synchronized b.state ≡ true
         → Risen (answer_for cx (with_block (taken_in_order x map).socket (probe_kept b (queued_in x))) ip header (length bytes) (is_holding x) None)
-    with_fin_or_not b by next one enough there delay = record {
-      by = by;
-      next = next;
-      some = one;
-      all = enough;
-      silent = refl;
-      waits = there;
-      due = subst (λ (wait : Option ℕ). IsDueWithin (ack_moment_after (probe_kept b (queued_in x)) header (length bytes) (is_holding x) cx.moment)
-          (delayed cx.moment wait)) delay
-          (within (probe_kept b (queued_in x)) header (length bytes) (is_holding x) cx.moment (inr not_empty));
-    }
+    with_fin_or_not b by next one enough there delay on =
+        rises_by (with_block (taken_in_order x map).socket (probe_kept b (queued_in x))) (is_holding x) by next one enough there on
+        (subst (λ (wait : Option ℕ). IsDueWithin (ack_moment_after (probe_kept b (queued_in x)) header (length bytes) (is_holding x) cx.moment)
+        (delayed cx.moment wait)) delay
+        (within (probe_kept b (queued_in x)) header (length bytes) (is_holding x) cx.moment (inr not_empty)))
 
     taken_text : Risen (finished cx x.block (taken_in_order x map) ip header (length bytes))
     taken_text =
@@ -303,8 +335,8 @@ module _ (cx : ContextValue) (ip : IpRepr) (header : TcpHeader) (bytes : List �
         (λ _.
         with_fin_or_not (fin_taken (taken_in_order x map).socket.block cx.moment) (advance + 1) (ap number (twice x.block.receiver.next.0 advance))
         (some_more advance some)
-        (one_more (min (length bytes - d) (free_in x)) advance all) (both_more advance _ waits) refl)
-        (λ _. with_fin_or_not (taken_in_order x map).socket.block advance refl some all (one_more advance _ waits) refl)
+        (one_more (min (length bytes - d) (free_in x)) advance all) (both_more advance _ waits) refl (on_after x.block.state n.takes).1)
+        (λ _. with_fin_or_not (taken_in_order x map).socket.block advance refl some all (one_more advance _ waits) refl (on_after x.block.state n.takes).0)
 
   -- its FIN alone is
   by_fin : size ≤ d → Risen (finished cx x.block (with_text_at x 0 rest) ip header (length bytes))
@@ -349,15 +381,9 @@ module _ (cx : ContextValue) (ip : IpRepr) (header : TcpHeader) (bytes : List �
     taken_fin =
         subst (λ (b : Block). Risen (answer_for cx (with_block x (probe_kept b (queued_in x))) ip header (length bytes) false None))
         (sym (if_so (takes_fin x.block header (length bytes) 0) (fin_taken x.block cx.moment) x.block takes))
-        (record {
-          by = 1;
-          next = refl;
-          some = one;
-          all = none_new (length bytes) (free_in x) whole;
-          silent = refl;
-          waits = one_at_most (length x.received.waiting);
-          due = within (probe_kept (fin_taken x.block cx.moment) (queued_in x)) header (length bytes) false cx.moment (inl fin.0);
-        })
+        (rises_by (with_block x (probe_kept (fin_taken x.block cx.moment) (queued_in x))) false 1 refl one (none_new (length bytes) (free_in x) whole)
+        (one_at_most (length x.received.waiting)) (on_after x.block.state n.takes).1
+        (within (probe_kept (fin_taken x.block cx.moment) (queued_in x)) header (length bytes) false cx.moment (inl fin.0)))
 
   pub content_rises : Risen (with_content cx x ip header bytes)
   content_rises = subst (λ (t : Texted). Risen (finished cx x.block t ip header (length bytes))) (sym text) (at (nat_lt d size) refl) where
@@ -414,11 +440,11 @@ module _ (cx : ContextValue) (u : TcpValue) (ip : IpRepr) (header : TcpHeader) (
       (λ _.
       let y = heeded cx.moment header (length bytes) u by (windowed x.block header) in
       let r = content_rises cx ip header bytes y (new_of y takes_after refl refl) no_syn in
-      record { by = r.by; next = r.next; some = r.some; all = r.all; silent = r.silent; waits = r.waits; due = r.due })
+      record { by = r.by; next = r.next; some = r.some; all = r.all; waits = r.waits; on = r.on; acknowledged = r.acknowledged })
       (λ _.
       let y = heeded cx.moment header (length bytes) u by x.block in
       let r = content_rises cx ip header bytes y (new_of y takes_after refl refl) no_syn in
-      record { by = r.by; next = r.next; some = r.some; all = r.all; silent = r.silent; waits = r.waits; due = r.due })))
+      record { by = r.by; next = r.next; some = r.some; all = r.all; waits = r.waits; on = r.on; acknowledged = r.acknowledged })))
 
   rises_checked : TextRises (checked (Passes by) cx u ip header bytes)
   rises_checked =
@@ -434,7 +460,7 @@ unoffered_new v header size n = record { takes = n.takes; room = n.room; begins 
 
 offered_rises : (cx : ContextValue) (v : TcpValue) (header : TcpHeader) (size : ℕ) (a : Arrived) → Rises cx (unoffered v) header size a →
     Rises cx v header size a
-offered_rises cx v header size a r = record { by = r.by; next = r.next; some = r.some; all = r.all; silent = r.silent; waits = r.waits; due = r.due }
+offered_rises cx v header size a r = record { by = r.by; next = r.next; some = r.some; all = r.all; waits = r.waits; on = r.on; acknowledged = r.acknowledged }
 
 pub next_rises :
     (cx : ContextValue) (v : TcpValue) (ip : IpRepr) (header : TcpHeader) (bytes : List ℕ) (number : SeqNumber) → Counts v.block header number
@@ -611,3 +637,35 @@ shut_answered cx v ip header bytes number c n may =
       plain = r.plain;
       next = r.next;
     })
+
+-- WHAT LIES PAST THE WINDOW
+
+-- nothing of it is taken: what was sent, and what waits to go, stays
+abbrev pub Still : TcpValue → Arrived → Type 0
+Still v a = (a.socket.block.sender ≡ v.block.sender) × (a.socket.block.state ≡ v.block.state) × (a.socket.queued ≡ v.queued)
+
+outside_still : (cx : ContextValue) (u : TcpValue) (ip : IpRepr) (header : TcpHeader) → Still u (outside cx u ip header false)
+outside_still cx u ip header =
+    let y = waiting_anew u header cx.moment in
+    cond_both (is_closed u.block.state) (dropped u) (drawn cx y ip header) (Still u) (λ _. (refl, refl, refl))
+    (λ _.
+    cond_both (may_draw cx.moment u.block.timers.draws_from) (acked cx (with_draw y cx.moment) ip header no_ranges) (dropped y) (Still u)
+    (λ _. (refl, refl, refl)) (λ _. (refl, refl, refl)))
+
+pub past_still :
+    (cx : ContextValue) (v : TcpValue) (ip : IpRepr) (header : TcpHeader) (bytes : List ℕ) (number : SeqNumber) → Counts v.block header number
+    → is_in_window v.block (free_in v) header (length bytes) ≡ false → before_by v.block.receiver.next header.seq_number ≡ 0
+    → Still v (arrives cx v ip header bytes)
+past_still cx v ip header bytes number c not_inside none =
+    let by = distance_of v.block.sender.una number in
+    let u = unoffered v in
+    let r : Still u (outside cx u ip header false) = outside_still cx u ip header in
+    subst (Still v)
+    (sym (comes_to cx v ip header bytes number c
+    ∙ (if_not (is_in_window v.block (free_in v) header (length bytes)) (inside cx u ip header bytes by) (passed_outside cx u ip header (length bytes) by)
+    not_inside
+    ∙ if_not (tells_news u header (length bytes))
+    (outside cx (acknowledged (timed cx.moment header u by) by cx.moment) ip header (has_length header (length bytes))) (outside cx u ip header false)
+    (ap (λ (t : Bool). not t && lies_before v.block (room_of v.received) header (length bytes)) (not_answering v.block.state c.synchronized)
+    ∙ ap (λ (d : ℕ). not (d == 0) && (nat_le (segment_len header (length bytes)) d && nat_le d (room_of v.received + 2))) none))))
+    r

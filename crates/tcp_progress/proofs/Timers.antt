@@ -183,10 +183,10 @@ module _ (cx : ContextValue) (ip : IpRepr) (header : TcpHeader) (bytes : List �
 
   near_content : (x : TcpValue) → Bounded cx.moment x.block → Content cx ip header bytes NearAfter x
   near_content x h = record {
-    plain = kept_near cx.moment x.block (queued_in x) h;
-    fin = λ _ _. kept_near cx.moment (fin_taken x.block cx.moment) (queued_in x) h;
-    ordered = λ map _ _ _. kept_near cx.moment (taken_in_order x map).socket.block (queued_in x) h;
-    ordered_fin = λ map _ _ _. kept_near cx.moment (fin_taken (taken_in_order x map).socket.block cx.moment) (queued_in x) h;
+    plain = let it = kept_near cx.moment x.block (queued_in x) h in (λ _. it, it);
+    fin = λ _ _. let it = kept_near cx.moment (fin_taken x.block cx.moment) (queued_in x) h in (λ _. it, it);
+    ordered = λ map _ _ _. let it = kept_near cx.moment (taken_in_order x map).socket.block (queued_in x) h in (λ _. it, it);
+    ordered_fin = λ map _ _ _. let it = kept_near cx.moment (fin_taken (taken_in_order x map).socket.block cx.moment) (queued_in x) h in (λ _. it, it);
     early = λ _ _ _ _. kept_near cx.moment x.block (queued_in x) h;
   }
 

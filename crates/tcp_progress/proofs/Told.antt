@@ -19,7 +19,7 @@ use Rattle.tcp_rules.proofs.OrderSteps.{clash}
 use Rattle.tcp_model.specs.Settled.{nxt_past_held}
 use Rattle.tcp_model.specs.Timeout.{timeout_restarted}
 use Rattle.tcp_model.specs.Acknowledged.{counted, duplicates_after, names_window, ranges_taken, windowed, state_after_ack}
-use Rattle.tcp_model.specs.Answers.{answer_for, drawn}
+use Rattle.tcp_model.specs.Answers.{ack_due, acked, answer_for, answers_at_once, drawn}
 use Rattle.tcp_model.specs.Arrival.{arrives, arrives_in, checked, continued, draws_first, echo_heard, inside, is_void_syn, passed_outside, reset_comes}
 use Rattle.tcp_model.specs.Arrival.{taken, told, with_content}
 use Rattle.tcp_model.specs.declared.block.Block.{Block}
@@ -27,7 +27,7 @@ use Rattle.tcp_model.specs.Blocks.{unacked}
 use Rattle.tcp_model.specs.Checks.{Check, acknowledgement_check, is_in_window, opening_check, synchronized_check}
 use Rattle.tcp_model.specs.Checks.Check.{Passes, Resets}
 use Rattle.tcp_model.specs.Probing.{probe_kept}
-use Rattle.tcp_model.specs.Segments.{segment_len}
+use Rattle.tcp_model.specs.Segments.{no_ranges, segment_len}
 use Rattle.tcp_model.specs.declared.block.Sender.{Sender}
 use Rattle.tcp_model.specs.Text.{Texted, fin_taken, has_new_text, held_early, laid, taken_in_order, takes_fin, texted, with_bytes_at, with_fin, with_text}
 use Rattle.tcp_model.specs.Timestamps.{is_stale, stamp_taken}
@@ -40,7 +40,10 @@ use Rattle.tcp_progress.proofs.Taken.{Begins, begins, content_rises}
 
 module _ (cx : ContextValue) (ip : IpRepr) (header : TcpHeader) where
   answer_state : (v : TcpValue) (size : ℕ) (fills : Bool) (early : Option ℕ) → (answer_for cx v ip header size fills early).socket.block.state ≡ v.block.state
-  answer_state v size fills None = refl
+  answer_state v size fills None =
+      cond_both (answers_at_once cx v.block ip header size) (acked cx v ip header no_ranges)
+      (dropped (with_block v (ack_due v.block header size fills cx.moment))) (λ (a : Arrived). a.socket.block.state ≡ v.block.state)
+      (λ _. refl) (λ _. refl)
   answer_state v size fills (Some place) = refl
 
   abbrev Same : TcpValue → Texted → Type 0

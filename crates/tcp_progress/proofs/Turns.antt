@@ -32,7 +32,7 @@ use Rattle.tcp_progress.specs.Sent.{is_early, taken_in}
 use Rattle.tcp_progress.specs.Settle.{read_in, restart_in}
 use Rattle.tcp_progress.proofs.Kept.{reached_keeps}
 use Rattle.tcp_progress.proofs.Led.{leads_on}
-use Rattle.tcp_progress.proofs.Pair.{HasLess, HasSome, HasTaken, HasTold, Moved, below_quarter, further, had_in, has_some}
+use Rattle.tcp_progress.proofs.Pair.{HasLess, HasSome, HasTaken, HasTold, Moved, below_quarter, further, had_in, has_some, ahead_in}
 use Rattle.tcp_progress.proofs.Pair.{late_in, not_closed, reached_comes, still_open}
 use Rattle.tcp_progress.proofs.Positions.{IsPlaced, next_small, placed, una_small}
 use Rattle.tcp_progress.proofs.Roused.{refused_same, roused_calm, roused_other, roused_own, roused_reached}
@@ -249,12 +249,12 @@ module _ (X : Type 0) (p : PairValue) (side : Side) (r : IsReached p) (early : I
   reached : IsReached q
   reached = leads_on x side t o rx m.stream may m.wakes
 
-  moved : Moved X x side t
+  moved : Moved X X x side t
   moved = reached_comes x side t o rx m.stream may space
 
   told_less : HasTold x q side → to_do_for q side < to_do_for x side
   told_less h =
-      by (left_in q side) (had_in x side) (left_in x side) (total_in q side) (total_in x side) (taken_in q (other side)) (taken_in x (other side)) h.left h.had
+      by (left_in q side) (ahead_in x q side) (left_in x side) (total_in q side) (total_in x side) (taken_in q (other side)) (taken_in x (other side)) h.left h.had
       (total_same x q side since) (of_side x q (other side) since).taken
     where
       by : (new had left all total came taken : ℕ) → new + had ≡ left → 1 ≤ had → all ≡ total → taken ≤ came → new + (all - came) < left + (total - taken)

@@ -189,14 +189,22 @@ all_come (suc n) from k p late =
     both_next p (takes p (Deliver from k)) (comes n from (suc k) (takes p (Deliver from k))) first
     (all_come n from (suc k) (takes p (Deliver from k)) (late_after p (takes p (Deliver from k)) first late))
 
+-- an offer that comes, and what answers it
+pub offer_comes_calm : (p : PairValue) (side : Side) (moment : ℤ) → IsLate p → BothCalm p (offered_in p side moment)
+offer_comes_calm p side moment late =
+    let q = takes p (Offer side moment true) in
+    let first = offered p side moment late in
+    both_next p q (offered_in p side moment) first (delivered q side (next_sent p side) (late_after p q first late))
+
+pub answer_comes_calm : (p : PairValue) (side : Side) (moment : ℤ) → IsLate p → BothCalm (offered_in p side moment) (exchanged_in p side moment)
+answer_comes_calm p side moment late =
+    let r = offered_in p side moment in
+    all_come (next_sent r (other side) - next_sent p (other side)) (other side) (next_sent p (other side)) r
+    (late_after p r (offer_comes_calm p side moment late) late)
+
 pub exchanged : (p : PairValue) (side : Side) (moment : ℤ) → IsLate p → BothCalm p (exchanged_in p side moment)
 exchanged p side moment late =
-    let q = takes p (Offer side moment true) in
-    let r = offered_in p side moment in
-    let first = offered p side moment late in
-    let second = both_next p q r first (delivered q side (next_sent p side) (late_after p q first late)) in
-    both_next p r (exchanged_in p side moment) second
-    (all_come (next_sent r (other side) - next_sent p (other side)) (other side) (next_sent p (other side)) r (late_after p r second late))
+    both_next p (offered_in p side moment) (exchanged_in p side moment) (offer_comes_calm p side moment late) (answer_comes_calm p side moment late)
 
 -- a user reads: what was taken stays
 record Same (p q : Past) : Type 0 where

@@ -325,7 +325,13 @@ module _ (cx : ContextValue) (ip : IpRepr) (header : TcpHeader) (bytes : List �
   wide_drawing x w = record { answers = λ _. w; at_once = w; pauses = w }
 
   wide_content : (x : TcpValue) → Wide x.block → Content cx ip header bytes WideAfter x
-  wide_content x w = record { plain = w; fin = λ _ _. w; ordered = λ _ _ _ _. w; ordered_fin = λ _ _ _ _. w; early = λ _ _ _ _. w }
+  wide_content x w = record {
+    plain = (λ _. w, w);
+    fin = λ _ _. (λ _. w, w);
+    ordered = λ _ _ _ _. (λ _. w, w);
+    ordered_fin = λ _ _ _ _. (λ _. w, w);
+    early = λ _ _ _ _. w;
+  }
 
   risen : (u : TcpValue) (by : ℕ) → Wide u.block → Wide (acked_open (timed cx.moment header u by) by cx.moment).block
   risen u by w = acked_wide (timed cx.moment header u by).block by (queued_in u) cx.moment (undone_wide u.block header by (queued_in u) cx.moment w)

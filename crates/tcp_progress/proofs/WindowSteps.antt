@@ -30,7 +30,7 @@ use Rattle.tcp_rules.specs.Reply.{Reply}
 use Rattle.tcp_rules.specs.State.{State}
 use Rattle.tcp_rules.specs.State.TheVariants as In
 use Rattle.tcp_rules.specs.States.{is_closed, is_answering, sends_syn, sends_text, takes_text, keeps_alive, owes_fin, after_ack, after_ack_of_fin, after_fin}
-use Rattle.tcp_rules.proofs.ArrivalCases.{by_arrival, Received, Opening, Content, Drawing, acked_open, heeded, timed}
+use Rattle.tcp_rules.proofs.ArrivalCases.{by_arrival, Received, Opening, Content, Drawing, Told, acked_open, heeded, kept, timed}
 use Rattle.tcp_rules.proofs.EdgeSteps.{front_behind, own_distance}
 use Rattle.tcp_rules.proofs.OfferCases.{FirstRules, LastRules, by_rules, begun, probing}
 use Rattle.tcp_rules.proofs.OrderRules.{control_least}
@@ -41,7 +41,7 @@ use Rattle.tcp_model.specs.Scoreboard.{first_missing}
 use Rattle.tcp_model.specs.Acknowledged.{acknowledged, acks_fin, counted, duplicates_after, freed_by, ranges_taken, scaled, state_after_ack, windowed}
 use Rattle.tcp_model.specs.Answers.{acked, drawn, may_draw, with_draw}
 use Rattle.tcp_model.specs.Arrival.{arrives, arrives_in, challenges_reset, checked, draws_first, echo_heard, inside, is_void_syn, outside}
-use Rattle.tcp_model.specs.Arrival.{has_length, passed_outside, received, reset_comes, taken, takes_reset, tells_news, waiting_anew}
+use Rattle.tcp_model.specs.Arrival.{passed_outside, received, reset_comes, taken, takes_reset, tells_news, waiting_anew}
 use Rattle.tcp_model.specs.declared.block.Block.{Block}
 use Rattle.tcp_model.specs.Blocks.{one_if, own_scale, unacked}
 use Rattle.tcp_model.specs.Calls.{listening}
@@ -53,9 +53,10 @@ use Rattle.tcp_model.specs.Probing.{is_probing}
 use Rattle.tcp_model.specs.Retries.{asked, heard, one_more}
 use Rattle.tcp_model.specs.Rules.{Choice, backed_off_now, congestion_limit, control_for, fin_goes, next_place, owes_syn, probe_choice, resend_choice}
 use Rattle.tcp_model.specs.Rules.{sent_places, size_limit, text_choice, congestion_room}
-use Rattle.tcp_model.specs.Segments.{hops_of, keep_alive_segment, no_ranges, segment, syn_segment}
+use Rattle.tcp_model.specs.Segments.{hops_of, keep_alive_segment, no_ranges, segment, syn_segment, has_length}
 use Rattle.tcp_model.specs.Settled.{end_of, probed, recorded, settled}
 use Rattle.tcp_model.specs.Timestamps.{stamp_taken}
+use Rattle.tcp_model.specs.Text.{fin_taken, is_holding, taken_in_order}
 use Rattle.tcp_model.specs.Value.{TcpValue, Arrived, with_block, unoffered, dropped, ended, queued_in, free_in, room_of, window_of}
 use Rattle.tcp_model.specs.declared.block.CongestionControl.{CongestionControl}
 use Rattle.tcp_model.specs.declared.block.CongestionControl.TheVariants as Avoids
@@ -256,16 +257,20 @@ module _ (cx : ContextValue) (ip : IpRepr) (header : TcpHeader) (bytes : List �
   finished_fit : (x : TcpValue) → IsFit own theirs (fit_of x) → Scaled x → IsFit own theirs (record (fit_of x) { state = after_fin x.block.state })
   finished_fit x h scaled = moved_on own theirs (fit_of x) (after_fin x.block.state) h (λ _. scaled) (before_fin x.block.state)
 
+  answered : (y : TcpValue) (fills : Bool) → IsFit own theirs (fit_of y) → Scaled y → Told cx ip header bytes Out y fills
+  answered y fills h scaled = (λ _. (h, tt), (h, plain_announces own _ refl (told y h scaled)))
+
   content : (x : TcpValue) → IsFit own theirs (fit_of x) → Scaled x → Content cx ip header bytes Out x
   content x h scaled = record {
-    plain = (h, tt);
-    fin = λ _ _. (finished_fit x h scaled, tt);
-    ordered = λ map is _ _. (with_room own theirs (fit_of x) _ (as_large map x.received.waiting (free_in x) is) h, tt);
-    ordered_fin = λ map is _ _. (
-      with_room own theirs (record (fit_of x) { state = after_fin x.block.state }) _ (as_large map x.received.waiting (free_in x) is)
-          (finished_fit x h scaled),
-      tt,
-    );
+    plain = answered (kept x x.block) false h scaled;
+    fin = λ _ _. answered (kept x (fin_taken x.block cx.moment)) false (finished_fit x h scaled) scaled;
+    ordered = λ map is _ _.
+        answered (kept (taken_in_order x map).socket (taken_in_order x map).socket.block) (is_holding x)
+        (with_room own theirs (fit_of x) _ (as_large map x.received.waiting (free_in x) is) h) scaled;
+    ordered_fin = λ map is _ _.
+        answered (kept (taken_in_order x map).socket (fin_taken (taken_in_order x map).socket.block cx.moment)) (is_holding x)
+        (with_room own theirs (record (fit_of x) { state = after_fin x.block.state }) _ (as_large map x.received.waiting (free_in x) is)
+        (finished_fit x h scaled)) scaled;
     early = λ map place is _.
         let g = with_room own theirs (fit_of x) (length x.received.waiting + length map) (ap (λ (n : ℕ). length x.received.waiting + n) is) h in (
           g,

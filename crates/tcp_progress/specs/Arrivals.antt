@@ -17,7 +17,7 @@ use Rattle.tcp_model.specs.Checks.{is_in_window, lies_before}
 use Rattle.tcp_model.specs.Segments.{segment_len}
 use Rattle.tcp_model.specs.Value.{TcpValue, Arrived, free_in, room_of}
 use Rattle.tcp_model.specs.declared.block.Block.{Block}
-use Rattle.tcp_rules.specs.Acks.{IsDueWithin}
+use Rattle.tcp_rules.specs.Acks.{IsAcknowledged, IsOwed}
 use Rattle.tcp_rules.specs.Events.{is_past}
 use Rattle.tcp_progress.specs.Clocks.{comes_stale}
 
@@ -59,16 +59,17 @@ pub record IsNew (v : TcpValue) (header : TcpHeader) (size : ℕ) : Type 0 where
 abbrev pub new_text : TcpValue → TcpHeader → ℕ → ℕ
 new_text v header size = size - distance_of header.seq_number v.block.receiver.next
 
--- RCV.NXT rises: by one position at least, by all new text that the window has room for, and an acknowledgement of it is due
+-- RCV.NXT rises: by one position at least, and by all new text that the window has room for, and the connection goes on. What was taken is
+-- acknowledged at once, or nothing answers it and an acknowledgement of it is due within the delay.
 pub record Rises (cx : ContextValue) (v : TcpValue) (header : TcpHeader) (size : ℕ) (a : Arrived) : Type 0 where
   pub by : ℕ
   pub next : a.socket.block.receiver.next ≡ behind_by v.block.receiver.next by
   pub some : 1 ≤ by
   pub all : min (new_text v header size) (free_in v) ≤ by
-  -- nothing answers it at once, and its text waits to be read
-  pub silent : a.answer ≡ None
+  -- its text waits to be read
   pub waits : by ≤ length a.socket.received.waiting + 1
-  pub due : IsDueWithin a.socket.block.timers.ack_at (delayed cx.moment v.block.settings.ack_delay)
+  pub on : is_synchronized a.socket.block.state ≡ true
+  pub acknowledged : IsAcknowledged a ⊎ IsOwed a (delayed cx.moment v.block.settings.ack_delay)
 
 -- The segment lies wholly before RCV.NXT: all of it was taken already.
 pub record IsAgain (v : TcpValue) (header : TcpHeader) (size : ℕ) : Type 0 where

@@ -46,8 +46,8 @@ abbrev pub HasSpace : TcpValue → TcpValue → Type 0
 HasSpace v partner =
     (distance_of v.block.receiver.next (top partner.block) ≡ 0) ⊎ (distance_of v.block.receiver.next (top partner.block) < free_in v)
 
--- What the partner answers can lie inside the window; or the side knows of all that the partner took, so that what it sends is new, and waits
--- for no answer at once.
+-- What the partner answers can lie inside the window; or the side knows of all that the partner took, so that what it sends is new, and is
+-- taken whether or not the side hears of it.
 abbrev pub CanHear : TcpValue → TcpValue → Type 0
 CanHear v partner = HasSpace v partner ⊎ (partner.block.receiver.next ≡ v.block.sender.una)
 
@@ -96,7 +96,7 @@ pub record MayReach (cx cy : ContextValue) (u w : TcpValue) (o : OpenOffer) : Ty
   pub answer_fresh :
       (reply : Reply) → (offer_comes cy w u o).answer ≡ Some reply → comes_stale u.block reply.segment.options.timestamp ≡ false
 
--- RCV.NXT of the partner rises, by what there is room for, and its acknowledgement is due
+-- RCV.NXT of the partner rises, by what there is room for, and that is acknowledged at once, or its acknowledgement is due
 pub record IsTaken (cy : ContextValue) (partner : TcpValue) (header : TcpHeader) (size : ℕ) (a : Arrived) : Type 0 where
   pub rises : Rises cy partner header size a
   pub next : MovesOn partner.block.receiver.next a.socket.block.receiver.next

@@ -1,12 +1,14 @@
-//! That a bare acknowledgement counts, though it is old.
+//! That a bare acknowledgement counts, though it is old, and isn't answered.
 
-ghost use Rattle.std.specs.Prelude.{◌≡◌, []};
+ghost use Rattle.std.specs.Prelude.{◌≡◌, true, [], None};
 ghost use Rattle.ip_wire.specs.IpRepr.{IpRepr};
 ghost use Rattle.ip_wire.specs.SeqNumber.{SeqNumber};
 ghost use Rattle.ip_wire.specs.TcpHeader.{TcpHeader};
 ghost use Rattle.tcp_tie.specs.Context.{ContextValue};
 ghost use Rattle.tcp_model.specs.Arrival.{arrives};
-ghost use Rattle.tcp_model.specs.Value.{TcpValue};
+ghost use Rattle.tcp_model.specs.Checks.{is_in_window};
+ghost use Rattle.tcp_model.specs.Segments.{segment_len};
+ghost use Rattle.tcp_model.specs.Value.{TcpValue, free_in};
 ghost use Rattle.tcp_progress.specs.Arrivals.{Counts};
 ghost use Rattle.tcp_progress.specs.Bare.{IsBareBefore};
 
@@ -16,4 +18,11 @@ ghost use Rattle.tcp_progress.specs.Bare.{IsBareBefore};
 pub fn a_bare_old_acknowledgement_counts()
     ensures rises { (cx : ContextValue) (v : TcpValue) (ip : IpRepr) (header : TcpHeader) (number : SeqNumber) → Counts v.block header number
         → IsBareBefore v header → (arrives cx v ip header []).socket.block.sender.una.0 ≡ number.0 }
+{}
+
+/// However much came since the last acknowledgement, a bare one in the window isn't answered: else two sides would answer each other's
+/// for ever.
+pub fn a_bare_acknowledgement_is_not_answered()
+    ensures silent { (cx : ContextValue) (v : TcpValue) (ip : IpRepr) (header : TcpHeader) (number : SeqNumber) → Counts v.block header number
+        → segment_len header 0 ≡ 0 → is_in_window v.block (free_in v) header 0 ≡ true → (arrives cx v ip header []).answer ≡ None }
 {}

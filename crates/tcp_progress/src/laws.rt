@@ -63,7 +63,7 @@ pub fn an_acknowledgement_raises_snd_una()
 {}
 
 /// A segment that begins at RCV.NXT or before it, and ends past it, raises it: by a position at least, by all of its new text that the
-/// window has room for, and its acknowledgement is due within the delay.
+/// window has room for, and it is acknowledged at once, or its acknowledgement is due within the delay.
 pub fn text_in_order_raises_rcv_nxt()
     ensures rises { (cx : ContextValue) (v : TcpValue) (ip : IpRepr) (header : TcpHeader) (bytes : List ℕ) (number : SeqNumber)
         → Counts v.block header number → IsNew v header (length bytes) → Rises cx v header (length bytes) (arrives cx v ip header bytes) }
@@ -144,7 +144,7 @@ pub fn a_side_takes_only_what_was_sent()
 {}
 
 /// An exchange: a side with nothing in flight, or whose timer has run out, offers text or a FIN, and it comes. Then RCV.NXT of the partner
-/// rises, and its acknowledgement is due; or the partner has it already, and its answer, as soon as it comes, raises SND.UNA; or it ends
+/// rises, and it is acknowledged at once, or an acknowledgement is due; or the partner has it already, and its answer, as soon as it comes, raises SND.UNA; or it ends
 /// LAST-ACK of the partner.
 pub fn an_exchange_goes_on()
     ensures moved { (cx cy cz : ContextValue) (v w : TcpValue) (p q : Past) (k : Keeps v p w q) (o : OpenOffer)

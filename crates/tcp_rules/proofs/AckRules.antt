@@ -1,40 +1,45 @@
 -- An acknowledgement that is due.
-use Rattle.std.proofs.Common.{◌≡◌, ◌⊎◌, inl, inr, ⊎_elim, take, ℕ, ◌==◌, ◌&&◌, ◌||◌, min, not, ℤ, ◌≤ℤ◌, int_le, int_lt, pos, ◌+ℤ◌, Bool, true, false}
+use Rattle.std.proofs.Common.{◌≡◌, ◌⊎◌, inl, inr, ⊎_elim, take, ℕ, ◌+◌, ◌*◌, ◌<◌, ◌==◌, ◌&&◌, ◌||◌, min, not, ℤ, ◌≤ℤ◌, int_le, int_lt, pos, ◌+ℤ◌, Bool, true, false}
 use Rattle.std.proofs.Common.{if◌then◌else◌, List, length, Option, Some, None, is_some, refl, sym, ap, ◌∙◌, subst, arith}
-use Rattle.std.proofs.lemmas.Bool.{cond_both}
+use Rattle.std.proofs.lemmas.Bool.{cond_both, eq-eqb, ne_eqb, leb-false}
 use Rattle.std.proofs.lemmas.Int.{ints}
+use Rattle.ip_wire.specs.Control.{control_len}
 use Rattle.ip_wire.specs.IpRepr.{IpRepr}
+use Rattle.ip_wire.specs.Seq.{distance_of}
+use Rattle.ip_wire.specs.TcpControl.{TcpControl}
+use Rattle.ip_wire.specs.TcpControl.TheVariants as Control
 use Rattle.ip_wire.specs.TcpHeader.{TcpHeader}
 use Rattle.net_base.specs.Ring.{anchored, enqueued}
 use Rattle.net_base.specs.Time.{last_moment}
 use Rattle.tcp_model.specs.Context.{ContextValue}
 use Rattle.tcp_model.specs.BaseOffers.{Offered}
 use Rattle.tcp_control.specs.Controls.{is_fin}
+use Rattle.tcp_control.specs.Endpoints.{addresses_in, pair_in}
 use Rattle.tcp_control.specs.Moments.{is_due, earlier}
 use Rattle.tcp_control.specs.States.{is_closed, is_opening, is_time_wait, takes_writes, after_close}
 use Rattle.tcp_control.specs.declared.endpoints.EndpointPair.{EndpointPair}
 use Rattle.tcp_control.specs.declared.offer.OpenOffer.{OpenOffer}
 use Rattle.tcp_control.specs.declared.state.State.{State}
 use Rattle.tcp_control.specs.declared.state.State.TheVariants as In
-use Rattle.tcp_model.specs.Answers.{delayed, sooner, ack_moment_after}
+use Rattle.tcp_model.specs.Answers.{acked, answers_at_once, came_twice, delayed, sooner, ack_moment_after}
 use Rattle.tcp_model.specs.Arrival.{arrives}
 use Rattle.tcp_model.specs.Calls.{listening, connected_by, pair_for, sent_more}
 use Rattle.tcp_model.specs.Offers.{offer_of, offer_syn, silent}
-use Rattle.tcp_model.specs.Rules.{ack_moment}
-use Rattle.tcp_model.specs.Segments.{next_if_heard}
+use Rattle.tcp_model.specs.Rules.{ack_moment, size_limit}
+use Rattle.tcp_model.specs.Segments.{has_length, hops_of, next_if_heard, no_ranges, reply_to, sack_segment}
 use Rattle.tcp_model.specs.Settled.{settled, sent_off}
 use Rattle.tcp_model.specs.Text.{is_holding, taken_in_order, fin_taken}
 use Rattle.tcp_model.specs.Timeout.{timed_out}
-use Rattle.tcp_model.specs.Value.{TcpValue, Arrived, with_block, unoffered, ended}
+use Rattle.tcp_model.specs.Value.{TcpValue, Arrived, with_block, unoffered, ended, window_of}
 use Rattle.tcp_model.specs.declared.block.Block.{Block}
 use Rattle.tcp_model.specs.declared.block.Receiver.{Receiver}
 use Rattle.tcp_model.specs.FirstNumbers.{number_for}
-use Rattle.tcp_rules.specs.Acks.{IsDueWithin, OffersAck, answer_acks, offer_acks, IsBy, IsDueBy, StaysDue}
+use Rattle.tcp_rules.specs.Acks.{IsDueWithin, IsAcknowledged, IsAcknowledgedBy, IsAcknowledgedTwice, OffersAck, answer_acks, offer_acks, IsBy, IsDueBy, StaysDue}
 use Rattle.tcp_rules.specs.Ends.{GoesOn}
 use Rattle.tcp_rules.specs.Events.{Event, Setting, set, is_past}
 use Rattle.tcp_rules.specs.Events.Setting.{Timeout, KeepAlive, AckDelay, Nagle, HopLimit, Timestamps, Paused, Retries, Congestion, MinRto, FineTimer}
 use Rattle.tcp_rules.specs.Events.Event.{Comes, Asked, Listens, Connects, Sends, Reads, Closes, Aborts, Sets}
-use Rattle.tcp_rules.proofs.ArrivalCases.{by_arrival, Received, Opening, Content, Drawing, kept}
+use Rattle.tcp_rules.proofs.ArrivalCases.{by_arrival, Received, Opening, Content, Drawing, Told, kept}
 use Rattle.tcp_rules.proofs.OfferCases.{Rules, FirstRules, LastRules, by_rules, probing}
 
 -- THE MOMENT
@@ -127,27 +132,68 @@ module _ (b : Block) (header : TcpHeader) (size : ℕ) (fills : Bool) (now : ℤ
 pub is_in : (state : State) → is_past state ≡ true → (state ≡ In.Listen → ⊥) × (state ≡ In.SynSent → ⊥)
 is_in state past = (λ at. absurd (let clash = ap is_past at in cc), λ at. absurd (let clash = ap is_past at in cc))
 
+-- what is acknowledged at once
+pub at_once_acknowledged : (cx : ContextValue) (ip : IpRepr) (header : TcpHeader) (y : TcpValue) → IsAcknowledged (acked cx y ip header no_ranges)
+at_once_acknowledged cx ip header y = record {
+  reply = reply_to ip (hops_of y.block.settings.hop_limit) (sack_segment y.block (pair_in ip header) cx.moment (window_of y) no_ranges);
+  answer = refl;
+  acknowledges = refl;
+  bare = refl;
+  plain = refl;
+}
+
+-- a segment with text or a FIN
+text_long : (header : TcpHeader) (size : ℕ) → (size == 0) ≡ false → has_length header size ≡ true
+text_long header size some = ap not (ne_eqb (size + control_len header.control) 0 (by (control_len header.control))) where
+  by : (n : ℕ) → size + n ≡ 0 → ⊥
+  by n e = let zero_size : size ≡ 0 = omega arith in let clash : true ≡ false = sym (eq-eqb size 0 zero_size) ∙ some in cc
+
+fin_long : (header : TcpHeader) (size : ℕ) → is_fin header.control ≡ true → has_length header size ≡ true
+fin_long header size fin = at header.control fin where
+  at : (control : TcpControl) → is_fin control ≡ true → not (size + control_len control == 0) ≡ true
+  at Control.Fin e = ap not (ne_eqb (size + 1) 0 some) where
+    some : size + 1 ≡ 0 → ⊥
+    some e = absurd (omega arith)
+  at other e = absurd (cc)
+
 module _ (cx : ContextValue) (v : TcpValue) (ip : IpRepr) (header : TcpHeader) (bytes : List ℕ) (past : is_past v.block.state ≡ true) where
   abbrev Due : Arrived → Type 0
   Due a =
       is_past a.socket.block.state ≡ true → (a.socket.block.receiver.next ≡ v.block.receiver.next → ⊥)
-      → IsDueWithin a.socket.block.timers.ack_at (delayed cx.moment v.block.settings.ack_delay)
+      → IsAcknowledgedBy a (delayed cx.moment v.block.settings.ack_delay)
 
   due_content : (x : TcpValue) → x.block.receiver.next ≡ v.block.receiver.next → x.block.settings.ack_delay ≡ v.block.settings.ack_delay →
       Content cx ip header bytes Due x
   due_content x next delay = record {
-    plain = λ _ moved. absurd (moved next);
-    fin = λ fin _ _ _. again _ (within_fin (kept x (fin_taken x.block cx.moment)).block header (length bytes) false cx.moment fin);
-    ordered = λ map _ _ some _ _.
-        let t = (taken_in_order x map).socket in again _ (within_text (kept t t.block).block header (length bytes) (is_holding x) cx.moment some);
-    ordered_fin = λ map _ fin _ _ _.
+    plain = (λ _ _ moved. absurd (moved next), λ _ moved. absurd (moved next));
+    fin = λ fin _.
+        told_by (kept x (fin_taken x.block cx.moment)) false (within_fin (kept x (fin_taken x.block cx.moment)).block header (length bytes) false cx.moment fin);
+    ordered = λ map _ _ some.
         let t = (taken_in_order x map).socket in
-        again _ (within_fin (kept t (fin_taken t.block cx.moment)).block header (length bytes) (is_holding x) cx.moment fin);
+        told_by (kept t t.block) (is_holding x) (within_text (kept t t.block).block header (length bytes) (is_holding x) cx.moment some);
+    ordered_fin = λ map _ fin _.
+        let t = (taken_in_order x map).socket in
+        told_by (kept t (fin_taken t.block cx.moment)) (is_holding x)
+        (within_fin (kept t (fin_taken t.block cx.moment)).block header (length bytes) (is_holding x) cx.moment fin);
     early = λ map place _ _ _ moved. absurd (moved next);
   }
     where
-      again : (at : Option ℤ) → IsDueWithin at (delayed cx.moment x.block.settings.ack_delay) → IsDueWithin at (delayed cx.moment v.block.settings.ack_delay)
-      again at d = subst (λ (delay : Option ℕ). IsDueWithin at (delayed cx.moment delay)) delay d
+      -- it is acknowledged at once, or later
+      told_by : (y : TcpValue) (fills : Bool)
+          → IsDueWithin (ack_moment_after y.block header (length bytes) fills cx.moment) (delayed cx.moment x.block.settings.ack_delay)
+          → Told cx ip header bytes Due y fills
+      told_by y fills d = (
+        λ _ _ _.
+            inr
+            (record {
+              silent = refl;
+              due =
+                  subst
+                  (λ (wait : Option ℕ). IsDueWithin (ack_moment_after y.block header (length bytes) fills cx.moment) (delayed cx.moment wait))
+                  delay d;
+            }),
+        λ _ _. inl (at_once_acknowledged cx ip header y),
+      )
 
   due_drawing : (x : TcpValue) → x.block.receiver.next ≡ v.block.receiver.next → Drawing cx ip header bytes Due x
   due_drawing x next = record { answers = λ _ _ moved. absurd (moved next); at_once = λ _ moved. absurd (moved next); pauses = λ _ moved. absurd (moved next) }
@@ -179,16 +225,73 @@ module _ (cx : ContextValue) (v : TcpValue) (ip : IpRepr) (header : TcpHeader) (
   due_arrival : Due (arrives cx v ip header bytes)
   due_arrival = by_arrival cx ip header bytes Due v (λ _ moved. absurd (moved refl)) (λ _. due_opening) (λ _. due_received)
 
+  abbrev Twice : Arrived → Type 0
+  Twice a =
+      is_past a.socket.block.state ≡ true → (a.socket.block.receiver.next ≡ v.block.receiver.next → ⊥) → IsAcknowledgedTwice cx ip a
+
+  -- where it isn't answered at once, too little came
+  too_little : (b : Block) → has_length header (length bytes) ≡ true → answers_at_once cx b ip header (length bytes) ≡ false →
+      distance_of b.receiver.last_ack b.receiver.next < 2 * size_limit b (addresses_in ip) cx.ip_mtu
+  too_little b long not =
+      leb-false (2 * size_limit b (addresses_in ip) cx.ip_mtu) (distance_of b.receiver.last_ack b.receiver.next)
+      (sym (ap (λ (t : Bool). t && came_twice cx b ip) long) ∙ not)
+
+  twice_content : (x : TcpValue) → x.block.receiver.next ≡ v.block.receiver.next → Content cx ip header bytes Twice x
+  twice_content x next = record {
+    plain = (λ _ _ moved. absurd (moved next), λ _ moved. absurd (moved next));
+    fin = λ fin _. little_by (kept x (fin_taken x.block cx.moment)) false (fin_long header (length bytes) fin);
+    ordered = λ map _ _ some.
+        let t = (taken_in_order x map).socket in
+        little_by (kept t t.block) (is_holding x) (text_long header (length bytes) some);
+    ordered_fin = λ map _ fin _.
+        let t = (taken_in_order x map).socket in
+        little_by (kept t (fin_taken t.block cx.moment)) (is_holding x) (fin_long header (length bytes) fin);
+    early = λ map place _ _ _ moved. absurd (moved next);
+  }
+    where
+      little_by : (y : TcpValue) (fills : Bool) → has_length header (length bytes) ≡ true → Told cx ip header bytes Twice y fills
+      little_by y fills long = (λ not _ _. inr (too_little y.block long not), λ _ _. inl (at_once_acknowledged cx ip header y))
+
+  twice_drawing : (x : TcpValue) → x.block.receiver.next ≡ v.block.receiver.next → Drawing cx ip header bytes Twice x
+  twice_drawing x next = record { answers = λ _ _ moved. absurd (moved next); at_once = λ _ moved. absurd (moved next); pauses = λ _ moved. absurd (moved next) }
+
+  twice_received : Received cx ip header bytes Twice (unoffered v)
+  twice_received = record {
+    stays = λ _ moved. absurd (moved refl);
+    refuses = λ _ moved. absurd (moved refl);
+    draws = twice_drawing _ refl;
+    falls = λ _ _ _ is_in _. absurd (cc);
+    ends = λ _ _ _ is_in _. absurd (cc);
+    closes = λ by _ _ is_in _. absurd (cc);
+    taken = λ by _ _. twice_content _ refl;
+    taken_window = λ by _ _. twice_content _ refl;
+    news = λ by _ _. twice_drawing _ refl;
+    outside = twice_drawing _ refl;
+    old = λ _. twice_content _ refl;
+  }
+
+  twice_opening : Opening cx ip header bytes Twice (unoffered v)
+  twice_opening = record {
+    opens = λ at _. absurd ((is_in v.block.state past).0 at);
+    refuses = λ _ moved. absurd (moved refl);
+    ends = λ at. absurd ((is_in v.block.state past).1 at);
+    connects = λ at _. absurd ((is_in v.block.state past).1 at);
+    crosses = λ at _. absurd ((is_in v.block.state past).1 at);
+  }
+
+  twice_arrival : Twice (arrives cx v ip header bytes)
+  twice_arrival = by_arrival cx ip header bytes Twice v (λ _ moved. absurd (moved refl)) (λ _. twice_opening) (λ _. twice_received)
+
   module _ (t : ℤ) (by_then : int_le cx.moment t ≡ true) where
     abbrev Stays : Arrived → Type 0
     Stays a = (is_past a.socket.block.state ≡ false) ⊎ ((answer_acks a.answer ≡ true) ⊎ IsDueBy t a.socket.block)
 
     stays_content : (x : TcpValue) → IsDueBy t x.block → Content cx ip header bytes Stays x
     stays_content x due = record {
-      plain = inr (inr (still_due x.block header (length bytes) false cx.moment t by_then due));
-      fin = λ _ _. inr (inr (still_due x.block header (length bytes) false cx.moment t by_then due));
-      ordered = λ map _ _ _. inr (inr (still_due x.block header (length bytes) (is_holding x) cx.moment t by_then due));
-      ordered_fin = λ map _ _ _. inr (inr (still_due x.block header (length bytes) (is_holding x) cx.moment t by_then due));
+      plain = (λ _. inr (inr (still_due x.block header (length bytes) false cx.moment t by_then due)), inr (inl refl));
+      fin = λ _ _. (λ _. inr (inr (still_due x.block header (length bytes) false cx.moment t by_then due)), inr (inl refl));
+      ordered = λ map _ _ _. (λ _. inr (inr (still_due x.block header (length bytes) (is_holding x) cx.moment t by_then due)), inr (inl refl));
+      ordered_fin = λ map _ _ _. (λ _. inr (inr (still_due x.block header (length bytes) (is_holding x) cx.moment t by_then due)), inr (inl refl));
       early = λ map place _ _. inr (inl refl);
     }
 
@@ -226,8 +329,15 @@ pub due_after_text :
     (cx : ContextValue) (v : TcpValue) (ip : IpRepr) (header : TcpHeader) (bytes : List ℕ) → is_past v.block.state ≡ true
     → is_past (arrives cx v ip header bytes).socket.block.state ≡ true
     → ((arrives cx v ip header bytes).socket.block.receiver.next ≡ v.block.receiver.next → ⊥)
-    → IsDueWithin (arrives cx v ip header bytes).socket.block.timers.ack_at (delayed cx.moment v.block.settings.ack_delay)
+    → IsAcknowledgedBy (arrives cx v ip header bytes) (delayed cx.moment v.block.settings.ack_delay)
 due_after_text cx v ip header bytes past = due_arrival cx v ip header bytes past
+
+pub twice_after_text :
+    (cx : ContextValue) (v : TcpValue) (ip : IpRepr) (header : TcpHeader) (bytes : List ℕ) → is_past v.block.state ≡ true
+    → is_past (arrives cx v ip header bytes).socket.block.state ≡ true
+    → ((arrives cx v ip header bytes).socket.block.receiver.next ≡ v.block.receiver.next → ⊥)
+    → IsAcknowledgedTwice cx ip (arrives cx v ip header bytes)
+twice_after_text cx v ip header bytes past = twice_arrival cx v ip header bytes past
 
 -- IT IS ASKED
 

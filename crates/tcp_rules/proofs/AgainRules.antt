@@ -91,7 +91,13 @@ module _ (cx : ContextValue) (ip : IpRepr) (header : TcpHeader) (bytes : List �
 
   content : (x : TcpValue) → FitsIn x.block → Content cx ip header bytes Kept x
   content x f =
-      record { plain = inr f; fin = λ _ _. inr f; ordered = λ _ _ _ _. inr f; ordered_fin = λ _ _ _ _. inr f; early = λ _ _ _ _. inr f }
+      record {
+        plain = (λ _. inr f, inr f);
+        fin = λ _ _. (λ _. inr f, inr f);
+        ordered = λ _ _ _ _. (λ _. inr f, inr f);
+        ordered_fin = λ _ _ _ _. (λ _. inr f, inr f);
+        early = λ _ _ _ _. inr f;
+      }
 
   drawing : (x : TcpValue) → FitsIn x.block → Drawing cx ip header bytes Kept x
   drawing x f = record { answers = λ _. inr f; at_once = inr f; pauses = inr f }

@@ -16,8 +16,8 @@ use Rattle.net_base.specs.Ring.{released}
 use Rattle.tcp_model.specs.Acknowledged.{acknowledged, duplicates_after, names_window, windowed, ranges_taken, counted, ended_if, in_state}
 use Rattle.tcp_model.specs.Acknowledged.{una_moved, state_after_ack, freed_by}
 use Rattle.tcp_model.specs.Blocks.{forgotten}
-use Rattle.tcp_model.specs.Answers.{drawn, may_draw, with_draw, acked, answer_for, ranges_held, ack_due}
-use Rattle.tcp_model.specs.Arrival.{waiting_anew, outside, passed_outside, tells_news, has_length, comes_again, finished, with_content, told, taken}
+use Rattle.tcp_model.specs.Answers.{drawn, may_draw, with_draw, acked, answer_for, answers_at_once, ranges_held, ack_due}
+use Rattle.tcp_model.specs.Arrival.{waiting_anew, outside, passed_outside, tells_news, comes_again, finished, with_content, told, taken}
 use Rattle.tcp_model.specs.Arrival.{inside, checked, continued}
 use Rattle.tcp_model.specs.Arrival.{takes_reset, challenges_reset, reset_comes, draws_first, echo_heard, received, arrives_in, arrives, is_void_syn}
 use Rattle.tcp_model.specs.Calls.{listening}
@@ -26,7 +26,7 @@ use Rattle.tcp_model.specs.Checks.Check.{Passes, Old, Drops, Draws, Resets}
 use Rattle.tcp_model.specs.Opening.{is_first_syn, opens, takes_answer, acks_syn, syn_answered, connected, crossed, answering}
 use Rattle.tcp_model.specs.Probing.{probe_kept}
 use Rattle.tcp_model.specs.Retries.{heard}
-use Rattle.tcp_model.specs.Segments.{no_ranges, rst_reply}
+use Rattle.tcp_model.specs.Segments.{no_ranges, rst_reply, has_length}
 use Rattle.tcp_model.specs.Settled.{nxt_past_held}
 use Rattle.tcp_model.specs.Text.{Texted, texted, with_bytes_at, taken_in_order, held_early, is_holding, laid, has_new_text}
 use Rattle.tcp_model.specs.Text.{takes_fin, fin_taken, is_at_fin}
@@ -108,16 +108,21 @@ module _ (cx : ContextValue) (ip : IpRepr) (header : TcpHeader) (bytes : List �
   abbrev pub due : TcpValue → Bool → TcpValue
   due y fills = with_block y (ack_due y.block header (length bytes) fills cx.moment)
 
+  -- what was taken is acknowledged later, where too little came to be answered at once, or at once
+  abbrev pub Told : TcpValue → Bool → Type 0
+  Told y fills =
+      (answers_at_once cx y.block ip header (length bytes) ≡ false → Q (dropped (due y fills))) × Q (acked cx y ip header no_ranges)
+
   -- its text and its FIN
   pub record Content (x : TcpValue) : Type 0 where
-    pub plain : Q (dropped (due (kept x x.block) false))
-    pub fin : is_fin header.control ≡ true → takes_text x.block.state ≡ true → Q (dropped (due (kept x (fin_taken x.block cx.moment)) false))
+    pub plain : Told (kept x x.block) false
+    pub fin : is_fin header.control ≡ true → takes_text x.block.state ≡ true → Told (kept x (fin_taken x.block cx.moment)) false
     pub ordered :
         (map : List (Option ℕ)) → length map ≡ free_in x → takes_text x.block.state ≡ true → (length bytes == 0) ≡ false
-        → Q (dropped (due (kept (taken_in_order x map).socket (taken_in_order x map).socket.block) (is_holding x)))
+        → Told (kept (taken_in_order x map).socket (taken_in_order x map).socket.block) (is_holding x)
     pub ordered_fin :
         (map : List (Option ℕ)) → length map ≡ free_in x → is_fin header.control ≡ true → takes_text x.block.state ≡ true
-        → Q (dropped (due (kept (taken_in_order x map).socket (fin_taken (taken_in_order x map).socket.block cx.moment)) (is_holding x)))
+        → Told (kept (taken_in_order x map).socket (fin_taken (taken_in_order x map).socket.block cx.moment)) (is_holding x)
     pub early :
         (map : List (Option ℕ)) (place : ℕ) → length map ≡ free_in x → takes_text x.block.state ≡ true
         → Q (acked cx (kept (held x map) x.block) ip header (ranges_held (kept (held x map) x.block) place))
@@ -154,16 +159,23 @@ module _ (cx : ContextValue) (ip : IpRepr) (header : TcpHeader) (bytes : List �
   abbrev Finishing : Block → Texted → Type 0
   Finishing old t = Q (finished cx old t ip header (length bytes))
 
+  by_told : (y : TcpValue) (fills : Bool) → Told y fills → Q (answer_for cx y ip header (length bytes) fills None)
+  by_told y fills told_so =
+      cond_both (answers_at_once cx y.block ip header (length bytes)) (acked cx y ip header no_ranges) (dropped (due y fills)) Q
+      (λ _. told_so.1)
+      (λ little. told_so.0 little)
+
   by_fin :
       (old : Block) (t : Texted) → t.early ≡ None →
-      (takes_fin old header (length bytes) t.advance ≡ true → Q (dropped (due (kept t.socket (fin_taken t.socket.block cx.moment)) t.fills)))
-      → Q (dropped (due (kept t.socket t.socket.block) t.fills)) → Finishing old t
+      (takes_fin old header (length bytes) t.advance ≡ true → Told (kept t.socket (fin_taken t.socket.block cx.moment)) t.fills)
+      → Told (kept t.socket t.socket.block) t.fills → Finishing old t
   by_fin old t none fin plain =
       cond_both (takes_fin old header (length bytes) t.advance) (fin_taken t.socket.block cx.moment) t.socket.block
       (λ (b : Block). Q (answer_for cx (kept t.socket b) ip header (length bytes) t.fills t.early))
       (λ takes. subst (λ (e : Option ℕ). Q (answer_for cx (kept t.socket (fin_taken t.socket.block cx.moment)) ip header (length bytes) t.fills e)) (sym none)
-      (fin takes))
-      (λ _. subst (λ (e : Option ℕ). Q (answer_for cx (kept t.socket t.socket.block) ip header (length bytes) t.fills e)) (sym none) plain)
+      (by_told (kept t.socket (fin_taken t.socket.block cx.moment)) t.fills (fin takes)))
+      (λ _. subst (λ (e : Option ℕ). Q (answer_for cx (kept t.socket t.socket.block) ip header (length bytes) t.fills e)) (sym none)
+      (by_told (kept t.socket t.socket.block) t.fills plain))
 
   and_first : (a b : Bool) → (a && b) ≡ true → a ≡ true
   and_first true b e = refl

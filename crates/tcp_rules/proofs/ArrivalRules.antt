@@ -18,8 +18,8 @@ use Rattle.tcp_control.specs.Moments.{timeout_from}
 use Rattle.tcp_model.specs.Blocks.{one_if}
 use Rattle.tcp_model.specs.Acknowledged.{acknowledged, duplicates_after, names_window, windowed, ranges_taken, counted}
 use Rattle.tcp_model.specs.Acknowledged.{block_acknowledged, freed_by, una_moved, ended_if, in_state, state_after_ack, is_blind, round_trip_after}
-use Rattle.tcp_model.specs.Answers.{drawn, may_draw, with_draw, acked, answer_for, ranges_held}
-use Rattle.tcp_model.specs.Arrival.{waiting_anew, outside, passed_outside, tells_news, has_length, comes_again, with_content, told, taken, inside}
+use Rattle.tcp_model.specs.Answers.{ack_due, drawn, may_draw, with_draw, acked, answer_for, answers_at_once, ranges_held}
+use Rattle.tcp_model.specs.Arrival.{waiting_anew, outside, passed_outside, tells_news, comes_again, with_content, told, taken, inside}
 use Rattle.tcp_model.specs.Arrival.{checked, takes_reset}
 use Rattle.tcp_model.specs.Arrival.{challenges_reset, reset_comes, draws_first, echo_heard, received, arrives_in, arrives, is_void_syn}
 use Rattle.tcp_model.specs.Calls.{listening}
@@ -28,7 +28,7 @@ use Rattle.tcp_model.specs.Checks.Check.{Passes, Old, Drops, Draws, Resets}
 use Rattle.tcp_model.specs.Opening.{is_first_syn, opens, takes_answer, acks_syn, syn_answered, connected, crossed, answering, took_syn}
 use Rattle.tcp_model.specs.Probing.{probe_kept}
 use Rattle.tcp_model.specs.Retries.{heard}
-use Rattle.tcp_model.specs.Segments.{no_ranges, rst_reply, reply_to, hops_of, sack_segment}
+use Rattle.tcp_model.specs.Segments.{no_ranges, rst_reply, reply_to, hops_of, sack_segment, has_length}
 use Rattle.tcp_model.specs.Settled.{nxt_past_held}
 use Rattle.tcp_model.specs.Text.{Texted, texted, with_text, with_text_at, with_bytes_at, taken_in_order, held_early, laid, has_new_text, with_fin, takes_fin}
 use Rattle.tcp_model.specs.Text.{fin_taken}
@@ -111,8 +111,10 @@ module _ (cx : ContextValue) (ip : IpRepr) (header : TcpHeader) where
       Sound old (answer_for cx v ip header size fills early)
   by_answer old v size fills (Some place) goes = by_acked old v (ranges_held v place) goes
   by_answer old v size fills None goes =
-      by_dropped old (answer_for cx v ip header size fills None).socket
-      (goes_on old v.block (answer_for cx v ip header size fills None).socket.block goes refl refl)
+      let later = with_block v (ack_due v.block header size fills cx.moment) in
+      cond_both (answers_at_once cx v.block ip header size) (acked cx v ip header no_ranges) (dropped later) (Sound old)
+      (λ _. by_acked old v no_ranges goes)
+      (λ _. by_dropped old later (goes_on old v.block later.block goes refl refl))
 
   by_content : (old : Block) (v : TcpValue) (bytes : List ℕ) → Goes old v.block → Sound old (with_content cx v ip header bytes)
   by_content old v bytes goes =

@@ -228,12 +228,15 @@ module _ (cx : ContextValue) (ip : IpRepr) (header : TcpHeader) (bytes : List �
 
   held_content : (x : TcpValue) → IsHeld (control_of x.block) → Content cx ip header bytes Held x
   held_content x h = record {
-    plain = h;
-    fin = λ _ takes. held x.block.reno x.block.sender.syn_unacked (after_fin x.block.state) h.window (fin_on x.block.state takes);
-    ordered = λ _ _ _ _. h;
-    ordered_fin = λ _ _ _ takes. held x.block.reno x.block.sender.syn_unacked (after_fin x.block.state) h.window (fin_on x.block.state takes);
+    plain = (λ _. h, h);
+    fin = λ _ takes. (λ _. ended takes, ended takes);
+    ordered = λ _ _ _ _. (λ _. h, h);
+    ordered_fin = λ _ _ _ takes. (λ _. ended takes, ended takes);
     early = λ _ _ _ _. h;
   }
+    where
+      ended : takes_text x.block.state ≡ true → IsHeld (record (control_of x.block) { state = after_fin x.block.state })
+      ended takes = held x.block.reno x.block.sender.syn_unacked (after_fin x.block.state) h.window (fin_on x.block.state takes)
 
   held_drawing : (x : TcpValue) → IsHeld (control_of x.block) → Drawing cx ip header bytes Held x
   held_drawing x h = record { answers = λ _. h; at_once = h; pauses = h }
@@ -591,7 +594,13 @@ module _ (cx : ContextValue) (ip : IpRepr) (header : TcpHeader) (bytes : List �
   StaysBy a = (a.socket.block.reno.timed_out ≡ true) ⊎ (queued_in a.socket < queued_in v)
 
   stays_content : (x : TcpValue) → StaysBy (record { socket = x; answer = None; draws = false }) → Content cx ip header bytes StaysBy x
-  stays_content x s = record { plain = s; fin = λ _ _. s; ordered = λ _ _ _ _. s; ordered_fin = λ _ _ _ _. s; early = λ _ _ _ _. s }
+  stays_content x s = record {
+    plain = (λ _. s, s);
+    fin = λ _ _. (λ _. s, s);
+    ordered = λ _ _ _ _. (λ _. s, s);
+    ordered_fin = λ _ _ _ _. (λ _. s, s);
+    early = λ _ _ _ _. s;
+  }
 
   stays_drawing : (x : TcpValue) → StaysBy (record { socket = x; answer = None; draws = false }) → Drawing cx ip header bytes StaysBy x
   stays_drawing x s = record { answers = λ _. s; at_once = s; pauses = s }

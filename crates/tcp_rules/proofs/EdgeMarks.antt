@@ -206,7 +206,8 @@ module _ (edge named : ℕ) (v : TcpValue) (small : v.block.receiver.next.0 < 2 
   pub keeps : (w : TcpValue) → w.block.receiver.next ≡ v.block.receiver.next → IsMark edge named (mark_of w) → Out edge named v w None
   keeps w same p = none_out edge named v w (subst (λ (n : ℕ). IsMark n named (mark_of w)) (sym (still w same)) p)
 
-  module _ (x : TcpValue) (on : is_over x.block.state ≡ false) (p : IsMark edge named (mark_of x)) where
+  -- of a socket with this edge, where RCV.NXT may have risen
+  module _ (x : TcpValue) (left : ℕ) (on : is_over x.block.state ≡ false) (p : IsMark left named (mark_of x)) where
     alive : is_closed x.block.state ≡ false
     alive = (not_over x.block.state on).0
 
@@ -214,11 +215,11 @@ module _ (edge named : ℕ) (v : TcpValue) (small : v.block.receiver.next.0 < 2 
     no_listener = (not_over x.block.state on).1
 
     -- `w` is the socket behind it
-    pub segment_out :
+    pub risen_out :
         (w : TcpValue) (segment : TcpHeader) → is_syn segment.control ≡ false → is_rst segment.control ≡ false → segment.window_len ≡ window_of x
-        → w.received ≡ x.received → w.block.peer.scale ≡ x.block.peer.scale → w.block.receiver.next ≡ v.block.receiver.next
+        → w.received ≡ x.received → w.block.peer.scale ≡ x.block.peer.scale → edge - risen v.block w.block ≡ left
         → mark_of w ≡ record (mark_of x) { edge = told_edge x } → Out edge named v w (Some segment)
-    segment_out w segment no_syn no_rst window received scale next mark =
+    risen_out w segment no_syn no_rst window received scale rise mark =
         some_out edge named (told_edge x) v w segment no_syn no_rst tells (subst (λ (k : Mark). IsMark (told_edge x) named k) (sym mark) (record {
           same = λ _. refl;
           opening = p.opening;
@@ -245,7 +246,7 @@ module _ (edge named : ℕ) (v : TcpValue) (small : v.block.receiver.next.0 < 2 
             edge - risen v.block w.block + least_move (room_of w.received) named ≤ told_edge x
         moves =
             subst (λ (n : ℕ). 1 ≤ length w.received.waiting → n < told_edge x → n + least_move (room_of w.received) named ≤ told_edge x)
-            (p.same alive ∙ sym (still w next))
+            (p.same alive ∙ sym rise)
             (subst (λ (r : value.Received). 1 ≤ length r.waiting → x.block.receiver.edge < told_edge x →
             x.block.receiver.edge + least_move (room_of r) named ≤ told_edge x) (sym received) fine.2)
 
@@ -257,3 +258,12 @@ module _ (edge named : ℕ) (v : TcpValue) (small : v.block.receiver.next.0 < 2 
           syn = λ is. clash (sym is ∙ no_syn);
           moves = moves;
         }
+
+  -- where RCV.NXT stays
+  pub segment_out :
+      (x : TcpValue) → is_over x.block.state ≡ false → IsMark edge named (mark_of x) → (w : TcpValue) (segment : TcpHeader)
+      → is_syn segment.control ≡ false → is_rst segment.control ≡ false → segment.window_len ≡ window_of x
+      → w.received ≡ x.received → w.block.peer.scale ≡ x.block.peer.scale → w.block.receiver.next ≡ v.block.receiver.next
+      → mark_of w ≡ record (mark_of x) { edge = told_edge x } → Out edge named v w (Some segment)
+  segment_out x on p w segment no_syn no_rst window received scale next mark =
+      risen_out x edge on p w segment no_syn no_rst window received scale (still w next) mark

@@ -49,14 +49,14 @@ use Rattle.tcp_rules.specs.Events.{Event, Setting, after, set, is_past}
 use Rattle.tcp_rules.specs.Events.Event.{Comes, Asked, Listens, Connects, Sends, Reads, Closes, Aborts, Sets}
 use Rattle.tcp_rules.specs.Events.Setting.{Timeout, KeepAlive, AckDelay, Nagle, HopLimit, Timestamps, Paused, Retries, Congestion, MinRto, FineTimer}
 use Rattle.tcp_rules.specs.InOrder.{sending_of, IsInOrder}
-use Rattle.tcp_rules.proofs.ArrivalCases.{timed, by_arrival, Received, Opening, Content, Drawing, acked_open, acked_last, heeded, held, kept, due}
+use Rattle.tcp_rules.proofs.ArrivalCases.{timed, by_arrival, Received, Opening, Content, Drawing, acked_open, acked_last, heeded, held, kept, due, Told}
 use Rattle.tcp_rules.proofs.EdgeRules.{event_edge, new_edge, over_none}
 use Rattle.tcp_rules.proofs.EdgeSteps.{edge_of, IsEdge, risen_is, less, behind_twice, fin_later, after_later, front_behind, least}
 use Rattle.tcp_rules.proofs.OfferCases.{Rules, FirstRules, LastRules, by_rules, begun, probing}
 use Rattle.tcp_rules.proofs.OrderRules.{event_order, new_order, opened_by, and_true}
 use Rattle.tcp_rules.proofs.OrderSteps.{clash, backed_order}
 use Rattle.tcp_rules.proofs.EdgeMarks.{Mark, mark_of, IsMark, closed_mark, shut_mark, going_mark, over_mark, Out, none_out, over_out}
-use Rattle.tcp_rules.proofs.EdgeMarks.{reset_out, minus_none, unheard, told_edge, not_over, still, keeps, segment_out}
+use Rattle.tcp_rules.proofs.EdgeMarks.{reset_out, minus_none, unheard, told_edge, not_over, still, keeps, risen_out, segment_out}
 
 -- A SEGMENT COMES
 
@@ -77,6 +77,12 @@ after_no_listener : (u : TcpValue) (by : ℕ) → is_past u.block.state ≡ true
 after_no_listener u by past =
     cond_both (acks_fin u.block by (queued_in u)) (after_ack_of_fin u.block.state) (after_ack u.block.state) (λ (s : State). is_listening s ≡ false)
     (λ _. (ack_no_listener u.block.state past).1) (λ _. (ack_no_listener u.block.state past).0)
+
+fin_not_over : (state : State) → takes_text state ≡ true → is_over (after_fin state) ≡ false
+fin_not_over In.Established e = refl
+fin_not_over In.FinWait1 e = refl
+fin_not_over In.FinWait2 e = refl
+fin_not_over other e = clash (sym e)
 
 neither : (a b : Bool) → a ≡ false → b ≡ false → (a || b) ≡ false
 neither a b e f = ap (λ (t : Bool). t || b) e ∙ f
@@ -108,18 +114,23 @@ module _ (edge named : ℕ) (cx : ContextValue) (ip : IpRepr) (header : TcpHeade
 
     moves_content : v.block.receiver.took_syn ≡ true → free_in x ≤ 2 ^ 30 → Content cx ip header bytes Arrives x
     moves_content took few = record {
-      plain = keeps edge named v small (due cx ip header bytes Arrives (kept x x.block) false) same p;
+      plain = (
+        λ _. keeps edge named v small (due cx ip header bytes Arrives (kept x x.block) false) same p,
+        answers_of (kept x x.block) edge on p (still edge
+            named v small (kept x x.block) same),
+      );
       fin = λ _ takes.
-          rises (due cx ip header bytes Arrives (kept x (fin_taken x.block cx.moment)) false) 1 one (ap (λ (n : SeqNumber). behind_by n 1) same)
+          rises (kept x (fin_taken x.block cx.moment)) false 1 one (ap (λ (n : SeqNumber). behind_by n 1) same) (fin_not_over x.block.state takes)
           (lowered 1 (after_fin x.block.state) (fin_later x.block.state takes) (fin_no_listener x.block.state takes));
       ordered = λ map size takes _.
-          rises (due cx ip header bytes Arrives (kept (taken_in_order x map).socket (taken_in_order x map).socket.block) (is_holding x)) (length (front map))
-          (near map size) (ap (λ (n : SeqNumber). behind_by n (length (front map))) same)
+          rises (kept (taken_in_order x map).socket (taken_in_order x map).socket.block) (is_holding x) (length (front map))
+          (near map size) (ap (λ (n : SeqNumber). behind_by n (length (front map))) same) on
           (lowered (length (front map)) x.block.state (text_later x.block.state takes) no_listener);
       ordered_fin = λ map size _ takes.
-          rises (due cx ip header bytes Arrives (kept (taken_in_order x map).socket (fin_taken (taken_in_order x map).socket.block cx.moment)) (is_holding x))
+          rises (kept (taken_in_order x map).socket (fin_taken (taken_in_order x map).socket.block cx.moment)) (is_holding x)
           (length (front map) + 1) (near_next map size)
           (behind_twice x.block.receiver.next (length (front map)) 1 ∙ ap (λ (n : SeqNumber). behind_by n (length (front map) + 1)) same)
+          (fin_not_over x.block.state takes)
           (subst (λ (n : ℕ). IsMark (edge - (length (front map) + 1)) named (record (mark_of x) { state = after_fin x.block.state; edge = n }))
           (twice x.block.receiver.edge (length (front map)))
           (lowered (length (front map) + 1) (after_fin x.block.state) (fin_later x.block.state takes) (fin_no_listener x.block.state takes)));
@@ -132,10 +143,22 @@ module _ (edge named : ℕ) (cx : ContextValue) (ip : IpRepr) (header : TcpHeade
         no_listener : is_listening x.block.state ≡ false
         no_listener = (not_over x.block.state on).1
 
-        rises : (w : TcpValue) (n : ℕ) → n < 2 ^ 32 → w.block.receiver.next ≡ behind_by v.block.receiver.next n → IsMark (edge - n) named (mark_of w) →
-            Out edge named v w None
-        rises w n near is q =
-            none_out edge named v w (subst (λ (k : ℕ). IsMark (edge - k) named (mark_of w)) (sym (risen_is v.block w.block n took small near is)) q)
+        -- an acknowledgement answers at once
+        answers_of : (y : TcpValue) (left : ℕ) → is_over y.block.state ≡ false → IsMark left named (mark_of y) → edge - risen v.block y.block ≡ left →
+            Arrives (acked cx y ip header no_ranges)
+        answers_of y left going q rise =
+            risen_out edge named v small y left going q (acked cx y ip header no_ranges).socket
+            (sack_segment y.block (pair_in ip header) cx.moment (window_of y) no_ranges) refl refl refl refl refl rise refl
+
+        -- RCV.NXT rises by so much
+        rises : (y : TcpValue) (fills : Bool) (n : ℕ) → n < 2 ^ 32 → y.block.receiver.next ≡ behind_by v.block.receiver.next n
+            → is_over y.block.state ≡ false → IsMark (edge - n) named (mark_of y) → Told cx ip header bytes Arrives y fills
+        rises y fills n near is going q =
+            let rise = ap (λ (k : ℕ). edge - k) (risen_is v.block y.block n took small near is) in
+            let w = due cx ip header bytes Arrives y fills in (
+              λ _. none_out edge named v w (subst (λ (k : ℕ). IsMark k named (mark_of w)) (sym rise) q),
+              answers_of y (edge - n) going q rise,
+            )
 
         lowered : (n : ℕ) (state : State) → is_opening state ≡ false → is_listening state ≡ false →
             IsMark (edge - n) named (record (mark_of x) { state = state; edge = x.block.receiver.edge - n })

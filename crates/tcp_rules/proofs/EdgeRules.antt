@@ -50,7 +50,7 @@ use Rattle.tcp_rules.specs.Events.{Event, Setting, after, set, is_past}
 use Rattle.tcp_rules.specs.Events.Event.{Comes, Asked, Listens, Connects, Sends, Reads, Closes, Aborts, Sets}
 use Rattle.tcp_rules.specs.Events.Setting.{Timeout, KeepAlive, AckDelay, Nagle, HopLimit, Timestamps, Paused, Retries, Congestion, MinRto, FineTimer}
 use Rattle.tcp_rules.specs.InOrder.{sending_of, IsInOrder}
-use Rattle.tcp_rules.proofs.ArrivalCases.{timed, by_arrival, Received, Opening, Content, Drawing, acked_open, acked_last, heeded, held, kept, due}
+use Rattle.tcp_rules.proofs.ArrivalCases.{timed, by_arrival, Received, Opening, Content, Drawing, acked_open, acked_last, heeded, held, kept, due, Told}
 use Rattle.tcp_rules.proofs.OfferCases.{Rules, FirstRules, LastRules, by_rules, begun, probing}
 use Rattle.tcp_rules.proofs.OrderRules.{event_order, new_order, opened_by, and_true}
 use Rattle.tcp_rules.proofs.OrderSteps.{clash, backed_order}
@@ -75,15 +75,19 @@ module _ (capacity f : ℕ) (cx : ContextValue) (ip : IpRepr) (header : TcpHeade
   edge_drawing x p = record { answers = λ _. answers (with_draw x cx.moment) no_ranges p; at_once = answers x no_ranges p; pauses = keeps x p }
 
   -- so much is taken
-  rises : (w : TcpValue) (n : ℕ) → v.block.receiver.took_syn ≡ true → v.block.receiver.next.0 < 2 ^ 32 → n ≤ capacity + 1 →
-      w.block.receiver.next ≡ behind_by v.block.receiver.next n
-      → IsEdge capacity (f - n) (edge_of w) → Out capacity f v w None
-  rises w n took small near is p =
-      none_out capacity f v w (subst (λ (k : ℕ). IsEdge capacity (f - k) (edge_of w))
-      (sym (risen_is v.block w.block n took small (below n capacity near few) is)) p)
+  rises : (y : TcpValue) (fills : Bool) (n : ℕ) → v.block.receiver.took_syn ≡ true → v.block.receiver.next.0 < 2 ^ 32 → n ≤ capacity + 1 →
+      y.block.receiver.next ≡ behind_by v.block.receiver.next n
+      → IsEdge capacity (f - n) (edge_of y) → Told cx ip header bytes Arrives y fills
+  rises y fills n took small near is p = (
+    λ _. none_out capacity f v (due cx ip header bytes Arrives y fills) lowered,
+    acked_out capacity f cx v y ip header no_ranges lowered,
+  )
     where
       below : (n capacity : ℕ) → n ≤ capacity + 1 → capacity ≤ 2 ^ 30 → n < 2 ^ 32
       below n capacity e f = omega arith
+
+      lowered : IsEdge capacity (f - risen v.block y.block) (edge_of y)
+      lowered = subst (λ (k : ℕ). IsEdge capacity (f - k) (edge_of y)) (sym (risen_is v.block y.block n took small (below n capacity near few) is)) p
 
   module _ (x : TcpValue) (p : IsEdge capacity f (edge_of x)) (same : x.block.receiver.next ≡
       v.block.receiver.next) (took : v.block.receiver.took_syn ≡ true) where
@@ -107,16 +111,15 @@ module _ (capacity f : ℕ) (cx : ContextValue) (ip : IpRepr) (header : TcpHeade
 
     edge_content : Content cx ip header bytes Arrives x
     edge_content = record {
-      plain = keeps (due cx ip header bytes Arrives (kept x x.block) false) p;
+      plain = (λ _. keeps (due cx ip header bytes Arrives (kept x x.block) false) p, answers (kept x x.block) no_ranges p);
       fin = λ _ takes.
-          rises (due cx ip header bytes Arrives (kept x (fin_taken x.block cx.moment)) false) 1 took small (one capacity)
-          (ap (λ (n : SeqNumber). behind_by n 1) same)
+          rises (kept x (fin_taken x.block cx.moment)) false 1 took small (one capacity) (ap (λ (n : SeqNumber). behind_by n 1) same)
           (fin_edge capacity f (edge_of x) (after_fin x.block.state) p (fin_later x.block.state takes));
       ordered = λ map size takes _.
-          rises (due cx ip header bytes Arrives (kept (taken_in_order x map).socket (taken_in_order x map).socket.block) (is_holding x)) (count map size) took
+          rises (kept (taken_in_order x map).socket (taken_in_order x map).socket.block) (is_holding x) (count map size) took
           small (more (count map size) capacity (fits map size)) (ap (λ (n : SeqNumber). behind_by n (count map size)) same) (texted map size);
       ordered_fin = λ map size _ takes.
-          rises (due cx ip header bytes Arrives (kept (taken_in_order x map).socket (fin_taken (taken_in_order x map).socket.block cx.moment)) (is_holding x))
+          rises (kept (taken_in_order x map).socket (fin_taken (taken_in_order x map).socket.block cx.moment)) (is_holding x)
           (count map size + 1) took small (next (count map size) capacity (fits map size))
           (behind_twice x.block.receiver.next (count map size) 1 ∙ ap (λ (n : SeqNumber). behind_by n (count map size + 1)) same)
           (subst (λ (k : ℕ). IsEdge capacity k (record (edge_of (taken_in_order x map).socket) {

@@ -173,7 +173,13 @@ module _ (cx : ContextValue) (ip : IpRepr) (header : TcpHeader) (bytes : List �
   On a = Believes (believed_of a.socket.block)
 
   on_content : (x : TcpValue) → Believes (believed_of x.block) → Content cx ip header bytes On x
-  on_content x k = record { plain = k; fin = λ _ _. k; ordered = λ _ _ _ _. k; ordered_fin = λ _ _ _ _. k; early = λ _ _ _ _. k }
+  on_content x k = record {
+    plain = (λ _. k, k);
+    fin = λ _ _. (λ _. k, k);
+    ordered = λ _ _ _ _. (λ _. k, k);
+    ordered_fin = λ _ _ _ _. (λ _. k, k);
+    early = λ _ _ _ _. k;
+  }
 
   on_drawing : (x : TcpValue) → Believes (believed_of x.block) → Drawing cx ip header bytes On x
   on_drawing x k = record { answers = λ _. k; at_once = k; pauses = k }

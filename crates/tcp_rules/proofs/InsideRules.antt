@@ -107,10 +107,10 @@ module _ (cx : ContextValue) (ip : IpRepr) (header : TcpHeader) (bytes : List �
 
   in_content : (x : TcpValue) → IsInside (spot_of x.block) → Content cx ip header bytes InsideAfter x
   in_content x i = record {
-    plain = i;
-    fin = λ _ takes. later _ i.inside (fin_on x.block.state takes);
-    ordered = λ _ _ _ _. i;
-    ordered_fin = λ _ _ _ takes. later _ i.inside (fin_on x.block.state takes);
+    plain = (λ _. i, i);
+    fin = λ _ takes. (λ _. later _ i.inside (fin_on x.block.state takes), later _ i.inside (fin_on x.block.state takes));
+    ordered = λ _ _ _ _. (λ _. i, i);
+    ordered_fin = λ _ _ _ takes. (λ _. later _ i.inside (fin_on x.block.state takes), later _ i.inside (fin_on x.block.state takes));
     early = λ _ _ _ _. i;
   }
 

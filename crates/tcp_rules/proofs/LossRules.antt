@@ -186,10 +186,10 @@ module _ (cx : ContextValue) (ip : IpRepr) (header : TcpHeader) (bytes : List �
 
   right_content : (x : TcpValue) → IsKnownRight (known_of x.block) → Content cx ip header bytes Right x
   right_content x k = record {
-    plain = k;
-    fin = λ _ takes. right _ k.within (fin_on x.block.state takes);
-    ordered = λ _ _ _ _. k;
-    ordered_fin = λ _ _ _ takes. right _ k.within (fin_on x.block.state takes);
+    plain = (λ _. k, k);
+    fin = λ _ takes. (λ _. right _ k.within (fin_on x.block.state takes), right _ k.within (fin_on x.block.state takes));
+    ordered = λ _ _ _ _. (λ _. k, k);
+    ordered_fin = λ _ _ _ takes. (λ _. right _ k.within (fin_on x.block.state takes), right _ k.within (fin_on x.block.state takes));
     early = λ _ _ _ _. k;
   }
 

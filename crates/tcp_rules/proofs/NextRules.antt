@@ -289,12 +289,23 @@ module _ (cx : ContextValue) (ip : IpRepr) (header : TcpHeader) (bytes : List �
       → ((state : State) → (goes_on state ≡ true → goes_on x.block.state ≡ true) → Known (InState x state) → Clear (next_of (InState x state)))
       → Content cx ip header bytes ClearAfter x
   clear_content x f = record {
-    plain = λ k. f x.block.state (λ e. e) (record { board = k.board; within = k.within; sent = k.sent });
-    fin = λ _ takes k. f (after_fin x.block.state) (fin_keeps x.block.state takes) (record { board = k.board; within = k.within; sent = k.sent });
-    ordered = λ _ _ _ _ k. f x.block.state (λ e. e) (record { board = k.board; within = k.within; sent = k.sent });
-    ordered_fin = λ _ _ _ takes k. f (after_fin x.block.state) (fin_keeps x.block.state takes) (record { board = k.board; within = k.within; sent = k.sent });
-    early = λ _ _ _ _ k. f x.block.state (λ e. e) (record { board = k.board; within = k.within; sent = k.sent });
+    plain = (λ _ k. stays k.board k.within k.sent, λ k. stays k.board k.within k.sent);
+    fin = λ _ takes. (λ _ k. ends takes k.board k.within k.sent, λ k. ends takes k.board k.within k.sent);
+    ordered = λ _ _ _ _. (λ _ k. stays k.board k.within k.sent, λ k. stays k.board k.within k.sent);
+    ordered_fin = λ _ _ _ takes. (λ _ k. ends takes k.board k.within k.sent, λ k. ends takes k.board k.within k.sent);
+    early = λ _ _ _ _ k. stays k.board k.within k.sent;
   }
+    where
+      by : (state : State) → (goes_on state ≡ true → goes_on x.block.state ≡ true) → Board x.block.loss.board.runs
+          → AreWithin x.block.sender.top x.block.loss.board.runs → Within (sent_of (InState x state)) → Clear (next_of (InState x state))
+      by state keeps board within sent = f state keeps (record { board = board; within = within; sent = sent })
+
+      stays : Board x.block.loss.board.runs → AreWithin x.block.sender.top x.block.loss.board.runs → Within (sent_of x) → Clear (next_of x)
+      stays = by x.block.state (λ e. e)
+
+      ends : takes_text x.block.state ≡ true → Board x.block.loss.board.runs → AreWithin x.block.sender.top x.block.loss.board.runs
+          → Within (sent_of (InState x (after_fin x.block.state))) → Clear (next_of (InState x (after_fin x.block.state)))
+      ends takes = by (after_fin x.block.state) (fin_keeps x.block.state takes)
 
   clear_drawing : (x : TcpValue) → Clear (next_of x) → Drawing cx ip header bytes ClearAfter x
   clear_drawing x c = record { answers = λ _ _. c; at_once = λ _. c; pauses = λ _. c }

@@ -119,10 +119,10 @@ module _ (cx : ContextValue) (ip : IpRepr) (header : TcpHeader) (bytes : List �
 
   order_content : (x : TcpValue) → IsInOrder (sending_of x) → x.block.sender.syn_unacked ≡ false → Content cx ip header bytes Order x
   order_content x p gone = record {
-    plain = p;
-    fin = λ _ takes. with_fin_taken (sending_of x) (length x.received.waiting) p gone takes;
-    ordered = λ map _ takes _. with_waiting (sending_of x) _ p gone takes;
-    ordered_fin = λ map _ _ takes. with_fin_taken (sending_of x) _ p gone takes;
+    plain = (λ _. p, p);
+    fin = λ _ takes. (λ _. with_fin_taken (sending_of x) (length x.received.waiting) p gone takes, with_fin_taken (sending_of x) (length x.received.waiting) p gone takes);
+    ordered = λ map _ takes _. (λ _. with_waiting (sending_of x) _ p gone takes, with_waiting (sending_of x) _ p gone takes);
+    ordered_fin = λ map _ _ takes. (λ _. with_fin_taken (sending_of x) _ p gone takes, with_fin_taken (sending_of x) _ p gone takes);
     early = λ map place _ _. p;
   }
 

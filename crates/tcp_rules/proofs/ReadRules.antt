@@ -20,8 +20,8 @@ use Rattle.tcp_control.specs.declared.offer.Reply.{Reply}
 use Rattle.tcp_control.specs.declared.state.State.{State}
 use Rattle.tcp_control.specs.declared.state.State.TheVariants as In
 use Rattle.tcp_model.specs.Acknowledged.{acknowledged, duplicates_after}
-use Rattle.tcp_model.specs.Answers.{acked, answer_for, drawn, may_draw, with_draw, first_two, lies_in, numbers_of, others, ranges_held, run_at}
-use Rattle.tcp_model.specs.Arrival.{arrives, arrives_in, challenges_reset, checked, comes_again, draws_first, echo_heard, has_length, inside, is_void_syn}
+use Rattle.tcp_model.specs.Answers.{ack_due, acked, answer_for, answers_at_once, drawn, may_draw, with_draw, first_two, lies_in, numbers_of, others, ranges_held, run_at}
+use Rattle.tcp_model.specs.Arrival.{arrives, arrives_in, challenges_reset, checked, comes_again, draws_first, echo_heard, inside, is_void_syn}
 use Rattle.tcp_model.specs.Arrival.{outside, passed_outside, received, reset_comes, taken, takes_reset, tells_news, told, waiting_anew, with_content}
 use Rattle.tcp_model.specs.BaseOffers.{Offered}
 use Rattle.tcp_model.specs.Blocks.{own_scale, scale_for}
@@ -30,10 +30,11 @@ use Rattle.tcp_model.specs.Checks.Check.{Passes, Old, Drops, Draws, Resets}
 use Rattle.tcp_model.specs.Context.{ContextValue}
 use Rattle.tcp_model.specs.Offers.{offer_of}
 use Rattle.tcp_model.specs.Opening.{acks_syn, is_first_syn, opens, syn_answered, takes_answer}
+use Rattle.tcp_model.specs.Probing.{probe_kept}
 use Rattle.tcp_model.specs.Retries.{heard}
-use Rattle.tcp_model.specs.Segments.{mss_for, next_if_heard, no_ranges, reset_ack, reset_for, reset_segment, rst_reply, sack_segment, stamp_of, syn_options}
+use Rattle.tcp_model.specs.Segments.{mss_for, next_if_heard, no_ranges, reset_ack, reset_for, reset_segment, rst_reply, sack_segment, stamp_of, syn_options, has_length}
 use Rattle.tcp_model.specs.Segments.{syn_segment}
-use Rattle.tcp_model.specs.Text.{Texted, has_new_text, held_early, laid, taken_in_order, texted, with_bytes_at, with_text}
+use Rattle.tcp_model.specs.Text.{with_fin, Texted, has_new_text, held_early, laid, taken_in_order, texted, with_bytes_at, with_text}
 use Rattle.tcp_model.specs.Timeout.{timeout_restarted}
 use Rattle.tcp_model.specs.Timestamps.{stamp_taken}
 use Rattle.tcp_model.specs.Value.{TcpValue, Arrived, answered_with, dropped, ended, free_in, queued_in, received_of, unoffered, window_of, with_block}
@@ -247,11 +248,16 @@ module _ (cx : ContextValue) (ip : IpRepr) (header : TcpHeader) where
 
   answer_read : (v : TcpValue) (size : ℕ) (fills : Bool) (early : Option ℕ) →
       ((place : ℕ) → early ≡ Some place → is_held (runs_of v.received.map) place ≡ true) → Answers (answer_for cx v ip header size fills early)
-  answer_read v size fills None held = tt
+  answer_read v size fills None held =
+      either (answers_at_once cx v.block ip header size) (acked cx v ip header no_ranges)
+      (dropped (with_block v (ack_due v.block header size fills cx.moment))) (bare_read v) tt
   answer_read v size fills (Some place) held = acked_read v (ranges_held v place) (ranges_closed v place (held place refl))
 
   content_read : (v : TcpValue) (bytes : List ℕ) → Answers (with_content cx v ip header bytes)
-  content_read v bytes = answer_read _ (length bytes) (with_text v header bytes).fills (with_text v header bytes).early (text_holds v header bytes)
+  content_read v bytes =
+      let t = with_text v header bytes in
+      let y = with_block t.socket (probe_kept (with_fin t.socket.block v.block header (length bytes) t.advance cx.moment) (queued_in t.socket)) in
+      answer_read y (length bytes) t.fills t.early (text_holds v header bytes)
 
   taken_read : (v : TcpValue) (bytes : List ℕ) (by : ℕ) → Answers (taken cx v ip header bytes by)
   taken_read v bytes by =

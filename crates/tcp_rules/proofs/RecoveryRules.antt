@@ -275,10 +275,10 @@ module _ (cx : ContextValue) (ip : IpRepr) (header : TcpHeader) (bytes : List �
 
   paced_content : (x : TcpValue) → IsPaced (recovery_of x.block) → Content cx ip header bytes Paced x
   paced_content x p = record {
-    plain = p;
-    fin = λ _ takes. paced _ p.lasts (fin_on x.block.state takes) (fine_of _ p);
-    ordered = λ _ _ _ _. p;
-    ordered_fin = λ _ _ _ takes. paced _ p.lasts (fin_on x.block.state takes) (fine_of _ p);
+    plain = (λ _. p, p);
+    fin = λ _ takes. (λ _. paced _ p.lasts (fin_on x.block.state takes) (fine_of _ p), paced _ p.lasts (fin_on x.block.state takes) (fine_of _ p));
+    ordered = λ _ _ _ _. (λ _. p, p);
+    ordered_fin = λ _ _ _ takes. (λ _. paced _ p.lasts (fin_on x.block.state takes) (fine_of _ p), paced _ p.lasts (fin_on x.block.state takes) (fine_of _ p));
     early = λ _ _ _ _. p;
   }
 

@@ -119,7 +119,13 @@ module _ (cx : ContextValue) (ip : IpRepr) (header : TcpHeader) (bytes : List �
   Kept a = told ≡ false → Behind a.socket.block
 
   content : (x : TcpValue) → (told ≡ false → Behind x.block) → Content cx ip header bytes Kept x
-  content x f = record { plain = f; fin = λ _ _. f; ordered = λ _ _ _ _. f; ordered_fin = λ _ _ _ _. f; early = λ _ _ _ _. f }
+  content x f = record {
+    plain = (λ _. f, f);
+    fin = λ _ _. (λ _. f, f);
+    ordered = λ _ _ _ _. (λ _. f, f);
+    ordered_fin = λ _ _ _ _. (λ _. f, f);
+    early = λ _ _ _ _. f;
+  }
 
   drawing : (x : TcpValue) → (told ≡ false → Behind x.block) → Drawing cx ip header bytes Kept x
   drawing x f = record { answers = λ _. f; at_once = f; pauses = f }

@@ -52,10 +52,10 @@ module _ (cx : ContextValue) (v : TcpValue) (ip : IpRepr) (header : TcpHeader) (
 
   content : (x : TcpValue) → RisesRecent v.block x.block cx.moment → Content cx ip header bytes Kept x
   content x r = record {
-    plain = inr r;
-    fin = λ _ _. inr r;
-    ordered = λ _ _ _ _. inr r;
-    ordered_fin = λ _ _ _ _. inr r;
+    plain = (λ _. inr r, inr r);
+    fin = λ _ _. (λ _. inr r, inr r);
+    ordered = λ _ _ _ _. (λ _. inr r, inr r);
+    ordered_fin = λ _ _ _ _. (λ _. inr r, inr r);
     early = λ _ _ _ _. inr r;
   }
 

@@ -53,7 +53,7 @@ module _ (cx : ContextValue) (ip : IpRepr) (header : TcpHeader) (bytes : List �
 
   waits_content : (x : TcpValue) → x.block.state ≡ In.TimeWait → Content cx ip header bytes Waits x
   waits_content x at = record {
-    plain = at;
+    plain = (λ _. at, at);
     fin = λ _ takes. clash (sym takes ∙ ap takes_text at);
     ordered = λ _ _ takes _. clash (sym takes ∙ ap takes_text at);
     ordered_fin = λ _ _ _ takes. clash (sym takes ∙ ap takes_text at);

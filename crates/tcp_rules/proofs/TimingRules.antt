@@ -247,10 +247,10 @@ module _ (cx : ContextValue) (ip : IpRepr) (header : TcpHeader) (bytes : List �
 
   right_content : (x : TcpValue) → IsTimedRight (timing_of x.block) → Content cx ip header bytes Right x
   right_content x t = record {
-    plain = t;
-    fin = λ _ takes. right _ t.timed t.sent (fin_on x.block.state takes);
-    ordered = λ _ _ _ _. t;
-    ordered_fin = λ _ _ _ takes. right _ t.timed t.sent (fin_on x.block.state takes);
+    plain = (λ _. t, t);
+    fin = λ _ takes. (λ _. right _ t.timed t.sent (fin_on x.block.state takes), right _ t.timed t.sent (fin_on x.block.state takes));
+    ordered = λ _ _ _ _. (λ _. t, t);
+    ordered_fin = λ _ _ _ takes. (λ _. right _ t.timed t.sent (fin_on x.block.state takes), right _ t.timed t.sent (fin_on x.block.state takes));
     early = λ _ _ _ _. t;
   }
 

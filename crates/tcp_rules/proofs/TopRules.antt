@@ -149,10 +149,10 @@ module _ (cx : ContextValue) (ip : IpRepr) (header : TcpHeader) (bytes : List �
 
   within_content : (x : TcpValue) → Within (sent_of x) → Content cx ip header bytes WithinAfter x
   within_content x w = record {
-    plain = w;
-    fin = λ _ takes e. w (fin_on x.block.state takes e);
-    ordered = λ _ _ _ _. w;
-    ordered_fin = λ _ _ _ takes e. w (fin_on x.block.state takes e);
+    plain = (λ _. w, w);
+    fin = λ _ takes. (λ _. λ e. w (fin_on x.block.state takes e), λ e. w (fin_on x.block.state takes e));
+    ordered = λ _ _ _ _. (λ _. w, w);
+    ordered_fin = λ _ _ _ takes. (λ _. λ e. w (fin_on x.block.state takes e), λ e. w (fin_on x.block.state takes e));
     early = λ _ _ _ _. w;
   }
 

@@ -309,10 +309,10 @@ module _ (cx : ContextValue) (ip : IpRepr) (header : TcpHeader) (bytes : List �
 
   fair_content : (x : TcpValue) → FairIn x.block → begins x.block.state ≡ false → Content cx ip header bytes FairAfter x
   fair_content x w on = record {
-    plain = w;
-    fin = λ _ takes. later _ (fin_begins x.block.state takes) w.reno w.undo;
-    ordered = λ _ _ _ _. later _ on w.reno w.undo;
-    ordered_fin = λ _ _ _ takes. later _ (fin_begins x.block.state takes) w.reno w.undo;
+    plain = (λ _. w, w);
+    fin = λ _ takes. (λ _. later _ (fin_begins x.block.state takes) w.reno w.undo, later _ (fin_begins x.block.state takes) w.reno w.undo);
+    ordered = λ _ _ _ _. (λ _. later _ on w.reno w.undo, later _ on w.reno w.undo);
+    ordered_fin = λ _ _ _ takes. (λ _. later _ (fin_begins x.block.state takes) w.reno w.undo, later _ (fin_begins x.block.state takes) w.reno w.undo);
     early = λ _ _ _ _. later _ on w.reno w.undo;
   }
     where

@@ -1,11 +1,18 @@
 -- When an acknowledgement is due, and that it goes (RFC 9293, 3.8.6.3).
-use Rattle.std.specs.Prelude.{◌≡◌, ◌⊎◌, ◌≤ℤ◌, ℤ, int_le, Bool, true, false, Option, Some, None, is_some}
+use Rattle.std.specs.Prelude.{◌≡◌, ◌⊎◌, ◌*◌, ◌<◌, ◌≤ℤ◌, ℤ, int_le, Bool, true, false, Option, Some, None, is_some}
+use Rattle.ip_wire.specs.IpRepr.{IpRepr}
+use Rattle.ip_wire.specs.Seq.{distance_of}
+use Rattle.ip_wire.specs.TcpControl.TheVariants as Control
+use Rattle.tcp_control.specs.Endpoints.{addresses_in}
 use Rattle.tcp_control.specs.Moments.{is_due}
 use Rattle.tcp_control.specs.declared.offer.OpenOffer.{OpenOffer}
 use Rattle.tcp_control.specs.declared.offer.Reply.{Reply}
 use Rattle.tcp_model.specs.Arrival.{arrives}
+use Rattle.tcp_model.specs.Blocks.{top}
+use Rattle.tcp_model.specs.Context.{ContextValue}
 use Rattle.tcp_model.specs.Offers.{offer_of}
-use Rattle.tcp_model.specs.Value.{TcpValue}
+use Rattle.tcp_model.specs.Rules.{size_limit}
+use Rattle.tcp_model.specs.Value.{TcpValue, Arrived}
 use Rattle.tcp_model.specs.declared.block.Block.{Block}
 use Rattle.tcp_rules.specs.Events.{Event, after, is_past}
 use Rattle.tcp_rules.specs.Events.Event.{Comes, Asked}
@@ -15,6 +22,29 @@ pub record IsDueWithin (at : Option ℤ) (limit : ℤ) : Type 0 where
   pub moment : ℤ
   pub due : at ≡ Some moment
   pub soon : moment ≤ℤ limit
+
+-- It is answered at once: a bare acknowledgement of all that came goes, past all that was sent.
+pub record IsAcknowledged (a : Arrived) : Type 0 where
+  pub reply : Reply
+  pub answer : a.answer ≡ Some reply
+  pub acknowledges : reply.segment.ack_number ≡ Some a.socket.block.receiver.next
+  pub bare : reply.segment.seq_number ≡ top a.socket.block
+  pub plain : reply.segment.control ≡ Control.None
+
+-- nothing answers it at once, and by this moment an acknowledgement of it is due
+pub record IsOwed (a : Arrived) (limit : ℤ) : Type 0 where
+  pub silent : a.answer ≡ None
+  pub due : IsDueWithin a.socket.block.timers.ack_at limit
+
+-- a segment is acknowledged at once, or its acknowledgement is due by this moment
+abbrev pub IsAcknowledgedBy : Arrived → ℤ → Type 0
+IsAcknowledgedBy a limit = IsAcknowledged a ⊎ IsOwed a limit
+
+-- a segment is acknowledged at once, or less came since the last acknowledgement than two full segments take
+abbrev pub IsAcknowledgedTwice : ContextValue → IpRepr → Arrived → Type 0
+IsAcknowledgedTwice cx ip a =
+    IsAcknowledged a
+    ⊎ (distance_of a.socket.block.receiver.last_ack a.socket.block.receiver.next < 2 * size_limit a.socket.block (addresses_in ip) cx.ip_mtu)
 
 -- the segment that is offered acknowledges all that came
 pub record OffersAck (v : TcpValue) (b : Block) : Type 0 where

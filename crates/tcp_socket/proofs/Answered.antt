@@ -15,8 +15,8 @@ use Rattle.tcp_model.specs.EndpointPair.{EndpointPair}
 use Rattle.tcp_model.specs.State.{State}
 use Rattle.tcp_model.specs.State.TheVariants as In
 use Rattle.tcp_model.specs.Acknowledged.{acknowledged, duplicates_after}
-use Rattle.tcp_model.specs.Answers.{may_draw, with_draw, acked, drawn, answer_for, run_at, others, first_two, numbers_of, ranges_held}
-use Rattle.tcp_model.specs.Arrival.{waiting_anew, outside, tells_news, has_length, comes_again, passed_outside, finished, with_content, told}
+use Rattle.tcp_model.specs.Answers.{may_draw, with_draw, acked, drawn, ack_due, answers_at_once, answer_for, run_at, others, first_two, numbers_of, ranges_held}
+use Rattle.tcp_model.specs.Arrival.{waiting_anew, outside, tells_news, comes_again, passed_outside, finished, with_content, told}
 use Rattle.tcp_model.specs.Arrival.{continued, taken, inside, checked}
 use Rattle.tcp_model.specs.Arrival.{takes_reset, challenges_reset, reset_comes, draws_first, echo_heard, received, arrives_in, is_void_syn, arrives}
 use Rattle.tcp_model.specs.Checks.{Check, acknowledgement_check, is_in_window, taken_down}
@@ -27,7 +27,7 @@ use Rattle.tcp_model.specs.FirstNumbers.{first_number, draws_number}
 use Rattle.tcp_model.specs.Opening.{acks_syn, syn_answered, takes_answer, answering, is_first_syn}
 use Rattle.tcp_model.specs.Probing.{probe_kept}
 use Rattle.tcp_model.specs.Retries.{heard}
-use Rattle.tcp_model.specs.Segments.{no_ranges, stamp_of, sack_segment, rst_reply, reply_to, reset_for, hops_of}
+use Rattle.tcp_model.specs.Segments.{no_ranges, stamp_of, sack_segment, rst_reply, reply_to, reset_for, hops_of, has_length}
 use Rattle.tcp_model.specs.States.{is_closed}
 use Rattle.tcp_model.specs.Text.{Texted, with_text, with_fin}
 use Rattle.tcp_model.specs.Timeout.{timeout_restarted}
@@ -125,7 +125,10 @@ quick_passed_outside cx v ip header size by =
 quick_answer : (cx : ContextValue) (v : TcpValue) (ip : IpRepr) (header : TcpHeader) (size : ℕ) (fills : Bool) (early : Option ℕ) →
     IsQuick (answer_for cx v ip header size fills early)
 quick_answer cx v ip header size fills (Some place) = quick_acked cx v ip header (ranges_held v place) (few_held v place)
-quick_answer cx v ip header size fills None = record { draws = refl; sendable = tt }
+quick_answer cx v ip header size fills None =
+    let later = with_block v (ack_due v.block header size fills cx.moment) in
+    quick_if (answers_at_once cx v.block ip header size) (acked cx v ip header no_ranges) (dropped later)
+    (quick_acked cx v ip header no_ranges (few_ranges None None None)) (quick_dropped later)
 
 quick_finished : (cx : ContextValue) (old : Block) (t : Texted) (ip : IpRepr) (header : TcpHeader) (size : ℕ) → IsQuick (finished cx old t ip header size)
 quick_finished cx old t ip header size =

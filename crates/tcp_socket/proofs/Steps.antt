@@ -16,8 +16,8 @@ use Rattle.socket_base.specs.Packet.{IsSendable, packet_of}
 use Rattle.socket_base.specs.Packet as Carried
 use Rattle.held_bytes.specs.ReceiveMap.{store, front}
 use Rattle.tcp_model.specs.Acknowledged.{acknowledged, duplicates_after}
-use Rattle.tcp_model.specs.Answers.{ack_recorded, acked, drawn, ack_due, answer_for}
-use Rattle.tcp_model.specs.Arrival.{waiting_anew, outside, passed_outside, tells_news, has_length, comes_again, finished, with_content, told, echo_heard, taken}
+use Rattle.tcp_model.specs.Answers.{ack_recorded, acked, drawn, ack_due, answers_at_once, answer_for}
+use Rattle.tcp_model.specs.Arrival.{waiting_anew, outside, passed_outside, tells_news, comes_again, finished, with_content, told, echo_heard, taken}
 use Rattle.tcp_model.specs.Arrival.{checked, reset_comes, draws_first, received, arrives_in}
 use Rattle.tcp_model.specs.Checks.{acknowledgement_check, is_in_window}
 use Rattle.tcp_model.specs.Checks.Check.{Old}
@@ -25,7 +25,7 @@ use Rattle.tcp_model.specs.Controls.{is_syn, is_rst}
 use Rattle.tcp_model.specs.Opening.{acks_syn, syn_answered, takes_answer}
 use Rattle.tcp_model.specs.Probing.{probe_kept}
 use Rattle.tcp_model.specs.Retries.{heard}
-use Rattle.tcp_model.specs.Segments.{rst_reply, no_ranges}
+use Rattle.tcp_model.specs.Segments.{rst_reply, no_ranges, has_length}
 use Rattle.tcp_model.specs.States.{is_closed, takes_text}
 use Rattle.tcp_model.specs.Text.{Texted, texted, laid, has_new_text, with_text, with_text_at, with_bytes_at, taken_in_order, held_early, with_fin}
 use Rattle.tcp_model.specs.Timeout.{timeout_restarted}
@@ -344,12 +344,22 @@ held_leads cx v w window place early ip header size fills early_is window_is w_i
     subst (λ (o : Option ℕ). Leads (answer_for cx v ip header size fills o) (Some (reply_of (Is.AckHeld window place) cx.moment w ip header size)) w)
     (sym early_is) with_socket
 
--- other text is acknowledged later
-pub delayed_leads : (cx : ContextValue) (v w : TcpValue) (now : ℤ) (early : Option ℕ) (ip : IpRepr) (header : TcpHeader) (size : ℕ) (fills : Bool)
-    → early ≡ None → now ≡ cx.moment → w ≡ with_block v (ack_due v.block header size fills now)
-    → Leads (answer_for cx v ip header size fills early) None w
-delayed_leads cx v w now early ip header size fills early_is now_is w_is =
-    subst (λ (o : Option ℕ). Leads (answer_for cx v ip header size fills o) None w) (sym early_is)
+-- what was taken is acknowledged at once, where so much came
+pub at_once_leads : (cx : ContextValue) (v w : TcpValue) (window : ℕ) (at_once : Bool) (ip : IpRepr) (header : TcpHeader) (size : ℕ) (fills : Bool)
+    → at_once ≡ true → at_once ≡ answers_at_once cx v.block ip header size → window ≡ window_of v → w ≡ told_all v
+    → Leads (answer_for cx v ip header size fills None) (Some (reply_of (Is.Ack window) cx.moment w ip header size)) w
+at_once_leads cx v w window at_once ip header size fills is at_once_is window_is w_is =
+    so_leads (answers_at_once cx v.block ip header size) (acked cx v ip header no_ranges)
+    (dropped (with_block v (ack_due v.block header size fills cx.moment))) _ _ (sym at_once_is ∙ is)
+    (acked_leads cx v w window ip header size window_is w_is)
+
+-- else later
+pub delayed_leads : (cx : ContextValue) (v w : TcpValue) (now : ℤ) (at_once : Bool) (ip : IpRepr) (header : TcpHeader) (size : ℕ) (fills : Bool)
+    → at_once ≡ false → at_once ≡ answers_at_once cx v.block ip header size → now ≡ cx.moment
+    → w ≡ with_block v (ack_due v.block header size fills now) → Leads (answer_for cx v ip header size fills None) None w
+delayed_leads cx v w now at_once ip header size fills is at_once_is now_is w_is =
+    if_open (answers_at_once cx v.block ip header size) (acked cx v ip header no_ranges)
+    (dropped (with_block v (ack_due v.block header size fills cx.moment))) None w (sym at_once_is ∙ is)
     (record { answer = refl; socket = w_is ∙ ap (λ (m : ℤ). with_block v (ack_due v.block header size fills m)) now_is })
 
 -- outside the window: what comes again is acknowledged, of other segments an acknowledgement may be drawn

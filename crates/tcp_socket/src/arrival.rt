@@ -5,7 +5,7 @@ ghost use Rattle.socket_base.specs.Context.{ContextValue};
 ghost use Rattle.socket_base.specs.Packet.{IsSendable};
 ghost use Rattle.ip_wire.specs.Tcp.{header_of};
 ghost use Rattle.tcp_model.specs.Acknowledged.{acknowledged};
-ghost use Rattle.tcp_model.specs.Answers.{ack_recorded, acked, drawn, ack_due, ranges_held, answer_for};
+ghost use Rattle.tcp_model.specs.Answers.{ack_recorded, acked, drawn, ack_due, ranges_held, answers_at_once, answer_for};
 ghost use Rattle.tcp_model.specs.Arrival.{waiting_anew, outside, tells_news, comes_again, passed_outside, finished, told};
 ghost use Rattle.tcp_model.specs.Arrival.{echo_heard, taken, inside, checked, challenges_reset};
 ghost use Rattle.tcp_model.specs.Arrival.{reset_comes, draws_first, received, is_void_syn, arrives_in, arrives};
@@ -26,9 +26,9 @@ use ip_wire::{IpRepr, SeqNumber, TcpHeader, TcpRepr};
 use net_base::Instant;
 use socket_base::Context;
 use tcp_model::{
-    EndpointPair, Reply, State, Verdict, before_by, first_number, has_length, is_fin, is_first_syn,
-    is_rst, is_syn, is_void_syn, next_draw_from, numbers_of, past_by, reply_to, rst_reply,
-    time_wait_from,
+    AddressPair, EndpointPair, Reply, State, Verdict, before_by, first_number, has_length, is_fin,
+    is_first_syn, is_rst, is_syn, is_void_syn, next_draw_from, numbers_of, past_by, reply_to,
+    rst_reply, time_wait_from,
 };
 
 /// A segment with what it came in. Functions that are called from several places get copies of it, so
@@ -587,7 +587,7 @@ impl Socket {
         }
     }
 
-    /// Text that is held early is acknowledged at once; else an acknowledgement may become due.
+    /// Text that is held early is acknowledged at once; else the text or the FIN that was taken may be.
     fn answer<C: Context>(
         &mut self,
         cx: &C,
@@ -603,11 +603,41 @@ impl Socket {
     {
         match early {
             Some(place) => Some(Due::AckHeld(self.acknowledge_all(), place)),
-            None => {
-                self.delay_ack(&incoming.header, incoming.bytes.len(), fills, cx.now());
-                None
-            }
+            None => self.answer_taken(cx, incoming, fills),
         }
+    }
+
+    /// What was taken is acknowledged at once where as much came as two full segments take; else an
+    /// acknowledgement may become due.
+    fn answer_taken<C: Context>(
+        &mut self,
+        cx: &C,
+        incoming: &Incoming<'_>,
+        fills: bool,
+    ) -> Option<Due>
+        requires unoffered { self.old.offered ≡ None }
+        ensures answer { answer_of result (C.context cx.now).moment self.new incoming.now.ip_repr.now incoming.now.header (length incoming.now.bytes.now) ≡
+            (answer_for (C.context cx.now) self.old incoming.now.ip_repr.now incoming.now.header (length incoming.now.bytes.now) fills None).answer }
+        ensures socket { self.new ≡
+            (answer_for (C.context cx.now) self.old incoming.now.ip_repr.now incoming.now.header (length incoming.now.bytes.now) fills None).socket }
+    {
+        if self.answers_at_once(cx, incoming) {
+            Some(Due::Ack(self.acknowledge_all()))
+        } else {
+            self.delay_ack(&incoming.header, incoming.bytes.len(), fills, cx.now());
+            None
+        }
+    }
+
+    /// Whether a segment with text or a FIN was taken, and as much came since the last acknowledgement
+    /// as two full segments take.
+    fn answers_at_once<C: Context>(&self, cx: &C, incoming: &Incoming<'_>) -> bool
+        ensures { result ≡ answers_at_once (C.context cx.now) self.now.block incoming.now.ip_repr.now incoming.now.header (length incoming.now.bytes.now) }
+    {
+        has_length(&incoming.header, incoming.bytes.len())
+            && self
+                .block
+                .came_twice(&AddressPair::of_packet(incoming.ip_repr), cx.ip_mtu())
     }
 
     /// An acknowledgement of a segment with so many bytes becomes due, if it isn't already.

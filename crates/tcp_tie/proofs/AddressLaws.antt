@@ -13,9 +13,9 @@ use Rattle.ip_wire.specs.Ipv6Address.{Ipv6Address}
 use Rattle.ip_wire.specs.TcpHeader.{TcpHeader}
 use Rattle.tcp_model.specs.declared.block.Block.{Block}
 use Rattle.tcp_model.specs.Acknowledged.{acknowledged, duplicates_after}
-use Rattle.tcp_model.specs.Answers.{acked, answer_for, drawn, may_draw, with_draw, ranges_held}
+use Rattle.tcp_model.specs.Answers.{ack_due, acked, answer_for, answers_at_once, drawn, may_draw, with_draw, ranges_held}
 use Rattle.tcp_model.specs.Arrival.{arrives, arrives_in, challenges_reset, checked, comes_again, draws_first, echo_heard}
-use Rattle.tcp_model.specs.Arrival.{has_length, inside, is_void_syn, outside, passed_outside, received, reset_comes, taken, takes_reset, tells_news, told}
+use Rattle.tcp_model.specs.Arrival.{inside, is_void_syn, outside, passed_outside, received, reset_comes, taken, takes_reset, tells_news, told}
 use Rattle.tcp_model.specs.Arrival.{waiting_anew, with_content}
 use Rattle.tcp_model.specs.Checks.{Check, acknowledgement_check, is_in_window, taken_down}
 use Rattle.tcp_model.specs.Checks.Check.{Passes, Old, Drops, Draws, Resets}
@@ -25,12 +25,13 @@ use Rattle.tcp_model.specs.EndpointPair.{EndpointPair}
 use Rattle.tcp_model.specs.Endpoints.{is_connected_by}
 use Rattle.tcp_model.specs.Names.{accepts, accepts_in}
 use Rattle.tcp_model.specs.Opening.{acks_syn, is_first_syn, opens, syn_answered, takes_answer}
+use Rattle.tcp_model.specs.Probing.{probe_kept}
 use Rattle.tcp_model.specs.Retries.{heard}
-use Rattle.tcp_model.specs.Segments.{no_ranges, rst_reply}
+use Rattle.tcp_model.specs.Segments.{no_ranges, rst_reply, has_length}
 use Rattle.tcp_model.specs.State.{State}
 use Rattle.tcp_model.specs.State.TheVariants as In
 use Rattle.tcp_model.specs.States.{is_closed}
-use Rattle.tcp_model.specs.Text.{with_text}
+use Rattle.tcp_model.specs.Text.{with_fin, with_text}
 use Rattle.tcp_model.specs.Timeout.{timeout_restarted}
 use Rattle.tcp_model.specs.Timestamps.{stamp_taken}
 use Rattle.tcp_model.specs.Value.{TcpValue, Arrived, answered_with, dropped, ended, free_in, queued_in, unoffered, with_block}
@@ -104,6 +105,11 @@ module _ (host : HostContext) (key : List ℕ) (moment : ℤ) (random words : �
   acked_bare v (Ip.Ipv4 x) header ranges = refl
   acked_bare v (Ip.Ipv6 x) header ranges = refl
 
+  at_once_bare : (v : TcpValue) (ip : IpRepr) (header : TcpHeader) (size : ℕ) →
+      answers_at_once cx v.block ip header size ≡ answers_at_once cy v.block (bare ip) header size
+  at_once_bare v (Ip.Ipv4 x) header size = refl
+  at_once_bare v (Ip.Ipv6 x) header size = refl
+
   drawn_bare : (v : TcpValue) (ip : IpRepr) (header : TcpHeader) → drawn cx v ip header ≡ drawn cy v (bare ip) header
   drawn_bare v ip header = λ k. if may_draw moment v.block.timers.draws_from then acked_bare (with_draw v moment) ip header no_ranges k else dropped v
 
@@ -122,11 +128,17 @@ module _ (host : HostContext) (key : List ℕ) (moment : ℤ) (random words : �
 
   answer_bare : (v : TcpValue) (ip : IpRepr) (header : TcpHeader) (size : ℕ) (fills : Bool) (place : Option ℕ) →
       answer_for cx v ip header size fills place ≡ answer_for cy v (bare ip) header size fills place
-  answer_bare v ip header size fills None = refl
+  answer_bare v ip header size fills None =
+      λ k. if at_once_bare v ip header size k
+      then acked_bare v ip header no_ranges k
+      else dropped (with_block v (ack_due v.block header size fills moment))
   answer_bare v ip header size fills (Some place) = acked_bare v ip header (ranges_held v place)
 
   content_bare : (v : TcpValue) (ip : IpRepr) (header : TcpHeader) (bytes : List ℕ) → with_content cx v ip header bytes ≡ with_content cy v (bare ip) header bytes
-  content_bare v ip header bytes = answer_bare _ ip header (length bytes) (with_text v header bytes).fills (with_text v header bytes).early
+  content_bare v ip header bytes =
+      let t = with_text v header bytes in
+      let y = with_block t.socket (probe_kept (with_fin t.socket.block v.block header (length bytes) t.advance moment) (queued_in t.socket)) in
+      answer_bare y ip header (length bytes) t.fills t.early
 
   taken_bare : (v : TcpValue) (ip : IpRepr) (header : TcpHeader) (bytes : List ℕ) (by : ℕ) → taken cx v ip header bytes by ≡ taken cy v (bare ip) header bytes by
   taken_bare v ip header bytes by =
@@ -228,11 +240,16 @@ module _ (host : HostContext) (key : List ℕ) (moment : ℤ) (random : ℕ) whe
       (outside_none w ip header (has_length header size)) (outside_none v ip header false)
 
   answer_none : (v : TcpValue) (ip : IpRepr) (header : TcpHeader) (size : ℕ) (fills : Bool) (place : Option ℕ) → DrawsNone (answer_for kx v ip header size fills place)
-  answer_none v ip header size fills None = refl
+  answer_none v ip header size fills None =
+      either (answers_at_once kx v.block ip header size) (acked kx v ip header no_ranges)
+      (dropped (with_block v (ack_due v.block header size fills moment))) refl refl
   answer_none v ip header size fills (Some place) = refl
 
   content_none : (v : TcpValue) (ip : IpRepr) (header : TcpHeader) (bytes : List ℕ) → DrawsNone (with_content kx v ip header bytes)
-  content_none v ip header bytes = answer_none _ ip header (length bytes) (with_text v header bytes).fills (with_text v header bytes).early
+  content_none v ip header bytes =
+      let t = with_text v header bytes in
+      let y = with_block t.socket (probe_kept (with_fin t.socket.block v.block header (length bytes) t.advance moment) (queued_in t.socket)) in
+      answer_none y ip header (length bytes) t.fills t.early
 
   taken_none : (v : TcpValue) (ip : IpRepr) (header : TcpHeader) (bytes : List ℕ) (by : ℕ) → DrawsNone (taken kx v ip header bytes by)
   taken_none v ip header bytes by =

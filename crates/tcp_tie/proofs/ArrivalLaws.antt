@@ -17,9 +17,9 @@ use Rattle.tcp_model.specs.State.TheVariants as In
 use Rattle.tcp_model.specs.declared.block.Block.{Block}
 use Rattle.tcp_model.specs.Acknowledged.{acknowledged, duplicates_after, names_window, windowed, ranges_taken, counted}
 use Rattle.tcp_model.specs.Answers.{acked, drawn}
-use Rattle.tcp_model.specs.Segments.{no_ranges}
+use Rattle.tcp_model.specs.Segments.{no_ranges, has_length}
 use Rattle.tcp_model.specs.Settled.{nxt_past_held}
-use Rattle.tcp_model.specs.Arrival.{waiting_anew, outside, passed_outside, tells_news, has_length, comes_again, with_content, told, taken, inside}
+use Rattle.tcp_model.specs.Arrival.{waiting_anew, outside, passed_outside, tells_news, comes_again, with_content, told, taken, inside}
 use Rattle.tcp_model.specs.Arrival.{checked, takes_reset}
 use Rattle.tcp_model.specs.Arrival.{challenges_reset, reset_comes, challenges_syn, draws_first, echo_heard, received, arrives_in, arrives, is_void_syn}
 use Rattle.tcp_model.specs.Checks.{Check, opening_check, synchronized_check, acknowledgement_check, is_in_window, taken_down}

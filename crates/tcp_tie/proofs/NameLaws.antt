@@ -29,8 +29,8 @@ use Rattle.tcp_model.specs.State.{State}
 use Rattle.tcp_model.specs.State.TheVariants as In
 use Rattle.tcp_model.specs.Acknowledged.{acknowledged, block_acknowledged, state_after_ack, acks_fin, una_moved, in_state, ended_if, duplicates_after}
 use Rattle.tcp_model.specs.Acknowledged.{names_window, windowed, ranges_taken, counted}
-use Rattle.tcp_model.specs.Answers.{drawn, may_draw, with_draw, acked, answer_for, ranges_held}
-use Rattle.tcp_model.specs.Arrival.{waiting_anew, outside, passed_outside, tells_news, has_length, comes_again, finished, with_content, told}
+use Rattle.tcp_model.specs.Answers.{ack_due, drawn, may_draw, with_draw, acked, answer_for, answers_at_once, ranges_held}
+use Rattle.tcp_model.specs.Arrival.{waiting_anew, outside, passed_outside, tells_news, comes_again, finished, with_content, told}
 use Rattle.tcp_model.specs.Arrival.{taken, inside, checked, takes_reset}
 use Rattle.tcp_model.specs.Arrival.{challenges_reset, reset_comes, draws_first, echo_heard, received, arrives_in, arrives, is_void_syn}
 use Rattle.tcp_model.specs.Calls.{listening, close_after, abort_after}
@@ -48,7 +48,7 @@ use Rattle.tcp_model.specs.Probing.{probe_started, probe_moment, probe_kept}
 use Rattle.tcp_model.specs.Offsets.{past_by, before_by}
 use Rattle.tcp_model.specs.Rules.{control_for, time_wait_end, owes_syn, resends, ack_moment, has_text, text_choice, resend_choice, probe_choice, updates_window}
 use Rattle.tcp_model.specs.Rules.{keep_alive_moment, backed_off_now}
-use Rattle.tcp_model.specs.Segments.{no_ranges, rst_reply, reset_for, reply_to, hops_of, segment, sack_segment, ack_segment, syn_segment, reset_segment}
+use Rattle.tcp_model.specs.Segments.{no_ranges, rst_reply, reset_for, reply_to, hops_of, segment, sack_segment, ack_segment, syn_segment, reset_segment, has_length}
 use Rattle.tcp_model.specs.Segments.{keep_alive_segment}
 use Rattle.tcp_model.specs.Retries.{heard, asked, one_more, gives_up, given_up}
 use Rattle.tcp_model.specs.Settled.{nxt_past_held, settled, recorded, probed, end_of}
@@ -254,7 +254,10 @@ module _ (cx : ContextValue) (ip : IpRepr) (header : TcpHeader) where
       Named old (answer_for cx v ip header size fills early)
   named_answer old v size fills (Some place) names = named_acked old v (ranges_held v place) names
   named_answer old v size fills None names =
-      named_dropped old (answer_for cx v ip header size fills None).socket (inl (record { names = names.names; listening = names.listening }))
+      let later = with_block v (ack_due v.block header size fills cx.moment) in
+      cond_both (answers_at_once cx v.block ip header size) (acked cx v ip header no_ranges) (dropped later) (Named old)
+      (λ _. named_acked old v no_ranges names)
+      (λ _. named_dropped old later (inl (record { names = names.names; listening = names.listening })))
 
   named_finished : (old before : Block) (t : Texted) (size : ℕ) → KeepsNames old t.socket.block → Named old (finished cx before t ip header size)
   named_finished old before t size names =

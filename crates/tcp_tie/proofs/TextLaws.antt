@@ -17,7 +17,7 @@ use Rattle.tcp_law.specs.Side.Phase.{Synchronized}
 use Rattle.tcp_law.proofs.Calls as law
 use Rattle.tcp_model.specs.declared.block.Block.{Block}
 use Rattle.tcp_model.specs.State.{State}
-use Rattle.tcp_model.specs.Answers.{acked, drawn, with_draw, may_draw, answer_for, ranges_held}
+use Rattle.tcp_model.specs.Answers.{ack_due, acked, answers_at_once, drawn, with_draw, may_draw, answer_for, ranges_held}
 use Rattle.tcp_model.specs.Arrival.{with_content}
 use Rattle.tcp_model.specs.Controls.{is_syn, is_fin, is_rst}
 use Rattle.tcp_model.specs.Offsets.{past_by, before_by}
@@ -77,7 +77,10 @@ led_answer :
     is_connected v.block.state ≡ true
     → Tied (core_of v) p t → Led p t (answer_for cx v ip header size fills early)
 led_answer cx v ip header size fills (Some place) p t connected r = led_acked cx v ip header (ranges_held v place) p t connected r
-led_answer cx v ip header size fills None p t connected r = r
+led_answer cx v ip header size fills None p t connected r =
+    cond_both (answers_at_once cx v.block ip header size) (acked cx v ip header no_ranges)
+    (dropped (with_block v (ack_due v.block header size fills cx.moment))) (λ (a : Arrived). Led p t a)
+    (λ _. led_acked cx v ip header no_ranges p t connected r) (λ _. r)
 
 -- TEXT
 

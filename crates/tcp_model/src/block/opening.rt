@@ -3,7 +3,8 @@ ghost use Rattle.std.specs.Prelude.{◌≡◌, ◌≤◌, ◌^◌, ◌==◌, ◌
 ghost use Rattle.net_base.specs.Time.{IsMoment};
 ghost use Rattle.tcp_control.specs.Controls.{is_syn, is_fin, is_rst, or_mss, is_zero, or_recent};
 ghost use Rattle.tcp_model.specs.Opening.{peer_of, took_syn, is_first_syn, answering, acks_syn, connected, crossed, syn_answered};
-ghost use Rattle.tcp_model.specs.Arrival.{is_void_syn, has_length};
+ghost use Rattle.tcp_model.specs.Arrival.{is_void_syn};
+ghost use Rattle.tcp_model.specs.Segments.{has_length};
 
 use super::acknowledged::or_number;
 use super::fresh::DEFAULT_MSS;

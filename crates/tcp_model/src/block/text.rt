@@ -1,10 +1,12 @@
 //! The FIN of an accepted segment, and which acknowledgement becomes due.
-ghost use Rattle.std.specs.Prelude.{◌≡◌, ◌+◌, ◌≤◌, ◌<◌, ◌^◌};
+ghost use Rattle.std.specs.Prelude.{◌≡◌, ◌+◌, ◌*◌, ◌≤◌, ◌<◌, ◌^◌, nat_le};
 ghost use Rattle.net_base.specs.Time.{IsMoment};
 ghost use Rattle.tcp_model.specs.Text.{with_next, is_at_fin, takes_fin, fin_taken, with_fin};
 ghost use Rattle.tcp_model.specs.Answers.{ack_recorded, may_draw, delayed, sooner, ack_moment_after, ack_due, numbers_of};
+ghost use Rattle.tcp_model.specs.Answers.{came_since};
+ghost use Rattle.tcp_model.specs.Rules.{size_limit};
 
-use crate::Block;
+use crate::{AddressPair, Block};
 use ip_wire::{SeqNumber, TcpHeader};
 use net_base::{Duration, Instant};
 use tcp_control::controls::is_fin;
@@ -63,6 +65,20 @@ impl Block {
         self.receiver.last_ack = self.receiver.next;
         self.timers.ack_at = None;
         self.timers.text_unacked = false;
+    }
+
+    /// How many positions came since the last acknowledgement went.
+    fn came_since(&self) -> usize
+        ensures { result ≡ came_since self.now }
+    {
+        self.receiver.last_ack.distance(self.receiver.next) as usize
+    }
+
+    /// Whether as much came since the last acknowledgement went as two full segments take.
+    pub fn came_twice(&self, addresses: &AddressPair, ip_mtu: usize) -> bool
+        ensures { result ≡ nat_le (2 * size_limit self.now addresses.now ip_mtu) (came_since self.now) }
+    {
+        2 * self.size_limit(addresses, ip_mtu) <= self.came_since()
     }
 
     /// Whether an answer may be drawn.

@@ -31,8 +31,8 @@ use Rattle.sockets.specs.declared.udp.UdpMetadata.{UdpMetadata}
 use Rattle.tcp_model.specs.AddressPair.{AddressPair}
 use Rattle.tcp_model.specs.AddressPair.TheVariants as Pair
 use Rattle.tcp_model.specs.Acknowledged.{acknowledged, duplicates_after}
-use Rattle.tcp_model.specs.Answers.{drawn, may_draw, with_draw, acked, answer_for, ranges_held}
-use Rattle.tcp_model.specs.Arrival.{waiting_anew, outside, passed_outside, tells_news, has_length, comes_again, finished, with_content, told, taken}
+use Rattle.tcp_model.specs.Answers.{ack_due, drawn, may_draw, with_draw, acked, answer_for, answers_at_once, ranges_held}
+use Rattle.tcp_model.specs.Arrival.{waiting_anew, outside, passed_outside, tells_news, comes_again, finished, with_content, told, taken}
 use Rattle.tcp_model.specs.Arrival.{inside, checked, takes_reset}
 use Rattle.tcp_model.specs.Arrival.{challenges_reset, reset_comes, draws_first, echo_heard, received, arrives_in, arrives, is_void_syn}
 use Rattle.tcp_model.specs.Calls.{listening}
@@ -53,7 +53,7 @@ use Rattle.tcp_model.specs.Reply.{Reply}
 use Rattle.tcp_model.specs.Retries.{heard, gives_up, given_up}
 use Rattle.tcp_model.specs.Rules.{Choice, control_for, time_wait_end, owes_syn, resends, ack_moment, has_text, text_choice, resend_choice, probe_choice}
 use Rattle.tcp_model.specs.Rules.{updates_window, keep_alive_moment}
-use Rattle.tcp_model.specs.Segments.{no_ranges, hops_of, segment, ack_segment, sack_segment, syn_segment, reset_segment, keep_alive_segment, rst_reply}
+use Rattle.tcp_model.specs.Segments.{no_ranges, hops_of, segment, ack_segment, sack_segment, syn_segment, reset_segment, keep_alive_segment, rst_reply, has_length}
 use Rattle.tcp_model.specs.Segments.{reset_for}
 use Rattle.tcp_model.specs.State.{State}
 use Rattle.tcp_model.specs.State.TheVariants as In
@@ -310,7 +310,9 @@ module _ (cx : ContextValue) (ip : IpRepr) (header : TcpHeader) where
 
   answer_tcp : (v : TcpValue) (size : ℕ) (fills : Bool) (early : Option ℕ) → AnswersTcp (answer_for cx v ip header size fills early)
   answer_tcp v size fills (Some place) = acked_tcp v (ranges_held v place)
-  answer_tcp v size fills None = tt
+  answer_tcp v size fills None =
+      either_arrived (answers_at_once cx v.block ip header size) (acked cx v ip header no_ranges)
+      (dropped (with_block v (ack_due v.block header size fills cx.moment))) (acked_tcp v no_ranges) tt
 
   finished_tcp : (old : Block) (t : Texted) (size : ℕ) → AnswersTcp (finished cx old t ip header size)
   finished_tcp old t size =

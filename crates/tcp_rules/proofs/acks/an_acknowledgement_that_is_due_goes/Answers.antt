@@ -1,8 +1,11 @@
-use Rattle.tcp_rules.proofs.AckRules.{due_after_text, stays_due, goes_when_due}
+use Rattle.tcp_rules.proofs.AckRules.{due_after_text, twice_after_text, stays_due, goes_when_due}
 use Rattle.tcp_rules.proofs.acks.an_acknowledgement_that_is_due_goes.Goals as goal
 
 pub returns-clause-due : goal.returns-clause-due
 returns-clause-due c = due_after_text
+
+pub returns-clause-twice : goal.returns-clause-twice
+returns-clause-twice c = twice_after_text
 
 pub returns-clause-stays : goal.returns-clause-stays
 returns-clause-stays c = stays_due

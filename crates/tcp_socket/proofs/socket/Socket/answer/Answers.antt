@@ -1,5 +1,5 @@
 use Rattle.std.proofs.Common.{length}
-use Rattle.tcp_socket.proofs.Steps.{held_leads, delayed_leads}
+use Rattle.tcp_socket.proofs.Steps.{held_leads}
 use Rattle.tcp_socket.proofs.socket.Socket.answer.Goals as goal
 
 pub returns-in-Some : goal.returns-in-Some
@@ -8,14 +8,5 @@ returns-in-Some g c =
     let leads =
     held_leads (g.C.Context.context c.args.cx.now) c.args.self.now c.acknowledge_all.new.self c.acknowledge_all.result c.in-Some.place c.args.early
     i.ip_repr.now i.header (length i.bytes.now) c.args.fills c.in-Some.is c.acknowledge_all.ensures.window c.acknowledge_all.ensures.socket
-    in
-    record { answer = leads.answer; socket = leads.socket }
-
-pub returns-in-None : goal.returns-in-None
-returns-in-None g c =
-    let i = c.args.incoming.now in
-    let leads =
-    delayed_leads (g.C.Context.context c.args.cx.now) c.args.self.now c.delay_ack.new.self c.now.result c.args.early i.ip_repr.now i.header
-    (length i.bytes.now) c.args.fills c.in-None.is c.now.ensures.value c.delay_ack.ensures
     in
     record { answer = leads.answer; socket = leads.socket }
