@@ -14,6 +14,11 @@ pub mod PolledJoins
 pub mod Runs
 pub mod Rebuilding
 pub mod Whole
+pub mod StillSteps
+pub mod StillOnward
+pub mod StillSources
+pub mod StillPlain
+pub mod StillRuns
 pub mod Damages
 pub mod SaidPolls
 pub mod SaidRuns

@@ -12,6 +12,7 @@ pub mod New
 pub mod Past
 pub mod Come
 pub mod Promises
+pub mod Still
 pub use Rattle.interface.specs.Made
 pub use Rattle.interface_tables.specs.Settings
 pub use Rattle.interface_egress.specs.Set

@@ -26,6 +26,7 @@ ghost use Rattle.lan.specs.Worlds.AtLink.Side.{Side};
 ghost use Rattle.lan.specs.Worlds.AtLink.Parties.{Net, party};
 ghost use Rattle.lan.specs.Worlds.Events.{AreTyped};
 ghost use Rattle.lan.specs.Worlds.Rebuilt.{taken_next};
+ghost use Rattle.lan.specs.Worlds.Still.{MovePlainly, StillRun};
 ghost use Rattle.lan.specs.Worlds.AtLink.Fresh.{IsFreshWorld};
 ghost use Rattle.lan.specs.Worlds.AtLink.Runs.{Leads, Starts, WorldRun, unused_both};
 ghost use Rattle.lan.specs.Worlds.AtLink.Station.{Stations, station};
@@ -114,4 +115,16 @@ pub fn packets_can_be_read()
         → a.reply ≡ Some (Answers p)
         → IsWellFormed p
         → IsWide p }
+{}
+
+/// Law: where both hosts stay as they showed themselves to their sockets at first, plain moves led their sockets to where they were before some last
+/// events, and on to where they are: an offer leaves from its own address, a segment comes whole, and no host makes a reset itself. Each
+/// move shows the sockets of any two places their hosts, whose clocks never go back.
+#[tactic(auto, using(crate::proofs::Worlds::StillRuns::still_hosts_move_plainly))]
+pub fn still_hosts_move_plainly()
+    ensures { (starts : Starts) (past more : List Entry) (hosts : Stations)
+        → IsFreshWorld starts
+        → AreTyped (more ++ past)
+        → StillRun starts (more ++ past) hosts
+        → (between : Stations) × StillRun starts past between × MovePlainly starts past between (more ++ past) hosts }
 {}

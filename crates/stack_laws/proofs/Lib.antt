@@ -8,3 +8,4 @@ pub mod TurnPackets
 pub mod Polls
 pub mod Runs
 pub mod Partnered
+pub mod StillPartners

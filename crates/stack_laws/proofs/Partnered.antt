@@ -1,15 +1,21 @@
 -- Partners over packets are a pair that events led to.
-use Rattle.std.proofs.Common.{ℕ, Bool, List, []}
+use Rattle.std.proofs.Common.{ℕ, ℤ, Bool, List, [], subst, sym}
+use Rattle.tcp_tie.specs.Pair.Steps.{Steps}
+use Rattle.tcp_tie.specs.Pair.Values.{PairValue}
+use Rattle.tcp_progress.proofs.CourseThrough.{through_whatever}
+use Rattle.tcp_progress.proofs.CourseWindows.{gets_on}
+use Rattle.tcp_progress.specs.Reached.{IsReached}
+use Rattle.tcp_progress.specs.Spans.{IsThroughAmong}
 use Rattle.lan.specs.declared.at_link.history.event.Side.{Side}
 use Rattle.lan.specs.declared.at_link.history.event.Side.TheVariants.{A, B}
 use Rattle.lan.specs.Worlds.AtLink.Moves.{IsRun, Step, run}
 use Rattle.lan.specs.Worlds.AtLink.PacketsSafe.{IsFreshNet}
-use Rattle.lan.specs.Worlds.AtLink.Paired.{AreHosted, AreNew, HaveKeys, NewSocket, Seat, at_zero, begun, clocks_in}
+use Rattle.lan.specs.Worlds.AtLink.Paired.{AreHosted, AreNew, HaveKeys, NewSocket, Seat, Shows, at_zero, begun, clocks_in}
 use Rattle.lan.specs.Worlds.AtLink.Parties.{Net}
 use Rattle.lan.specs.Worlds.AtLink.Partners.{ArePartners}
 use Rattle.lan.proofs.Worlds.AtLink.Paired.Begins.{begins}
 use Rattle.lan.proofs.Worlds.AtLink.Paired.Runs.{partners_go_on}
-use Rattle.stack_laws.specs.Progress.Partners.{HoldText, ShowsReached}
+use Rattle.stack_laws.specs.Progress.Partners.{GoesOnInTime, HoldText, ShowsReached}
 
 pub reached : (starts : Side → ℕ → ℕ) (names : List ℕ → Bool) (first : Net) (steps : List Step) (seats : Side → Seat) (news : Side → NewSocket) →
     IsFreshNet starts first → AreNew seats news first → IsRun names first steps → AreHosted seats at_zero first steps → HaveKeys seats → HoldText seats →
@@ -19,10 +25,27 @@ reached starts names first steps seats news fresh new is hosted keys text partne
     record {
       pair = on.next;
       reached = record {
-        a = record { host = (seats A).host; holds = text A; random = (seats A).random; room = (news A).room; ring = (news A).ring };
-        b = record { host = (seats B).host; holds = text B; random = (seats B).random; room = (news B).room; ring = (news B).ring };
+        a = record { host = (seats A).host; holds = text A; random = 0; room = (news A).room; ring = (news A).ring };
+        b = record { host = (seats B).host; holds = text B; random = 0; room = (news B).room; ring = (news B).ring };
         events = on.events;
         steps = on.steps;
       };
       shows = on.shows;
+    }
+
+-- and their connection goes on
+pub goes_on : (starts : Side → ℕ → ℕ) (names : List ℕ → Bool) (first : Net) (before steps : List Step) (seats : Side → Seat) (clocks : Side → ℤ)
+    (p : PairValue) → IsFreshNet starts first → IsRun names first before → IsReached p → Shows seats clocks (run first before) p →
+    IsRun names (run first before) steps → AreHosted seats clocks (run first before) steps → HaveKeys seats →
+    ArePartners (run (run first before) steps).history A (seats A).place (seats B).place → GoesOnInTime seats (clocks_in seats clocks steps) (run (run first before) steps) p
+goes_on starts names first before steps seats clocks p fresh was reached shows is hosted keys partners =
+    let on = partners_go_on starts names first before steps seats clocks p fresh was is hosted keys partners shows in
+    record {
+      on = on;
+      rises = λ side course read wait delay now are t owes lasts.
+          gets_on p on.next side course read wait delay now reached t.opened (subst (λ events. Steps p events on.next) (sym are) on.steps) t.stay owes t.goes t.reads lasts;
+      through = λ side course read wait delay now are t lasts.
+          subst (IsThroughAmong p side) are
+          (through_whatever p on.next side course read wait delay now reached t.opened (subst (λ events. Steps p events on.next) (sym are) on.steps) t.stay t.goes t.reads
+          lasts);
     }

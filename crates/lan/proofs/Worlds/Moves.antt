@@ -1,5 +1,7 @@
 -- What a host does is a run over packets.
 pub mod Following
+pub mod Held
+pub mod Later
 pub mod Coming
 pub mod MadeReplies
 pub mod Places
@@ -23,6 +25,7 @@ pub mod Answering
 pub mod Protocols
 pub mod Ports
 pub mod Fits
+mod Held
 pub mod Wide
 pub mod Named
 pub mod Makers

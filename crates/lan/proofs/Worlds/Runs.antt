@@ -1,5 +1,5 @@
 -- Wherever a history of typed events led from two fresh hosts, they are joined, and so their sockets are safe.
-use Rattle.std.proofs.Common.{◌≡◌, ℕ, ◌+◌, ◌^◌, ◌<◌, ◌≤◌, List, [], ◌∷◌, ◌++◌, refl, sym, ◌∙◌, ap, subst, arith}
+use Rattle.std.proofs.Common.{◌≡◌, ℕ, ◌+◌, ◌^◌, ◌<◌, ◌≤◌, ◌≤ℤ◌, List, [], ◌∷◌, ◌++◌, refl, sym, ◌∙◌, ap, subst, arith, append-nil, append_assoc}
 use Rattle.std.specs.Prelude.{ℤ}
 use Rattle.lan.specs.Worlds.AtLink.History.{Entry}
 use Rattle.lan.specs.Worlds.AtLink.Kinds.{other, kind_of, Kind}
@@ -7,7 +7,7 @@ use Rattle.lan.specs.Worlds.AtLink.Kinds.Act.{Calls, Sets, Opens, Asks, Polls}
 use Rattle.lan.specs.Worlds.AtLink.Kinds.Kind.{OfHost, OfLink}
 use Rattle.lan.specs.Worlds.AtLink.Side.{Side}
 use Rattle.lan.specs.Worlds.AtLink.Side.TheVariants.{A, B}
-use Rattle.lan.specs.Worlds.AtLink.Moves.{IsRun, run}
+use Rattle.lan.specs.Worlds.AtLink.Moves.{IsRun, Step, run}
 use Rattle.lan.specs.Worlds.AtLink.Parties.{Net}
 use Rattle.lan.specs.Worlds.AtLink.PacketsSafe.{IsSafe}
 use Rattle.lan.proofs.Worlds.AtLink.Extended.{run-append, IsRun-append}
@@ -36,6 +36,15 @@ use Rattle.lan.proofs.Worlds.Events.{plain_joins}
 use Rattle.lan.proofs.Worlds.PolledJoins as Polled
 use Rattle.lan.proofs.Worlds.Settings.{setting_joins}
 use Rattle.lan.specs.Worlds.Link.Frames.{Outgoing}
+use Rattle.net_base.specs.Time.{IsMoment}
+use Rattle.std.proofs.lemmas.Int.{ints}
+use Rattle.lan.specs.Worlds.AtLink.Paired.{at_zero}
+use Rattle.lan.specs.Worlds.Still.{AreStill, StillRun}
+use Rattle.lan.proofs.Worlds.Hosts.Polling.{polled as poll_settings}
+use Rattle.lan.proofs.Worlds.Moves.Held.{IsSeenAs, all_so}
+use Rattle.lan.proofs.Worlds.Moves.Worlds.{rest_held}
+use Rattle.lan.proofs.Worlds.StillOnward.{first, moments, now_still, onward, ran, seen_in_run}
+use Rattle.lan.proofs.Worlds.StillSteps.{AreAllHeld, all-append, all-at}
 
 -- how many datagrams a host has numbered
 abbrev pub numbered_by : List Entry → Stations → Side → ℕ
@@ -125,6 +134,9 @@ module _ (starts : Starts) (net : Net) (old new : Stations) (past : List Entry) 
 
 -- ANY EVENT
 
+no_later : (a b : ℤ) → a ≡ b → a ≤ℤ b
+no_later a b is = omega (arith, ints, is)
+
 module _ (starts : Starts) where
   by_kind : (net : Net) (old new : Stations) (past : List Entry) (e : Entry) (w : AreWell starts past old net) (of : IsNetOf net old past)
       (leads : Leads past old e new) → AreFit old
@@ -145,14 +157,15 @@ module _ (starts : Starts) where
 
   pub has_come : (history : List Entry) (hosts : Stations) → IsFreshWorld starts → AreTyped history → WorldRun history (unused_both starts) hosts →
       HasCome starts (λ h n. AreWell starts history h n) history hosts
-  has_come [] hosts fresh typed is = subst (λ (h : Stations). HasCome starts (λ x n. AreWell starts [] x n) [] h) (sym is) (record {
+  has_come [] hosts fresh typed is = record {
     net = first_net starts;
     steps = [];
     may = tt;
     ends = refl;
-    of = record { sockets = first_of starts; history = refl };
-    joined = record { most = none_yet; joined = first_joined starts fresh; few = λ side. omega arith; numbered = λ side. omega arith };
-  })
+    of = subst (λ (h : Stations). IsNetOf (first_net starts) h []) (sym is) (record { sockets = first_of starts; history = refl });
+    joined = subst (λ (h : Stations). AreWell starts [] h (first_net starts)) (sym is)
+        (record { most = none_yet; joined = first_joined starts fresh; few = λ side. omega arith; numbered = λ side. omega arith });
+  }
   has_come (e ∷ past) hosts fresh typed (before, ran, leads) =
       let came = has_come past before fresh typed.1 ran in
       let next = by_kind came.net before hosts past e came.joined came.of leads (worlds_fit starts fresh past before ran) (kind_of e.event) refl typed.0
@@ -166,6 +179,82 @@ module _ (starts : Starts) where
         of = c.of;
         joined = next.1;
       }
+
+  -- AN EVENT
+
+  module _ (net : Net) (old new : Stations) (past : List Entry) (e : Entry) (w : AreWell starts past old net) (of : IsNetOf net old past)
+      (leads : Leads past old e new) (fit : AreFit old) (seen : (s : Side) → IsSeenAs (first starts s) ((station old s).host.inner)) (was : AreStill starts old)
+      (all : AreStill starts new) where
+    up : (s : Side) → moments starts old s ≤ℤ moments starts new s
+    up s = (onward starts old new past e leads s).later
+
+    rested : (quiet : IsNoPoll (kind_of e.event)) → AreAllHeld (first starts) (moments starts old) net (rest_comes net old new past e of quiet leads).steps (moments starts new)
+    rested quiet = rest_held (first starts) net old new past e of seen (λ s. (was s).moment) (λ s. (all s).moment) up quiet leads
+
+    kind_held : (k : Kind) (is : kind_of e.event ≡ k) (typed : IsTyped k) (happens : Happens old k e.answer e.found new) →
+        AreAllHeld (first starts) (moments starts old) net (by_kind net old new past e w of leads fit k is typed happens).0.steps (moments starts new)
+    unfolding by_kind plain rests polled
+    kind_held (OfHost side (Calls i call)) is typed happens = rested (subst IsNoPoll (sym is) tt)
+    kind_held (OfHost side (Opens n)) is typed happens = rested (subst IsNoPoll (sym is) tt)
+    kind_held (OfHost side (Asks t)) is typed happens = rested (subst IsNoPoll (sym is) tt)
+    kind_held (OfLink act) is typed happens = rested (subst IsNoPoll (sym is) tt)
+    kind_held (OfHost side (Sets setting)) is typed happens = rested (subst IsNoPoll (sym is) tt)
+    kind_held (OfHost side (Polls t budget)) is typed happens =
+        let few = few_out starts net old new past e w of leads side t budget is happens in
+        let pol = Polled.polled (firsts starts) w.most old new net past e w.joined of side t budget is few happens (fit side) in
+        let it = poll_settings (station old side) (station new side) t budget happens.acts.0 happens.acts.1 in
+        let held = pol.held ((all side).paths, (all side).errors ∙ sym (was side).errors) in
+        let now : moments starts new side ≡ t = it.now in
+        all-at (first starts) side t (subst IsMoment now (all side).moment) (moments starts new) (no_later t (moments starts new side) (sym now)) (moments starts old) net
+        pol.comes.steps (subst (λ (u : ℤ). moments starts old side ≤ℤ u) now (up side)) up
+        (all_so (first starts side) ((station old side).host.inner) (seen side) t side net pol.comes.steps held)
+
+  -- ALL EVENTS
+
+  pub held_run : (history : List Entry) (hosts : Stations) (fresh : IsFreshWorld starts) (typed : AreTyped history) (still : StillRun starts history hosts) →
+      AreAllHeld (first starts) at_zero (first_net starts) (has_come history hosts fresh typed (ran starts history hosts still)).steps (moments starts hosts)
+  unfolding has_come
+  held_run [] hosts fresh typed still = λ s. (still.1 s).moment.0
+  held_run (e ∷ past) hosts fresh typed (before, still, leads, all) =
+      let run_before = ran starts past before still in
+      let came = has_come past before fresh typed.1 run_before in
+      let fit = worlds_fit starts fresh past before run_before in
+      let next = by_kind came.net before hosts past e came.joined came.of leads fit (kind_of e.event) refl typed.0 leads.happens in
+      all-append (first starts) at_zero (moments starts before) (first_net starts) came.steps next.0.steps (moments starts hosts) (held_run past before fresh typed.1 still)
+      (subst (λ (n : Net). AreAllHeld (first starts) (moments starts before) n next.0.steps (moments starts hosts)) (sym came.ends)
+      (kind_held came.net before hosts past e came.joined came.of leads fit (seen_in_run starts past before still) (now_still starts past before still) all
+      (kind_of e.event) refl typed.0 leads.happens))
+
+  -- A LATER PART of the events is a later part of the steps
+  next_steps : (past more : List Entry) (e : Entry) (hosts : Stations) (fresh : IsFreshWorld starts) (typed : AreTyped ((e ∷ more) ++ past)) (before : Stations)
+      (still : StillRun starts (more ++ past) before) (leads : Leads (more ++ past) before e hosts)
+      → (steps : List Step) × ((all : AreStill starts hosts)
+      → (has_come ((e ∷ more) ++ past) hosts fresh typed (ran starts ((e ∷ more) ++ past) hosts (before, still, leads, all))).steps
+      ≡ (has_come (more ++ past) before fresh typed.1 (ran starts (more ++ past) before still)).steps ++ steps)
+  unfolding has_come
+  next_steps past more e hosts fresh typed before still leads =
+      let run_before = ran starts (more ++ past) before still in
+      let came = has_come (more ++ past) before fresh typed.1 run_before in
+      let next = by_kind came.net before hosts (more ++ past) e came.joined came.of leads (worlds_fit starts fresh (more ++ past) before run_before)
+      (kind_of e.event) refl typed.0 leads.happens in
+      (next.0.steps, λ all. refl)
+
+  pub came_on : (past more : List Entry) (hosts : Stations) (fresh : IsFreshWorld starts) (typed : AreTyped (more ++ past))
+      (still : StillRun starts (more ++ past) hosts)
+      → (between : Stations) × (typed_past : AreTyped past) × (was : StillRun starts past between) × (steps : List Step)
+      × ((has_come (more ++ past) hosts fresh typed (ran starts (more ++ past) hosts still)).steps
+      ≡ (has_come past between fresh typed_past (ran starts past between was)).steps ++ steps)
+  came_on past [] hosts fresh typed still = (hosts, typed, still, [], sym (append-nil _))
+  came_on past (e ∷ more) hosts fresh typed (before, still, leads, all) =
+      let came = came_on past more before fresh typed.1 still in
+      let next = next_steps past more e hosts fresh typed before still leads in (
+        came.0,
+        came.1,
+        came.2,
+        came.3 ++ next.0,
+        next.1 all ∙ ap (λ (xs : List Step). xs ++ next.0) came.4
+            ∙ append_assoc (has_come past came.0 fresh came.1 (ran starts past came.0 came.2)).steps came.3 next.0,
+      )
 
   pub runs_safe : IsFreshWorld starts → (history : List Entry) (hosts : Stations) → AreTyped history → WorldRun history (unused_both starts) hosts
       → IsSafe (first_port starts) (net_of (record { hosts = hosts; starts = starts; history = history }))

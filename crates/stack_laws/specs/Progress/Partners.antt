@@ -11,19 +11,14 @@ use Rattle.tcp_progress.specs.Pair.{left_in}
 use Rattle.tcp_progress.specs.Reached.{IsReached}
 use Rattle.tcp_progress.specs.Readers.{ReadsWithin, whole_span}
 use Rattle.tcp_progress.specs.Spans.{IsThroughAmong, most_reached, reached_in}
-use Rattle.lan_base.specs.Carried.{names_tcp_or_udp}
-use Rattle.lan_base.specs.Medium.TheVariants as Medium
 use Rattle.lan.specs.declared.at_link.history.event.Side.{Side}
-use Rattle.lan.specs.declared.at_link.history.event.Side.TheVariants.{A, B}
 use Rattle.lan.specs.Worlds.AtLink.History.{Entry}
-use Rattle.lan.specs.Worlds.AtLink.Moves.{IsRun, Step, run}
-use Rattle.lan.specs.Worlds.AtLink.Paired.{AreHosted, AreNew, GoesOn, HaveKeys, NewSocket, Seat, Shows, at_zero, clocks_in}
+use Rattle.lan.specs.Worlds.AtLink.Paired.{GoesOn, Seat, Shows}
 use Rattle.lan.specs.Worlds.AtLink.Parties.{Net}
-use Rattle.lan.specs.Worlds.AtLink.Partners.{ArePartners}
 use Rattle.lan.specs.Worlds.AtLink.Runs.{Starts}
 use Rattle.lan.specs.Worlds.AtLink.Station.{Stations}
 use Rattle.lan.specs.Worlds.Moves.Follows.{IsNetOf}
-use Rattle.lan.specs.Worlds.Moves.Joined.{first_net}
+use Rattle.lan.specs.Worlds.Still.{StillRun}
 
 -- a packet of either host holds text
 abbrev pub HoldText : (Side → Seat) → Type 0
@@ -55,10 +50,14 @@ pub record GoesOnInTime (seats : Side → Seat) (clocks : Side → ℤ) (net : N
       → (now +ℤ pos (suc (most_reached on.next - reached_in p) * (2 * whole_span read wait delay p side))) <ℤ end_of now course
       → IsThroughAmong p side on.events
 
--- A world came by this run over packets; where that is plain, its two partners are a pair that events led to.
-pub record CameByPackets (starts : Starts) (history : List Entry) (hosts : Stations) (seats : Side → Seat) (news : Side → NewSocket) : Type 0 where
-  pub steps : List Step
-  pub may : IsRun (names_tcp_or_udp Medium.Ip) (first_net starts) steps
-  pub of : IsNetOf (run (first_net starts) steps) hosts history
-  pub reached : AreNew seats news (first_net starts) → AreHosted seats at_zero (first_net starts) steps → HaveKeys seats → HoldText seats
-      → ArePartners history A (seats A).place (seats B).place → ShowsReached seats (clocks_in seats at_zero steps) (run (first_net starts) steps)
+-- A pair that events led to shows the sockets of two partners at the hosts between, with this past, and goes on to one that shows them at these hosts.
+pub record GoOnBetween (starts : Starts) (past : List Entry) (between : Stations) (history : List Entry) (hosts : Stations) (seats : Side → Seat) : Type 0 where
+  pub was_still : StillRun starts past between
+  pub net : Net
+  pub of : IsNetOf net between past
+  pub clocks : Side → ℤ
+  pub reached : ShowsReached seats clocks net
+  pub next : Net
+  pub of_these : IsNetOf next hosts history
+  pub clocks_then : Side → ℤ
+  pub goes_on : GoesOnInTime seats clocks_then next reached.pair

@@ -1,6 +1,6 @@
 //! Two partners at hosts whose connection goes on.
 
-ghost use Rattle.std.specs.Prelude.{◌≡◌, ℕ, ℤ, Bool, List};
+ghost use Rattle.std.specs.Prelude.{◌≡◌, ℕ, ℤ, Bool, List, ◌++◌};
 ghost use Rattle.lan.specs.declared.at_link.history.event.Side.{Side};
 ghost use Rattle.lan.specs.declared.at_link.history.event.Side.TheVariants.{A, B};
 ghost use Rattle.lan.specs.Worlds.AtLink.Fresh.{IsFreshWorld};
@@ -10,12 +10,14 @@ ghost use Rattle.lan.specs.Worlds.AtLink.PacketsSafe.{IsFreshNet};
 ghost use Rattle.lan.specs.Worlds.AtLink.Paired.{AreHosted, AreNew, HaveKeys, NewSocket, Seat, Shows, at_zero, clocks_in};
 ghost use Rattle.lan.specs.Worlds.AtLink.Parties.{Net};
 ghost use Rattle.lan.specs.Worlds.AtLink.Partners.{ArePartners};
-ghost use Rattle.lan.specs.Worlds.AtLink.Runs.{Starts, WorldRun, unused_both};
+ghost use Rattle.lan.specs.Worlds.AtLink.Runs.{Starts};
 ghost use Rattle.lan.specs.Worlds.AtLink.Station.{Stations};
 ghost use Rattle.lan.specs.Worlds.Events.{AreTyped};
+ghost use Rattle.lan.specs.Worlds.Moves.Joined.{first_net};
+ghost use Rattle.lan.specs.Worlds.Still.{StillRun, seats_of};
 ghost use Rattle.tcp_tie.specs.Pair.Values.{PairValue};
 ghost use Rattle.tcp_progress.specs.Reached.{IsReached};
-ghost use Rattle.stack_laws.specs.Progress.Partners.{CameByPackets, GoesOnInTime, HoldText, ShowsReached};
+ghost use Rattle.stack_laws.specs.Progress.Partners.{GoOnBetween, GoesOnInTime, HoldText, ShowsReached};
 
 use lan::at_link::history::pair_laws::partners_are_a_pair;
 use tcp_progress::readers::{
@@ -47,10 +49,17 @@ pub fn partners_go_on()
     all_is_acknowledged_whatever_the_windows_are();
 }
 
-/// Law: each world came by a run over packets of its two hosts; where that is plain, its partners are a pair that events led to.
-pub fn partners_in_a_world_are_reached()
-    ensures { (starts : Starts) (history : List Entry) (hosts : Stations) (seats : Side → Seat) (news : Side → NewSocket)
-        → IsFreshWorld starts → AreTyped history → WorldRun history (unused_both starts) hosts → CameByPackets starts history hosts seats news }
+/// Law: in a world whose hosts stay as they showed themselves to their sockets at first, two TCP sockets that were partners before some last events
+/// were a pair that events led to; and their connection goes on through those events, whatever its windows are, where hosts are polled in time,
+/// segments come in time, and users read. Of what the hosts do nothing else is asked.
+pub fn partners_in_a_still_world_go_on()
+    ensures { (starts : Starts) (past more : List Entry) (hosts : Stations) (places : Side → ℕ) (news : Side → NewSocket)
+        → IsFreshWorld starts → AreTyped (more ++ past) → StillRun starts (more ++ past) hosts
+        → AreNew (seats_of starts places) news (first_net starts) → HaveKeys (seats_of starts places) → HoldText (seats_of starts places)
+        → ArePartners past A (places A) (places B)
+        → (between : Stations) × GoOnBetween starts past between (more ++ past) hosts (seats_of starts places) }
 {
+    lan::move_laws::still_hosts_move_plainly();
     partners_are_reached();
+    partners_go_on();
 }

@@ -1,8 +1,8 @@
 -- What arrives at the sockets is a move, or none.
-use Rattle.std.proofs.Common.{◌≡◌, ℕ, zero, suc, ◌<◌, Bool, true, false, if◌then◌else◌, List, [], ◌∷◌, length, get_or, Option, Some, None, IfSome}
+use Rattle.std.proofs.Common.{◌≡◌, ℕ, ℤ, zero, suc, ◌<◌, Bool, true, false, if◌then◌else◌, List, [], ◌∷◌, length, get_or, Option, Some, None, IfSome}
 use Rattle.std.proofs.Common.{refl, sym, ap, ◌∙◌}
 use Rattle.std.proofs.Common.{subst, append-nil}
-use Rattle.std.specs.Prelude.{◌||◌, slice_get, slice_set, slice_index_or}
+use Rattle.std.specs.Prelude.{slice_get, slice_set, slice_index_or}
 use Rattle.std.proofs.lemmas.List.Quantifiers.{position-Some}
 use Rattle.std.proofs.lemmas.Option.{slice_get-get_or}
 use Rattle.interface_ingress.specs.Icmpv4Header.{Icmpv4Header}
@@ -19,7 +19,6 @@ use Rattle.sockets.specs.Packet.{PacketValue}
 use Rattle.sockets.specs.Udp as Udps
 use Rattle.tcp_tie.specs.Host.{Made, made_by, MayCome, IsSeenAmong, and_answer}
 use Rattle.tcp_tie.proofs.HostLaws.{comes_as_made}
-use Rattle.tcp_model.specs.Controls.{is_rst}
 use Rattle.tcp_model.specs.Arrival.{arrives}
 use Rattle.tcp_model.specs.Segments.{rst_reply}
 use Rattle.tcp_model.specs.Reply.{Reply}
@@ -30,7 +29,7 @@ use Rattle.interface_egress.specs.declared.socket_set.Item.{Item}
 use Rattle.interface_egress.specs.declared.socket_set.SocketStorage.{SocketStorage}
 use Rattle.interface_ingress.specs.Delivered.{with_change, passes, given, all_given, changed_at, with_packet, packet_delivered, with_icmpv4, icmpv4_delivered}
 use Rattle.interface_ingress.specs.Delivered.{with_icmpv6, icmpv6_delivered, datagram_place, with_segment, packet_by}
-use Rattle.interface_ingress.specs.Delivered.{answer_of, segment_place, segment_delivered, answer_in, segment_answer_at, segment_answer}
+use Rattle.interface_ingress.specs.Delivered.{answer_of, segment_place, answer_in, segment_answer_at}
 use Rattle.interface_ingress.specs.Datagrams.{TakesDatagram, ItemTakes, GivenIn, GivenAt, IsDelivered}
 use Rattle.interface_ingress.proofs.AtPlace.{changed_here, answer_here}
 use Rattle.interface_ingress.proofs.Segments.{accepted_there}
@@ -41,7 +40,9 @@ use Rattle.lan.specs.Worlds.AtLink.Parties as Parties
 use Rattle.lan.specs.Worlds.AtLink.Parties.{Party, Net, party, WasMade}
 use Rattle.lan.specs.Worlds.AtLink.Safe.{seen}
 use Rattle.lan.specs.Worlds.Moves.Follows.{seen_place, sockets_of}
+use Rattle.interface_tables.specs.Inner.{InnerValue}
 use Rattle.lan.proofs.Worlds.Moves.Following.{Reaches}
+use Rattle.lan.proofs.Worlds.Moves.Held.{IsBetweenHosts, IsShownAt}
 use Rattle.lan.specs.Worlds.Moves.Made.{Grows, IsMade, datagram_of}
 use Rattle.lan.proofs.Worlds.Moves.Nets.{Moved, stays, moves_by, there, grows_to, grows_by}
 use Rattle.lan.proofs.Worlds.Moves.Places.{Places, seen_at, seen_set, get_last}
@@ -112,8 +113,8 @@ free : SocketStorage Socket
 free = record { inner = None }
 
 -- moves lead to these sockets, and a packet that answers was made
-pub record Answered (names : List ℕ → Bool) (side : Side) (net now : Net) (sockets : List (Option Parties.Socket)) (reply : Option PacketValue) : Type 0 where
-  pub moved : Moved names side net now sockets
+pub record Answered (names : List ℕ → Bool) (side : Side) (C : Type 0) (i0 : InnerValue) (t : ℤ) (net now : Net) (sockets : List (Option Parties.Socket)) (reply : Option PacketValue) : Type 0 where
+  pub moved : Moved names side C i0 t net now sockets
   pub made : IfSome reply (IsMade (party moved.next side))
 
 reply_made : (p : Party) (before : List Made) (a : Option Reply) → p.segments ≡ and_answer before a → IfSome (packet_by a) (IsMade p)
@@ -122,10 +123,10 @@ reply_made p before (Some reply) is =
     let last = get_last before (made_by reply) [] in
     record { written = reply.segment; among = (last.0, ap (λ (xs : List Made). slice_get xs last.0) is ∙ last.1); read = refl }
 
-module _ (names : List ℕ → Bool) (side : Side) (net now : Net) (r : Reaches names side net now) (places : Places) (has : (party now side).sockets ≡
+module _ (names : List ℕ → Bool) (side : Side) (C : Type 0) (i0 : InnerValue) (t : ℤ) (net now : Net) (r : Reaches names side C i0 t net now) (places : Places) (has : (party now side).sockets ≡
     sockets_of places) where
   abbrev Ends : List (Option Parties.Socket) → Option PacketValue → Type 0
-  Ends sockets reply = Answered names side net now sockets reply
+  Ends sockets reply = Answered names side C i0 t net now sockets reply
 
   abbrev holds_at : ℕ → Option (Item Socket) → Type 0
   holds_at at o = (at < length places) × (get_or places at free ≡ record { inner = o })
@@ -138,13 +139,13 @@ module _ (names : List ℕ → Bool) (side : Side) (net now : Net) (r : Reaches 
   set_there at place = ap (λ (xs : List (Option Parties.Socket)). slice_set xs at (seen_place place)) has ∙ sym (seen_set places at place)
 
   pub nothing : Ends (sockets_of places) None
-  nothing = record { moved = stays names side net now r (sockets_of places) has; made = tt }
+  nothing = record { moved = stays names side C i0 t net now r (sockets_of places) has; made = tt }
 
   -- A DATAGRAM
 
   module _ (cx : ContextValue) (ip : IpRepr) (udp : UdpRepr) (bytes : List ℕ) (made : WasMade (party now (other side)) (datagram_of udp bytes)) where
     abbrev Given : Places → Type 0
-    Given qs = Moved names side net now (sockets_of qs)
+    Given qs = Moved names side C i0 t net now (sockets_of qs)
 
     -- of a client nothing is looked at
     unseen : (at : ℕ) (item : Item Socket) (s s' : Socket) → seen s ≡ None → seen s' ≡ None → holds_at at (Some (record item { socket = s })) →
@@ -153,16 +154,16 @@ module _ (names : List ℕ → Bool) (side : Side) (net now : Net) (r : Reaches 
         let next : SocketStorage Socket = record { inner = Some (record item { socket = s' }) } in
         let none : slice_index_or (sockets_of places) at None ≡ None = seen_at places at free here.0 ∙ ap seen_place here.1 ∙ was in
         let same : slice_set (sockets_of places) at None ≡ sockets_of places = set_none (sockets_of places) at none in
-        stays names side net now r (sockets_of (slice_set places at next))
+        stays names side C i0 t net now r (sockets_of (slice_set places at next))
         (has ∙ sym same ∙ ap (λ (o : Option Parties.Socket). slice_set (sockets_of places) at o) (sym becomes) ∙ sym (seen_set places at next))
 
     socket_given : (at : ℕ) (item : Item Socket) (s s' : Socket) → TakesDatagram cx ip udp bytes s s' → holds_at at (Some (record item { socket = s })) →
         accepts_datagram cx s ip udp ≡ true → Given (slice_set places at (record { inner = Some (record item { socket = s' }) }))
     socket_given at item (Is.Udp v) s' takes here accepts =
         subst (λ (x : Socket). Given (slice_set places at (record { inner = Some (record item { socket = x }) }))) (sym takes)
-        (moves_by names side net now r move _ (found at (record item { socket = Is.Udp v }) here, accepts, made) refl
+        (moves_by names side C i0 t net now r move _ (found at (record item { socket = Is.Udp v }) here, accepts, made) refl
         (set_there at (record { inner = Some (record item { socket = Is.Udp (Udps.process_after v ip udp bytes) }) }))
-        (grows_to (party now side) (Moves.party_after (party now side) move) refl refl))
+        (grows_to (party now side) (Moves.party_after (party now side) move) refl refl) (λ c. tt))
       where
         move : Moves.Move
         move = Moves.Receives at cx v ip udp bytes
@@ -180,7 +181,7 @@ module _ (names : List ℕ → Bool) (side : Side) (net now : Net) (r : Reaches 
         (socket_given at item item.socket takes.0 takes.1 here passing)
 
     first_given : (o : Option ℕ) → datagram_place cx ip udp places ≡ o → (qs : Places) → GivenAt cx ip udp bytes o places qs → Given qs
-    first_given None is qs given = subst Given (sym given) (stays names side net now r (sockets_of places) has)
+    first_given None is qs given = subst Given (sym given) (stays names side C i0 t net now r (sockets_of places) has)
     first_given (Some at) is qs given =
         let first = position-Some (passes (λ s. accepts_datagram cx s ip udp)) places at free is in
         let place = get_or places at free in
@@ -194,7 +195,8 @@ module _ (names : List ℕ → Bool) (side : Side) (net now : Net) (r : Reaches 
   -- A SEGMENT
 
   module _ (cx : ContextValue) (ip : IpRepr) (header : TcpHeader) (bytes : List ℕ)
-      (made : MayCome (party now (other side)).segments (source_of ip) (destination_of ip) header bytes) where
+      (made : MayCome (party now (other side)).segments (source_of ip) (destination_of ip) header bytes) (shown : IsShownAt i0 t cx)
+      (between : IsBetweenHosts i0 ip) where
     abbrev Taken : ℕ → SocketStorage Socket → Type 0
     Taken at place = Ends (sockets_of (slice_set places at (with_change (with_segment cx ip header bytes) place)))
         (answer_in (answer_of cx ip header bytes) place.inner)
@@ -212,9 +214,9 @@ module _ (names : List ℕ → Bool) (side : Side) (net now : Net) (r : Reaches 
         Taken at (record { inner = Some (record item { socket = s }) })
     socket_takes at item (Is.Tcp v) here accepts = record {
       moved =
-          moves_by names side net now r move _ (found at (record item { socket = Is.Tcp v }) here, accepts, came) refl
+          moves_by names side C i0 t net now r move _ (found at (record item { socket = Is.Tcp v }) here, accepts, came) refl
           (set_there at (with_change (with_segment cx ip header bytes) (record { inner = Some (record item { socket = Is.Tcp v }) })))
-          (grown (Moves.party_after (party now side) move) (arrives cx v ip header bytes).answer refl refl);
+          (grown (Moves.party_after (party now side) move) (arrives cx v ip header bytes).answer refl refl) (λ c. (shown, made, between));
       made = there now side move (λ (y : Party). IfSome (packet_by (arrives cx v ip header bytes).answer) (IsMade y))
           (reply_made (Moves.party_after (party now side) move) (party now side).segments (arrives cx v ip header bytes).answer refl);
     } where
@@ -231,13 +233,12 @@ module _ (names : List ℕ → Bool) (side : Side) (net now : Net) (r : Reaches 
     place_takes at None here passing = absurd (cc)
     place_takes at (Some item) here passing = socket_takes at item item.socket here passing
 
-    -- nobody accepts it, and it may be reset
-    reset : (quiet : Bool) → Ends (sockets_of places) (if quiet then None else packet_by (Some (rst_reply ip header (length bytes))))
-    reset true = nothing
-    reset false = record {
+    -- nobody accepts it, and it is reset
+    pub reset : (C → ⊥) → Ends (sockets_of places) (packet_by (Some (rst_reply ip header (length bytes))))
+    reset none = record {
       moved =
-          moves_by names side net now r move (sockets_of places) refl refl has
-          (grows_by (party now side) (Moves.party_after (party now side) move) (x ∷ []) [] refl (sym (append-nil (party now side).datagrams)));
+          moves_by names side C i0 t net now r move (sockets_of places) refl refl has
+          (grows_by (party now side) (Moves.party_after (party now side) move) (x ∷ []) [] refl (sym (append-nil (party now side).datagrams))) none;
       made = there now side move (λ (y : Party). IfSome (packet_by (Some (rst_reply ip header (length bytes)))) (IsMade y))
           (reply_made (Moves.party_after (party now side) move) (party now side).segments (Some (rst_reply ip header (length bytes))) refl);
     } where
@@ -247,10 +248,10 @@ module _ (names : List ℕ → Bool) (side : Side) (net now : Net) (r : Reaches 
       move : Moves.Move
       move = Moves.Resets x
 
-    first_takes : (taken : Bool) (o : Option ℕ) → segment_place ip header places ≡ o
-        → Ends (sockets_of (changed_at (with_segment cx ip header bytes) o places)) (segment_answer_at o cx ip header bytes taken places)
-    first_takes taken None is = reset (taken || is_rst header.control)
-    first_takes taken (Some at) is =
+    -- one accepts it
+    pub segment_taken : (taken : Bool) (at : ℕ) → segment_place ip header places ≡ Some at
+        → Ends (sockets_of (changed_at (with_segment cx ip header bytes) (Some at) places)) (segment_answer_at (Some at) cx ip header bytes taken places)
+    segment_taken taken at is =
         let first = accepted_there ip header places at free is in
         let place = get_or places at free in
         subst (λ (o : Option PacketValue). Ends (sockets_of (changed_at (with_segment cx ip header bytes) (Some at) places)) o)
@@ -258,6 +259,3 @@ module _ (names : List ℕ → Bool) (side : Side) (net now : Net) (r : Reaches 
         (subst (λ (qs : Places). Ends (sockets_of qs) (answer_in (answer_of cx ip header bytes) place.inner))
         (sym (changed_here (with_segment cx ip header bytes) places at free first.0))
         (place_takes at place.inner (first.0, refl) first.1))
-
-    pub segment_taken : (taken : Bool) → Ends (sockets_of (segment_delivered cx ip header bytes places)) (segment_answer cx ip header bytes taken places)
-    segment_taken taken = first_takes taken (segment_place ip header places) refl

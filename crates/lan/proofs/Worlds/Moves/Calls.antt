@@ -12,7 +12,7 @@ use Rattle.tcp_model.specs.State as States
 use Rattle.tcp_model.specs.Value.{TcpValue}
 use Rattle.sockets.specs.declared.socket.Socket.{Socket}
 use Rattle.sockets.specs.declared.socket.Socket.TheVariants as Is
-use Rattle.interface_tables.specs.Inner.{context_of}
+use Rattle.interface_tables.specs.Inner.{InnerValue, context_of}
 use Rattle.interface_egress.specs.Set.{socket_in, with_socket}
 use Rattle.interface_egress.specs.declared.socket_set.Item.{Item}
 use Rattle.interface_egress.specs.declared.socket_set.SocketStorage.{SocketStorage}
@@ -75,8 +75,9 @@ kinds_len (p ∷ ps) = ap suc (kinds_len ps)
 -- THE CALL
 
 -- a call as a move has it, and the sockets behind it
-pub record IsCalled (p : Party) (places' : Places) (i : ℕ) (call : SocketCall) (answer : Answer) (found : Option States.State) : Type 0 where
+pub record IsCalled (inner : InnerValue) (p : Party) (places' : Places) (i : ℕ) (call : SocketCall) (answer : Answer) (found : Option States.State) : Type 0 where
   pub cx : ContextValue
+  pub shown : cx ≡ context_of inner
   pub old : Parties.Socket
   pub new : Parties.Socket
   pub there : Parties.socket_at p i ≡ Some old
@@ -116,13 +117,14 @@ icmp_own v call = tt
 module _ (p : Party) (s s' : StationValue) (has : p.sockets ≡ sockets_of s.places) (i : ℕ) (call : SocketCall) (answer : Answer)
     (found : Option States.State) where
   abbrev Called : Type 0
-  Called = IsCalled p s'.places i call answer found
+  Called = IsCalled s.host.inner p s'.places i call answer found
 
   behind : (item : Item Socket) (old new : Socket) (x y : Parties.Socket) → seen old ≡ Some x → seen new ≡ Some y →
       slice_get s.places i ≡ Some (record { inner = Some (record item { socket = old }) }) → s'.places ≡ slice_set s.places i (with_socket item new)
       → Moves.Does (context_of s.host.inner) x call answer found y → Called
   behind item old new x y was becomes there is does = record {
     cx = context_of s.host.inner;
+    shown = refl;
     old = x;
     new = y;
     there = ap (λ (xs : List (Option Parties.Socket)). slice_index_or xs i None) has ∙

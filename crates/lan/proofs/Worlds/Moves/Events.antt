@@ -1,5 +1,5 @@
 -- What an event of a host, or of the link, does to both hosts, as moves.
-use Rattle.std.proofs.Common.{◌≡◌, ℕ, List, [], ◌∷◌, ◌++◌, None, refl, sym, ap, ◌∙◌, subst}
+use Rattle.std.proofs.Common.{◌≡◌, ℕ, ℤ, List, [], ◌∷◌, ◌++◌, None, refl, sym, ap, ◌∙◌, subst}
 use Rattle.lan.specs.Worlds.AtLink.Call.{SocketCall}
 use Rattle.lan.specs.Worlds.AtLink.History.{Entry}
 use Rattle.lan.specs.Worlds.AtLink.Kinds.{other, kind_of, calls}
@@ -14,17 +14,18 @@ use Rattle.lan.specs.Worlds.AtLink.Runs.{refusal_in}
 use Rattle.lan.specs.Worlds.AtLink.Station.{StationValue, Stations, station}
 use Rattle.lan.specs.Worlds.AtLink.Steps.{ActsAt}
 use Rattle.lan.specs.Worlds.Moves.Follows.{sockets_of, IsNetOf, Comes}
+use Rattle.interface_tables.specs.Inner.{InnerValue}
 use Rattle.lan.proofs.Worlds.Moves.Following.{Reaches}
 use Rattle.lan.specs.Worlds.Moves.Made.{Grows}
 use Rattle.lan.proofs.Worlds.Moves.Calls.{IsCalled, call_is_called, call_allowed, names}
-use Rattle.lan.proofs.Worlds.Moves.Nets.{step_of, mine, theirs, either_side, there, grows_not, grows_to, here}
+use Rattle.lan.proofs.Worlds.Moves.Nets.{step_of, mine, theirs, either_side, there, grows_not, grows_to}
 
 -- A CALL
 
 module _ (net : Net) (old new : Stations) (past : List Entry) (e : Entry) (side : Side) (i : ℕ) (call : SocketCall) (of : IsNetOf net old past)
     (rests : station new (other side) ≡ station old (other side)) where
   called : kind_of e.event ≡ calls side i call → refusal_in past old e.event ≡ None →
-      IsCalled (party net side) (station new side).places i call e.answer e.found → Comes names net new (e ∷ past)
+      IsCalled (station old side).host.inner (party net side) (station new side).places i call e.answer e.found → Comes names net new (e ∷ past)
   called is none c = record {
     next = after net (step_of side move);
     steps = step_of side move ∷ [];
@@ -50,6 +51,15 @@ call_comes net old new past e side i call of is none acts =
     called net old new past e side i call of acts.rests is none
     (call_is_called (party net side) (station old side) (station new side) (of.sockets side) i call e.answer e.found acts.acts)
 
+-- it is the one step
+pub call_steps : (net : Net) (old new : Stations) (past : List Entry) (e : Entry) (side : Side) (i : ℕ) (call : SocketCall) (of : IsNetOf net old past)
+    (is : kind_of e.event ≡ calls side i call) (none : refusal_in past old e.event ≡ None) (acts : ActsAt old side (Calls i call) e.answer e.found new)
+    → (c : IsCalled (station old side).host.inner (party net side) (station new side).places i call e.answer e.found)
+    × ((call_comes net old new past e side i call of is none acts).steps ≡ step_of side (Moves.Invokes i c.cx c.old e call c.new) ∷ [])
+unfolding call_comes called
+call_steps net old new past e side i call of is none acts =
+    (call_is_called (party net side) (station old side) (station new side) (of.sockets side) i call e.answer e.found acts.acts, refl)
+
 -- NO CALL
 
 pub passed : (net : Net) (side : Side) (e : Entry) (s : Side) → party (after net (step_of side (Moves.Passes e))) s ≡ party net s
@@ -59,10 +69,10 @@ passed net B e A = refl
 passed net B e B = refl
 
 -- moves of a host, and then an event that is no call
-abbrev pub reached_comes : (net now : Net) (new : Stations) (past : List Entry) (e : Entry) (side : Side) → Reaches names side net now → net.history ≡ past →
+abbrev pub reached_comes : (C : Type 0) (i0 : InnerValue) (t : ℤ) (net now : Net) (new : Stations) (past : List Entry) (e : Entry) (side : Side) → Reaches names side C i0 t net now → net.history ≡ past →
     IsNoCall (kind_of e.event)
     → ((s : Side) → (party now s).sockets ≡ sockets_of (station new s).places) → Comes names net new (e ∷ past)
-reached_comes net now new past e side r was none sockets = record {
+reached_comes C i0 t net now new past e side r was none sockets = record {
   next = after now passes;
   steps = r.steps ++ passes ∷ [];
   may = IsRun-append names net r.steps (passes ∷ []) r.may (subst (λ n. IsRun names n (passes ∷ [])) (sym r.ends) (none, tt));
@@ -77,8 +87,18 @@ reached_comes net now new past e side r was none sockets = record {
   passes : Moves.Step
   passes = step_of side (Moves.Passes e)
 
+-- no move
+abbrev at_rest : (i0 : InnerValue) (t : ℤ) (net : Net) → Reaches names A (Unit {0}) i0 t net net
+at_rest i0 t net = record { steps = []; may = tt; ends = refl; rests = refl; history = refl; grows = grows_not (party net A); held = λ c. tt }
+
 -- an event that leaves every socket as it was
-pub still_comes : (net : Net) (old new : Stations) (past : List Entry) (e : Entry) → IsNetOf net old past → IsNoCall (kind_of e.event)
+pub still_comes : (i0 : InnerValue) (t : ℤ) (net : Net) (old new : Stations) (past : List Entry) (e : Entry) → IsNetOf net old past → IsNoCall (kind_of e.event)
     → ((s : Side) → sockets_of (station new s).places ≡ sockets_of (station old s).places) → Comes names net new (e ∷ past)
-still_comes net old new past e of none same =
-    reached_comes net net new past e A (here names A net) of.history none (λ s. of.sockets s ∙ sym (same s))
+still_comes i0 t net old new past e of none same =
+    reached_comes (Unit {0}) i0 t net net new past e A (at_rest i0 t net) of.history none (λ s. of.sockets s ∙ sym (same s))
+
+pub still_steps : (i0 : InnerValue) (t : ℤ) (net : Net) (old new : Stations) (past : List Entry) (e : Entry) (of : IsNetOf net old past)
+    (none : IsNoCall (kind_of e.event)) (same : (s : Side) → sockets_of (station new s).places ≡ sockets_of (station old s).places)
+    → (still_comes i0 t net old new past e of none same).steps ≡ step_of A (Moves.Passes e) ∷ []
+unfolding still_comes
+still_steps i0 t net old new past e of none same = refl

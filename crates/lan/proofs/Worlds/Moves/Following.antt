@@ -1,5 +1,6 @@
 -- A host that moves of its sockets lead to.
-use Rattle.std.specs.Prelude.{◌≡◌, ℕ, Bool, List}
+use Rattle.std.specs.Prelude.{◌≡◌, ℕ, ℤ, Bool, List}
+use Rattle.interface_tables.specs.Inner.{InnerValue}
 use Rattle.interface.specs.State.{State}
 use Rattle.lan.specs.Worlds.AtLink.Side.{Side}
 use Rattle.lan.specs.Worlds.AtLink.Kinds.{other}
@@ -7,19 +8,35 @@ use Rattle.lan.specs.Worlds.AtLink.Moves.{Step, IsRun, run}
 use Rattle.lan.specs.Worlds.AtLink.Parties.{Party, Net, party}
 use Rattle.lan.specs.Worlds.Moves.Made.{Grows}
 use Rattle.lan.specs.Worlds.Moves.Follows.{sockets_of}
+use Rattle.lan.proofs.Worlds.Moves.Held.{AreHeld, Stays}
 
--- moves lead from one net to another, and neither the other host nor the history is touched
-pub record Reaches (names : List ℕ → Bool) (side : Side) (net now : Net) : Type 0 where
+-- Moves lead from one net to another, and neither the other host nor the history is touched. Under the condition C the host showed itself at this
+-- moment as it was, and made no reset.
+pub record Reaches (names : List ℕ → Bool) (side : Side) (C : Type 0) (i0 : InnerValue) (t : ℤ) (net now : Net) : Type 0 where
   pub steps : List Step
   pub may : IsRun names net steps
   pub ends : run net steps ≡ now
   pub rests : party now (other side) ≡ party net (other side)
   pub history : now.history ≡ net.history
   pub grows : Grows (party net side) (party now side)
+  pub held : C → AreHeld i0 t side net steps
 
 -- moves of this host lead to a net with these sockets, of which L holds with what was made
-pub record Follows {D : Type 0} (names : List ℕ → Bool) (side : Side) (L : State D → Party → Type 0) (net : Net) (s : State D) : Type 0 where
+pub record Follows {D : Type 0} (names : List ℕ → Bool) (side : Side) (i0 : InnerValue) (t : ℤ) (L : State D → Party → Type 0) (net : Net) (s : State D) : Type 0 where
   pub now : Net
-  pub reaches : Reaches names side net now
+  pub reaches : Reaches names side (Stays i0 s.host.inner) i0 t net now
   pub sockets : (party now side).sockets ≡ sockets_of s.places
   pub link : L s (party now side)
+
+-- the condition may be a narrower one
+pub narrowed : (names : List ℕ → Bool) (side : Side) (C C' : Type 0) (i0 : InnerValue) (t : ℤ) (net now : Net) → (C' → C) → Reaches names side C i0 t net now →
+    Reaches names side C' i0 t net now
+narrowed names side C C' i0 t net now back r = record {
+  steps = r.steps;
+  may = r.may;
+  ends = r.ends;
+  rests = r.rests;
+  history = r.history;
+  grows = r.grows;
+  held = λ c. r.held (back c);
+}

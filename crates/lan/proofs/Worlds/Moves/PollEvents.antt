@@ -1,5 +1,5 @@
 -- A poll's event, as moves.
-use Rattle.std.proofs.Common.{◌≡◌, ◌+◌, ◌*◌, ℕ, ◌∷◌, List, sym, ap, ◌∙◌, subst}
+use Rattle.std.proofs.Common.{◌≡◌, ◌+◌, ◌*◌, ℕ, [], ◌∷◌, List, refl, sym, ap, ◌∙◌, subst}
 use Rattle.std.specs.Prelude.{ℤ}
 use Rattle.interface.specs.State.{State}
 use Rattle.lan.specs.Worlds.AtLink.History.{Entry}
@@ -14,13 +14,17 @@ use Rattle.interface.specs.Used.{sockets_in}
 use Rattle.lan.specs.Worlds.AtLink.Station.{StationValue, Stations, station, at_port}
 use Rattle.lan.specs.Worlds.AtLink.Steps.{ActsAt}
 use Rattle.lan.specs.Worlds.Moves.Follows.{IsNetOf, Comes, sockets_of}
+use Rattle.interface_tables.specs.Inner.{InnerValue}
+use Rattle.lan.specs.Worlds.AtLink.Moves as Moves
 use Rattle.lan.proofs.Worlds.Moves.Following.{Follows}
+use Rattle.lan.proofs.Worlds.Moves.Held.{AreHeld, Stays, held-append}
+use Rattle.lan.proofs.Worlds.Moves.Later.{since_itself}
 use Rattle.lan.specs.Worlds.Moves.Fit.{IsFit}
 use Rattle.lan.specs.Worlds.Moves.Link.{IsLink}
 use Rattle.lan.specs.Worlds.Moves.Raws.{OfEach}
 use Rattle.lan.proofs.Worlds.Moves.Calls.{names}
 use Rattle.lan.proofs.Worlds.Moves.Events.{reached_comes, passed}
-use Rattle.lan.proofs.Worlds.Moves.Nets.{here, either_side}
+use Rattle.lan.proofs.Worlds.Moves.Nets.{here, either_side, step_of}
 use Rattle.lan.proofs.Worlds.Moves.Polls.{polls_follow}
 
 -- it holds of this host at each port with this end of the link
@@ -28,37 +32,43 @@ abbrev pub AtPorts : (State PortValue → Type 0) → StationValue → Type 0
 AtPorts P s = (port : PortValue) → port.link ≡ s.link → P (at_port port s)
 
 -- moves lead to the hosts behind a poll, and what held of the host that was polled, with what it made, holds still
-pub record Polled (net : Net) (new : Stations) (past : List Entry) (side : Side) (L : State PortValue → Party → Type 0) : Type 0 where
+pub record Polled (i0 : InnerValue) (t : ℤ) (net : Net) (new : Stations) (past : List Entry) (side : Side) (L : State PortValue → Party → Type 0) : Type 0 where
   pub comes : Comes names net new past
   pub port : PortValue
   pub end : port.link ≡ (station new side).link
   pub link : L (at_port port (station new side)) (party comes.next side)
   pub rests : party comes.next (other side) ≡ party net (other side)
+  pub held : Stays i0 (station new side).host.inner → AreHeld i0 t side net comes.steps
 
 module _ (net : Net) (old new : Stations) (past : List Entry) (e : Entry) (side : Side) (t : ℤ) (budget n : ℕ) (L : ℕ → State PortValue → Party →
     Type 0) (link : IsLink PortMove (party net (other side)) L) (of : IsNetOf net old past) (is : kind_of e.event ≡ OfHost side (Polls t budget)) where
+  -- the host before it
+  abbrev i0 : InnerValue
+  i0 = (station old side).host.inner
+
   -- how many packets are counted behind it
   abbrev most : ℕ
   most = n + budget * (1 + sockets_in (station old side).places)
 
   ended : (p : PortValue) → p.link ≡ (station new side).link → station new (other side) ≡ station old (other side)
-      → Follows names side (L most) net (at_port p (station new side)) → Polled net new (e ∷ past) side (L most)
+      → Follows names side i0 t (L most) net (at_port p (station new side)) → Polled i0 t net new (e ∷ past) side (L most)
   ended p end rests f = record {
-    comes = reached_comes net f.now new past e side f.reaches of.history (subst IsNoCall (sym is) tt)
+    comes = reached_comes (Stays i0 (station new side).host.inner) i0 t net f.now new past e side f.reaches of.history (subst IsNoCall (sym is) tt)
         (either_side side (λ s. (party f.now s).sockets ≡ sockets_of (station new s).places) f.sockets
         (ap (λ (x : Party). x.sockets) f.reaches.rests ∙ of.sockets (other side) ∙ ap (λ (x : StationValue). sockets_of x.places) (sym rests)));
     port = p;
     end = end;
     link = subst (L most (at_port p (station new side))) (sym (passed f.now side e side)) f.link;
     rests = passed f.now side e (other side) ∙ f.reaches.rests;
+    held = λ c. held-append i0 t side net f.reaches.steps (step_of side (Moves.Passes e) ∷ []) (f.reaches.held c) ((refl, tt), tt);
   }
 
   pub poll_comes : ActsAt old side (Polls t budget) e.answer e.found new → AtPorts (λ s. L n s (party net side)) (station old side) →
-      OfEach IsFit (station old side).places → Polled net new (e ∷ past) side (L most)
+      OfEach IsFit (station old side).places → Polled i0 t net new (e ∷ past) side (L most)
   poll_comes acts holds fit =
       let polls = acts.acts.1 in
-      let start : Follows names side (L n) net (at_port polls.port (station old side)) =
-      record { now = net; reaches = here names side net; sockets = of.sockets side; link = holds polls.port polls.before } in
+      let start : Follows names side i0 t (L n) net (at_port polls.port (station old side)) =
+      record { now = net; reaches = here names side (Stays i0 i0) i0 t net; sockets = of.sockets side; link = holds polls.port polls.before } in
       ended polls.port_after polls.after acts.rests
-      (polls_follow PortMove t names side net L link budget n (at_port polls.port (station old side)) (at_port polls.port_after (station new side)) acts.acts.0
-      fit start polls.polls).1
+      (polls_follow PortMove t names side i0 net L link budget n (at_port polls.port (station old side)) (at_port polls.port_after (station new side)) acts.acts.0
+      fit (since_itself i0) start polls.polls).1

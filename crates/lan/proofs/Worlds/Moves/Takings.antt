@@ -1,5 +1,5 @@
 -- A frame that is taken makes at most one move.
-use Rattle.std.proofs.Common.{◌≡◌, ℕ, Bool, true, false, if◌then◌else◌, List, Option, Some, None, IfSome, refl, sym, ap, ◌∙◌, subst}
+use Rattle.std.proofs.Common.{◌≡◌, ℕ, ℤ, ◌≤ℤ◌, Bool, not, ◌&&◌, length, true, false, if◌then◌else◌, List, Option, Some, None, IfSome, refl, sym, ap, ◌∙◌, subst}
 use Rattle.std.specs.Prelude.{◌||◌, is_some}
 use Rattle.lan_base.specs.ChecksumCapabilities.{ChecksumCapabilities}
 use Rattle.interface_ingress.specs.IpAddress.{IpAddress}
@@ -13,14 +13,22 @@ use Rattle.sockets.specs.Packet.{PacketValue, PayloadValue, ControlV4, ControlV6
 use Rattle.interface_ingress.specs.Icmpv4Header.{Icmpv4Header}
 use Rattle.interface_ingress.specs.Icmpv6.{MessageValue}
 use Rattle.tcp_tie.specs.Host.{MayCome}
-use Rattle.interface_tables.specs.Inner.{InnerValue, context_of, is_for_us}
+use Rattle.interface_tables.specs.Inner.{InnerValue, context_of, is_for_us, may_tell, with_error}
+use Rattle.interface_tables.specs.ErrorLimit.{answered_at}
 use Rattle.interface_ingress.specs.Arp.{arp_answer}
 use Rattle.interface_ingress.specs.Arrives as Replies
 use Rattle.interface_ingress.specs.Arrives.{ReplyValue, Arrived, ArrivesV4, ArrivesV6, Brings, Hands, IsSilent, answered, is_direct, renewed, renewed_by}
 use Rattle.interface_ingress.specs.Arrives.{sender_of}
-use Rattle.interface_ingress.specs.Delivered.{packet_delivered, is_taken_raw, datagram_place, segment_delivered, segment_answer}
-use Rattle.interface_ingress.specs.Handed.{control_v4_places, control_v6_places, names_nobody, handed_reply, is_unclaimed, limited_reply, HandsTo}
-use Rattle.interface_ingress.proofs.Limit.{let_go_so}
+use Rattle.interface_ingress.specs.Delivered.{changed_at, packet_by, packet_delivered, is_taken_raw, datagram_place, segment_place, segment_answer_at}
+use Rattle.interface_ingress.specs.Delivered.{with_segment}
+use Rattle.interface_ingress.specs.Reassembled.{is_astray}
+use Rattle.sockets.specs.Context.{ContextValue}
+use Rattle.sockets.specs.Replies.{packet_in}
+use Rattle.tcp_model.specs.Controls.{is_rst}
+use Rattle.tcp_model.specs.Segments.{rst_reply}
+use Rattle.interface_ingress.specs.Handed.{control_v4_places, control_v6_places, names_nobody, handed_reply, if_it_may, is_unclaimed, let_go, limited_host}
+use Rattle.interface_ingress.specs.Handed.{limited_reply, segment_host, HandsTo}
+use Rattle.interface_ingress.proofs.Limit.{let_go_counted, let_go_so}
 use Rattle.interface_ingress.specs.Incoming.{IncomingValue, Arp, Ip4, Ip6}
 use Rattle.interface_ingress.specs.Upper.{IsBrought}
 use Rattle.lan.specs.Worlds.AtLink.Side.{Side}
@@ -28,28 +36,46 @@ use Rattle.lan.specs.Worlds.AtLink.Kinds.{other}
 use Rattle.lan.specs.Worlds.AtLink.Parties.{Party, Net, party, WasMade}
 use Rattle.lan.specs.Worlds.Moves.Follows.{sockets_of}
 use Rattle.lan.proofs.Worlds.Moves.Following.{Reaches}
+use Rattle.lan.proofs.Worlds.Moves.Held.{IsAsAt, IsBetweenHosts, nobodies, seen_at, shows, strays}
+use Rattle.lan.proofs.Worlds.Moves.Later.{IsHome, past_it, segment_errors}
 use Rattle.lan.specs.Worlds.Moves.Made.{IsMade, HandsMade, BringsMade, datagram_of}
 use Rattle.lan.proofs.Worlds.Moves.MadeReplies.{IsMadeReply}
 use Rattle.lan.proofs.Worlds.Moves.Arrivals.{Answered, packet_delivered_same, icmpv4_delivered_same, icmpv6_delivered_same, nothing, datagram_given}
-use Rattle.lan.proofs.Worlds.Moves.Arrivals.{segment_taken}
+use Rattle.lan.proofs.Worlds.Moves.Arrivals.{reset, segment_taken}
 use Rattle.lan.proofs.Worlds.Moves.Nets.{Moved, stays}
 use Rattle.lan.proofs.Worlds.Moves.Places.{Places}
 use Rattle.lan.proofs.Worlds.Moves.Replies.{control_v4_made, control_v6_made, port_error_made, unread_made, answered_made, told_made}
 
 -- moves lead to these sockets, and what answers was made
-pub record Ended (names : List ℕ → Bool) (side : Side) (net now : Net) (places : Places) (reply : Option ReplyValue) : Type 0 where
-  pub moved : Moved names side net now (sockets_of places)
+pub record Ended (names : List ℕ → Bool) (side : Side) (C : Type 0) (i0 : InnerValue) (t : ℤ) (net now : Net) (places : Places) (reply : Option ReplyValue) : Type 0 where
+  pub moved : Moved names side C i0 t net now (sockets_of places)
   pub made : IfSome reply (IsMadeReply (party moved.next side))
 
-module _ (names : List ℕ → Bool) (side : Side) (net now : Net) (r : Reaches names side net now) where
+abbrev if_goes : Bool → Option PacketValue → Option PacketValue
+if_goes goes None = None
+if_goes goes (Some p) = if goes then Some p else None
+
+goes_is : (i : InnerValue) (quiet : Bool) (p : PacketValue) →
+    if_goes (may_tell i) (if quiet then None else Some p) ≡ if_it_may i (if quiet then None else Some p)
+goes_is i true p = refl
+goes_is i false p = refl
+
+-- a host that told an error counts up to a later moment
+counted_later : (i0 i after now : InnerValue) → i0.errors_until ≤ℤ i.errors_until → after.errors_until ≡ i.errors_until → now ≡ with_error after →
+    now.errors_until ≡ i0.errors_until → ⊥
+counted_later i0 i after now low same is still = past_it i0.errors_until i.errors_until after.moment low
+    (ap (λ (u : ℤ). answered_at u after.moment) (sym same) ∙ ap (λ (x : InnerValue). x.errors_until) (sym is) ∙ still)
+
+module _ (names : List ℕ → Bool) (side : Side) (C : Type 0) (i0 : InnerValue) (t : ℤ) (net now : Net) (r : Reaches names side C i0 t net now) where
   -- A PAYLOAD
 
-  module _ (i : InnerValue) (places : Places) (ip : IpRepr) (payload : List ℕ) (taken : Bool) (has : (party now side).sockets ≡ sockets_of places) where
+  module _ (i : InnerValue) (places : Places) (ip : IpRepr) (payload : List ℕ) (taken : Bool) (has : (party now side).sockets ≡ sockets_of places)
+      (like : IsAsAt i0 t i) (here : is_astray i0 (source_of ip) (destination_of ip) ≡ false) where
     abbrev Ends : Places → Option PacketValue → Type 0
-    Ends qs reply = Answered names side net now (sockets_of qs) reply
+    Ends qs reply = Answered names side C i0 t net now (sockets_of qs) reply
 
     same_with : (qs : Places) (reply : Option PacketValue) → sockets_of qs ≡ sockets_of places → ((p : Party) → IfSome reply (IsMade p)) → Ends qs reply
-    same_with qs reply same free = record { moved = stays names side net now r (sockets_of qs) (has ∙ sym same); made = free (party now side) }
+    same_with qs reply same free = record { moved = stays names side C i0 t net now r (sockets_of qs) (has ∙ sym same); made = free (party now side) }
 
     control_v4 : (ip : IpRepr) (message : Icmpv4Header) (bytes : List ℕ) → sockets_of (control_v4_places ip message bytes places) ≡ sockets_of places
     control_v4 (Ip.Ipv4 header) message bytes = icmpv4_delivered_same header message bytes places
@@ -59,94 +85,165 @@ module _ (names : List ℕ → Bool) (side : Side) (net now : Net) (r : Reaches 
     control_v6 (Ip.Ipv4 header) message bytes = refl
     control_v6 (Ip.Ipv6 header) message bytes = icmpv6_delivered_same header message bytes places
 
-    segment : (nobody : Bool) (header : TcpHeader) (bytes : List ℕ) → MayCome (party now (other side)).segments (source_of ip) (destination_of ip) header bytes
-        → Ends (if nobody then places else segment_delivered (context_of i) ip header bytes places)
-        (if nobody then None else segment_answer (context_of i) ip header bytes taken places)
-    segment true header bytes made = nothing names side net now r places has
-    segment false header bytes made = segment_taken names side net now r places has (context_of i) ip header bytes made taken
+    -- what answers goes within the limit
+    limited_of : (carried : Option PayloadValue) (qs : Places) → Ends qs (handed_reply i places ip payload taken carried) →
+        Ends qs (limited_reply i places ip payload taken carried)
+    limited_of carried qs end = record {
+      moved = end.moved;
+      made = let_go_so (IsMade (party end.moved.next side)) (is_unclaimed i places ip carried) i (handed_reply i places ip payload taken carried) end.made;
+    }
 
-    handed : (caps : ChecksumCapabilities) (carried : Option PayloadValue) → IsBrought caps ip payload carried →
-        HandsMade (party net (other side)) caps ip payload
-        → (qs : Places) → HandsTo i places ip carried qs → Ends qs (handed_reply i places ip payload taken carried)
-    handed caps None is made qs to = same_with qs _ (ap (λ (ps : Places). sockets_of ps) to) (λ p. unread_made p i ip payload taken)
-    handed caps (Some (ControlV4 message bytes)) is made qs to =
-        same_with qs _ (ap (λ (ps : Places). sockets_of ps) to ∙ control_v4 ip message bytes) (λ p. control_v4_made p i ip message bytes)
-    handed caps (Some (ControlV6 message bytes)) is made qs to =
-        same_with qs _ (ap (λ (ps : Places). sockets_of ps) to ∙ control_v6 ip message bytes) (λ p. control_v6_made p i ip message bytes)
-    handed caps (Some (Bytes bytes)) is made qs to =
-        subst (λ (ps : Places). Ends ps None) (sym to) (nothing names side net now r places has)
-    handed caps (Some (Datagram udp bytes)) is made qs to =
+    module _ (header : TcpHeader) (bytes : List ℕ) (made : MayCome (party now (other side)).segments (source_of ip) (destination_of ip) header bytes) where
+      abbrev cx : ContextValue
+      cx = context_of i
+
+      -- a reset goes
+      abbrev Goes : Type 0
+      Goes = (names_nobody i ip ≡ false) × (segment_place ip header places ≡ None) × ((taken || is_rst header.control) ≡ false) × (may_tell i ≡ true)
+
+      between : names_nobody i ip ≡ false → IsBetweenHosts i0 ip
+      between somebody = record { somebody = sym (nobodies i0 i (seen_at i0 i t like) ip) ∙ somebody; here = here }
+
+      reset_if : (quiet goes : Bool) → names_nobody i ip ≡ false → (quiet ≡ false → goes ≡ true → C → ⊥)
+          → Ends places (let r : Option PacketValue = if_goes goes (if quiet then None else packet_by (Some (rst_reply ip header (length bytes)))) in r)
+      reset_if true goes somebody none = nothing names side C i0 t net now r places has
+      reset_if false true somebody none =
+          reset names side C i0 t net now r places has cx ip header bytes made (shows i0 i t like) (between somebody) (none refl refl)
+      reset_if false false somebody none = nothing names side C i0 t net now r places has
+
+      segment_by : (nobody : Bool) (o : Option ℕ) → names_nobody i ip ≡ nobody → segment_place ip header places ≡ o → (Goes → C → ⊥)
+          → Ends (if nobody then places else changed_at (with_segment cx ip header bytes) o places)
+          (let_go (not nobody && not (is_some o)) i (if nobody then None else segment_answer_at o cx ip header bytes taken places))
+      segment_by true o named there none = nothing names side C i0 t net now r places has
+      segment_by false (Some at) named there none =
+          segment_taken names side C i0 t net now r places has cx ip header bytes made (shows i0 i t like) (between named) taken at there
+      segment_by false None named there none =
+          subst (λ (x : Option PacketValue). Ends places x) (goes_is i (taken || is_rst header.control) (packet_in (rst_reply ip header (length bytes))))
+          (reset_if (taken || is_rst header.control) (may_tell i) named (λ quiet may c. none (named, there, quiet, may) c))
+
+    -- none goes, or it is counted
+    module _ (header : TcpHeader) (bytes : List ℕ) (a : Arrived) (c : C → a.inner.errors_until ≡ i0.errors_until)
+        (inner : a.inner ≡ limited_host i places ip payload taken (Some (Segment header bytes))) where
+      abbrev unclaimed : Bool
+      unclaimed = is_unclaimed i places ip (Some (Segment header bytes))
+
+      abbrev reply : Option PacketValue
+      reply = handed_reply i places ip payload taken (Some (Segment header bytes))
+
+      abbrev after_it : InnerValue
+      after_it = segment_host i places ip header bytes
+
+      no_reset : (names_nobody i ip ≡ false) × (segment_place ip header places ≡ None) × ((taken || is_rst header.control) ≡ false) × (may_tell i ≡ true) → C → ⊥
+      no_reset (somebody, nowhere, loud, may) holds =
+          let goes : let_go unclaimed i reply ≡ Some (packet_in (rst_reply ip header (length bytes))) =
+          (λ k. let_go (not (somebody k) && not (is_some (nowhere k))) i
+          (if somebody k then None else segment_answer_at (nowhere k) (context_of i) ip header bytes taken places))
+          ∙ (λ k. if_it_may i (if loud k then None else packet_by (Some (rst_reply ip header (length bytes)))))
+          ∙ (λ k. if may k then Some (packet_in (rst_reply ip header (length bytes))) else None) in
+          let is : unclaimed ≡ true = λ k. not (somebody k) && not (is_some (nowhere k)) in
+          let counts : a.inner ≡ with_error after_it = inner ∙ let_go_counted unclaimed i reply after_it _ is goes in
+          counted_later i0 i after_it a.inner like.low (segment_errors i places ip header bytes) counts (c holds)
+
+    handed : (carried : Option PayloadValue) → IsBrought i.checksums ip payload carried → HandsMade (party net (other side)) i.checksums ip payload
+        → (a : Arrived) → (C → a.inner.errors_until ≡ i0.errors_until) → a.inner ≡ limited_host i places ip payload taken carried
+        → HandsTo i places ip carried a.places → Ends a.places (limited_reply i places ip payload taken carried)
+    handed None is made a c inner to = limited_of None a.places (same_with a.places _ (ap (λ (ps : Places). sockets_of ps) to)
+        (λ p. unread_made p i ip payload taken))
+    handed (Some (ControlV4 message bytes)) is made a c inner to =
+        limited_of (Some (ControlV4 message bytes)) a.places
+        (same_with a.places _ (ap (λ (ps : Places). sockets_of ps) to ∙ control_v4 ip message bytes) (λ p. control_v4_made p i ip message bytes))
+    handed (Some (ControlV6 message bytes)) is made a c inner to =
+        limited_of (Some (ControlV6 message bytes)) a.places
+        (same_with a.places _ (ap (λ (ps : Places). sockets_of ps) to ∙ control_v6 ip message bytes) (λ p. control_v6_made p i ip message bytes))
+    handed (Some (Bytes bytes)) is made a c inner to =
+        limited_of (Some (Bytes bytes)) a.places (subst (λ (ps : Places). Ends ps None) (sym to) (nothing names side C i0 t net now r places has))
+    handed (Some (Datagram udp bytes)) is made a c inner to =
         let was : WasMade (party now (other side)) (datagram_of udp bytes) =
         subst (λ (p : Party). WasMade p (datagram_of udp bytes)) (sym r.rests) (made.datagrams udp bytes is) in
-        let moved = datagram_given names side net now r places has (context_of i) ip udp bytes was qs to in
-        record { moved = moved; made = port_error_made (party moved.next side) (is_some (datagram_place (context_of i) ip udp places) || taken) i ip payload }
-    handed caps (Some (Segment header bytes)) is made qs to =
+        let moved = datagram_given names side C i0 t net now r places has (context_of i) ip udp bytes was a.places to in
+        limited_of (Some (Datagram udp bytes)) a.places (record {
+          moved = moved;
+          made = port_error_made (party moved.next side) (is_some (datagram_place (context_of i) ip udp places) || taken) i ip payload;
+        })
+    handed (Some (Segment header bytes)) is made a c inner to =
         let was : MayCome (party now (other side)).segments (source_of ip) (destination_of ip) header bytes =
         subst (λ (p : Party). MayCome p.segments (source_of ip) (destination_of ip) header bytes) (sym r.rests) (made.segments header bytes is) in
-        subst (λ (ps : Places). Ends ps (handed_reply i places ip payload taken (Some (Segment header bytes)))) (sym to)
-        (segment (names_nobody i ip) header bytes was)
+        subst (λ (ps : Places). Ends ps (limited_reply i places ip payload taken (Some (Segment header bytes)))) (sym to)
+        (segment_by header bytes was (names_nobody i ip) (segment_place ip header places) refl refl (no_reset header bytes a c inner))
 
-    hands : (caps : ChecksumCapabilities) (a : Arrived) → i.checksums ≡ caps → Hands i places ip payload taken a →
-        HandsMade (party net (other side)) caps ip payload → Ended names side net now a.places a.reply
-    hands caps a same (carried, is, so) made =
-        let end = handed i.checksums carried is (subst (λ (c : ChecksumCapabilities). HandsMade (party net (other side)) c ip payload) (sym same) made)
-        a.places so.places_are in
-        let made_of = party end.moved.next side in
-        let given : Ended names side net now a.places (answered (limited_reply i places ip payload taken carried)) =
-        record {
-          moved = end.moved;
-          made = answered_made made_of (limited_reply i places ip payload taken carried)
-              (let_go_so (IsMade made_of) (is_unclaimed i places ip carried) i (handed_reply i places ip payload taken carried) end.made);
-        } in
-        subst (λ (o : Option ReplyValue). Ended names side net now a.places o) (sym so.reply) given
+    hands : (caps : ChecksumCapabilities) (a : Arrived) → i.checksums ≡ caps → (C → a.inner.errors_until ≡ i0.errors_until) → Hands i places ip payload taken a →
+        HandsMade (party net (other side)) caps ip payload → Ended names side C i0 t net now a.places a.reply
+    hands caps a same c (carried, is, so) made =
+        let end = handed carried is (subst (λ (c : ChecksumCapabilities). HandsMade (party net (other side)) c ip payload) (sym same) made) a c so.inner
+        so.places_are in
+        let given : Ended names side C i0 t net now a.places (answered (limited_reply i places ip payload taken carried)) =
+        record { moved = end.moved; made = answered_made (party end.moved.next side) (limited_reply i places ip payload taken carried) end.made } in
+        subst (λ (o : Option ReplyValue). Ended names side C i0 t net now a.places o) (sym so.reply) given
 
   -- A CONTENT
 
   silent : (i : InnerValue) (places qs : Places) (a : Arrived) → (party now side).sockets ≡ sockets_of places → sockets_of qs ≡ sockets_of places →
-      IsSilent i qs a → Ended names side net now a.places a.reply
+      IsSilent i qs a → Ended names side C i0 t net now a.places a.reply
   silent i places qs a has same is =
-      let quiet : Ended names side net now qs None = record { moved = stays names side net now r (sockets_of qs) (has ∙ sym same); made = tt } in
-      subst (λ (ps : Places). Ended names side net now ps a.reply) (sym is.places_are)
-      (subst (λ (o : Option ReplyValue). Ended names side net now qs o) (sym is.reply) quiet)
+      let quiet : Ended names side C i0 t net now qs None = record { moved = stays names side C i0 t net now r (sockets_of qs) (has ∙ sym same); made = tt } in
+      subst (λ (ps : Places). Ended names side C i0 t net now ps a.reply) (sym is.places_are)
+      (subst (λ (o : Option ReplyValue). Ended names side C i0 t net now qs o) (sym is.reply) quiet)
 
-  by_renewal : (i : InnerValue) (link : Option EthernetRepr) (sender : IpAddress) → (renewed_by i link sender).checksums ≡ i.checksums
-  by_renewal i None sender = refl
-  by_renewal i (Some link) sender = refl
+  by_renewal : (i : InnerValue) (link : Option EthernetRepr) (sender : IpAddress) → IsAsAt i0 t i → IsAsAt i0 t (renewed_by i link sender)
+  by_renewal i None sender like = like
+  by_renewal i (Some link) sender like = record {
+    settings = record {
+      hardware = like.settings.hardware;
+      mtu = like.settings.mtu;
+      checksums = like.settings.checksums;
+      addresses = like.settings.addresses;
+      isn_key = like.settings.isn_key;
+      any_ip = like.settings.any_ip;
+      routes = like.settings.routes;
+    };
+    moment = like.moment;
+    low = like.low;
+  }
 
-  renewal_if : (direct : Bool) (i : InnerValue) (link : Option EthernetRepr) (sender : IpAddress) →
-      (if direct then renewed_by i link sender else i).checksums ≡ i.checksums
-  renewal_if true i link sender = by_renewal i link sender
-  renewal_if false i link sender = refl
+  renewal_if : (direct : Bool) (i : InnerValue) (link : Option EthernetRepr) (sender : IpAddress) → IsAsAt i0 t i →
+      IsAsAt i0 t (if direct then renewed_by i link sender else i)
+  renewal_if true i link sender like = by_renewal i link sender like
+  renewal_if false i link sender like = like
 
-  same_checksums : (i : InnerValue) (link : Option EthernetRepr) (ip : IpRepr) → (renewed i link ip).checksums ≡ i.checksums
-  same_checksums i link ip = renewal_if (is_direct i ip) i link (sender_of ip)
+  renewed_as : (i : InnerValue) (link : Option EthernetRepr) (ip : IpRepr) → IsAsAt i0 t i → IsAsAt i0 t (renewed i link ip)
+  renewed_as i link ip like = renewal_if (is_direct i ip) i link (sender_of ip) like
 
-  module _ (i : InnerValue) (places : Places) (has : (party now side).sockets ≡ sockets_of places) where
-    here : (link : Option EthernetRepr) (ip : IpRepr) (payload : List ℕ) (a : Arrived) →
-        Hands (renewed i link ip) (packet_delivered ip payload places) ip payload (is_taken_raw ip places) a
-        → HandsMade (party net (other side)) i.checksums ip payload → Ended names side net now a.places a.reply
-    here link ip payload a is made =
+  module _ (i : InnerValue) (places : Places) (has : (party now side).sockets ≡ sockets_of places) (like : IsAsAt i0 t i) where
+    here : (link : Option EthernetRepr) (ip : IpRepr) (payload : List ℕ) (a : Arrived) → is_astray i (source_of ip) (destination_of ip) ≡ false →
+        (C → a.inner.errors_until ≡ i0.errors_until) → Hands (renewed i link ip) (packet_delivered ip payload places) ip payload (is_taken_raw ip places) a
+        → HandsMade (party net (other side)) i.checksums ip payload → Ended names side C i0 t net now a.places a.reply
+    here link ip payload a home c is made =
+        let later = renewed_as i link ip like in
         hands (renewed i link ip) (packet_delivered ip payload places) ip payload (is_taken_raw ip places) (has ∙
-        sym (packet_delivered_same ip payload places)) i.checksums a
-        (same_checksums i link ip) is made
+        sym (packet_delivered_same ip payload places)) later (sym (strays i0 i (seen_at i0 i t like) (source_of ip) (destination_of ip)) ∙ home) i.checksums a
+        (later.settings.checksums ∙ sym like.settings.checksums) c is made
 
-    v4 : (ours : Bool) (link : Option EthernetRepr) (ip : IpRepr) (payload : List ℕ) (a : Arrived) → ArrivesV4 ours i places link ip payload a →
-        HandsMade (party net (other side)) i.checksums ip payload → Ended names side net now a.places a.reply
-    v4 true link ip payload a is made = here link ip payload a is made
-    v4 false link ip payload a is made = silent i places (packet_delivered ip payload places) a has (packet_delivered_same ip payload places) is
+    v4 : (ours : Bool) (link : Option EthernetRepr) (ip : IpRepr) (payload : List ℕ) (a : Arrived) → is_astray i (source_of ip) (destination_of ip) ≡ false →
+        (C → a.inner.errors_until ≡ i0.errors_until) → ArrivesV4 ours i places link ip payload a →
+        HandsMade (party net (other side)) i.checksums ip payload → Ended names side C i0 t net now a.places a.reply
+    v4 true link ip payload a home c is made = here link ip payload a home c is made
+    v4 false link ip payload a home c is made = silent i places (packet_delivered ip payload places) a has (packet_delivered_same ip payload places) is
 
-    v6 : (ours : Bool) (link : Option EthernetRepr) (ip : IpRepr) (payload : List ℕ) (a : Arrived) → ArrivesV6 ours i places link ip payload a →
-        HandsMade (party net (other side)) i.checksums ip payload → Ended names side net now a.places a.reply
-    v6 true link ip payload a is made = here link ip payload a is made
-    v6 false link ip payload a is made = silent i places places a has refl is
+    v6 : (ours : Bool) (link : Option EthernetRepr) (ip : IpRepr) (payload : List ℕ) (a : Arrived) → is_astray i (source_of ip) (destination_of ip) ≡ false →
+        (C → a.inner.errors_until ≡ i0.errors_until) → ArrivesV6 ours i places link ip payload a →
+        HandsMade (party net (other side)) i.checksums ip payload → Ended names side C i0 t net now a.places a.reply
+    v6 true link ip payload a home c is made = here link ip payload a home c is made
+    v6 false link ip payload a home c is made = silent i places places a has refl is
 
-    pub brings_moves : (content : Option IncomingValue) (a : Arrived) → Brings i places content a → BringsMade (party net (other side)) i.checksums content →
-        Ended names side net now a.places a.reply
-    brings_moves None a is made = silent i places places a has refl is
-    brings_moves (Some (Arp link packet)) a is made =
-        let told : Ended names side net now places (Replies.told (arp_answer i packet)) =
-        record { moved = stays names side net now r (sockets_of places) has; made = told_made (party now side) (arp_answer i packet) } in
-        subst (λ (ps : Places). Ended names side net now ps a.reply) (sym is.places_are)
-        (subst (λ (o : Option ReplyValue). Ended names side net now places o) (sym is.reply) told)
-    brings_moves (Some (Ip4 link header piece payload)) a is made = v4 (is_for_us i (Address.Ipv4 header.dst_addr)) link (Ip.Ipv4 header) payload a is made
-    brings_moves (Some (Ip6 link header payload)) a is made = v6 (is_for_us i (Address.Ipv6 header.dst_addr)) link (Ip.Ipv6 header) payload a is made
+    pub brings_moves : (content : Option IncomingValue) (a : Arrived) → IsHome i content → (C → a.inner.errors_until ≡ i0.errors_until) →
+        Brings i places content a → BringsMade (party net (other side)) i.checksums content → Ended names side C i0 t net now a.places a.reply
+    brings_moves None a home c is made = silent i places places a has refl is
+    brings_moves (Some (Arp link packet)) a home c is made =
+        let told : Ended names side C i0 t net now places (Replies.told (arp_answer i packet)) =
+        record { moved = stays names side C i0 t net now r (sockets_of places) has; made = told_made (party now side) (arp_answer i packet) } in
+        subst (λ (ps : Places). Ended names side C i0 t net now ps a.reply) (sym is.places_are)
+        (subst (λ (o : Option ReplyValue). Ended names side C i0 t net now places o) (sym is.reply) told)
+    brings_moves (Some (Ip4 link header piece payload)) a home c is made =
+        v4 (is_for_us i (Address.Ipv4 header.dst_addr)) link (Ip.Ipv4 header) payload a home c is made
+    brings_moves (Some (Ip6 link header payload)) a home c is made =
+        v6 (is_for_us i (Address.Ipv6 header.dst_addr)) link (Ip.Ipv6 header) payload a home c is made

@@ -1,6 +1,6 @@
 -- A run of both hosts is a run of moves, and so is safe.
-use Rattle.std.proofs.Common.{◌≡◌, ℕ, zero, suc, List, [], ◌∷◌, Option, Some, None, IfSome, refl, sym, ap, ◌∙◌, subst}
-use Rattle.std.specs.Prelude.{◌-◌, ◌≤◌, length, slice_index_or}
+use Rattle.std.proofs.Common.{◌≡◌, ℕ, ℤ, ◌≤ℤ◌, zero, suc, arith, List, [], ◌∷◌, Option, Some, None, IfSome, refl, sym, ap, ◌∙◌, subst}
+use Rattle.std.specs.Prelude.{pos, ◌-◌, ◌≤◌, slice_index_or}
 use Rattle.tcp_law.specs.Safe.{IsPrefixOf}
 use Rattle.tcp_model.specs.Value.{TcpValue}
 use Rattle.lan.specs.Worlds.AtLink.History.{Entry, written}
@@ -11,7 +11,7 @@ use Rattle.lan.specs.Worlds.AtLink.Kinds.LinkAct.{Hands, Cuts}
 use Rattle.lan.specs.Worlds.AtLink.Side.{Side}
 use Rattle.lan.specs.Worlds.AtLink.Side.TheVariants.{A, B}
 use Rattle.lan.specs.Worlds.AtLink.Partners.{ArePartners}
-use Rattle.lan.specs.Worlds.AtLink.Moves.{IsNoCall}
+use Rattle.lan.specs.Worlds.AtLink.Moves.{IsNoCall, Step}
 use Rattle.lan.specs.Worlds.AtLink.Parties as Parties
 use Rattle.lan.specs.Worlds.AtLink.Parties.{Party, Net, party}
 use Rattle.lan.specs.Worlds.AtLink.PacketsSafe.{IsFreshSocket, IsFreshParty, IsFreshNet, IsSafe, IsTcpAt, taken_in, HasNothing, HoldsRest}
@@ -30,8 +30,19 @@ use Rattle.lan.specs.Worlds.Moves.Follows.{sockets_of, IsNetOf, Comes, IsNoPoll}
 use Rattle.lan.specs.Worlds.Moves.Joined.{first_net}
 use Rattle.lan.proofs.Worlds.Moves.Coming.{HasCome}
 use Rattle.lan.proofs.Worlds.Moves.Calls.{names}
-use Rattle.lan.proofs.Worlds.Moves.Events.{call_comes, still_comes}
-use Rattle.lan.proofs.Worlds.Moves.Nets.{either_side}
+use Rattle.interface_tables.specs.Inner.{InnerValue}
+use Rattle.net_base.specs.Time.{IsMoment}
+use Rattle.sockets.specs.Context.{ContextValue}
+use Rattle.std.proofs.lemmas.Int.{ints}
+use Rattle.tcp_tie.specs.Pair.Values.{context_on}
+use Rattle.lan.specs.Worlds.AtLink.Call.{SocketCall}
+use Rattle.lan.specs.Worlds.AtLink.Moves as Moves
+use Rattle.lan.specs.Worlds.Still.{host_in}
+use Rattle.lan.proofs.Worlds.Moves.Calls.{IsCalled}
+use Rattle.lan.proofs.Worlds.Moves.Events.{call_comes, call_steps, still_comes, still_steps}
+use Rattle.lan.proofs.Worlds.Moves.Held.{IsSeenAs, IsShownAt, hosts_same}
+use Rattle.lan.proofs.Worlds.Moves.Nets.{either_side, step_of}
+use Rattle.lan.proofs.Worlds.StillSteps.{AreAllHeld, one-held}
 use Rattle.lan.proofs.Worlds.Moves.Places.{Places}
 
 -- EVENTS BUT FOR POLLS
@@ -56,7 +67,7 @@ link_same hosts (Cuts from k at) s = with_end hosts from _ s
 module _ (net : Net) (old new : Stations) (past : List Entry) (e : Entry) (of : IsNetOf net old past) where
   still : (k : Kind) → kind_of e.event ≡ k → IsNoCall k → ((s : Side) → sockets_of (station new s).places ≡ sockets_of (station old s).places) →
       Comes names net new (e ∷ past)
-  still k is none same = still_comes net old new past e of (subst IsNoCall (sym is) none) same
+  still k is none same = still_comes (station old A).host.inner (pos 0) net old new past e of (subst IsNoCall (sym is) none) same
 
   by_kind : (k : Kind) → kind_of e.event ≡ k → IsNoPoll k → refusal_in past old e.event ≡ None → Happens old k e.answer e.found new →
       Comes names net new (e ∷ past)
@@ -74,6 +85,62 @@ module _ (net : Net) (old new : Stations) (past : List Entry) (e : Entry) (of : 
 pub rest_comes : (net : Net) (old new : Stations) (past : List Entry) (e : Entry) → IsNetOf net old past → IsNoPoll (kind_of e.event) → Leads past old e new →
     Comes names net new (e ∷ past)
 rest_comes net old new past e of quiet leads = by_kind net old new past e of (kind_of e.event) refl quiet leads.allowed leads.happens
+
+-- HELD STEPS: a call shows the host as it is, and any other event shows nothing
+
+module _ (firsts : Side → InnerValue) (net : Net) (old new : Stations) (past : List Entry) (e : Entry) (of : IsNetOf net old past)
+    (seen : (s : Side) → IsSeenAs (firsts s) (station old s).host.inner) (was : (s : Side) → IsMoment (station old s).host.inner.moment)
+    (now : (s : Side) → IsMoment (station new s).host.inner.moment)
+    (up : (s : Side) → (station old s).host.inner.moment ≤ℤ (station new s).host.inner.moment) where
+  abbrev before : Side → ℤ
+  before s = (station old s).host.inner.moment
+
+  abbrev behind : Side → ℤ
+  behind s = (station new s).host.inner.moment
+
+  no_earlier : (t : ℤ) → t ≤ℤ t
+  no_earlier t = omega (arith, ints)
+
+  passes_held : (side : Side) → AreAllHeld firsts before net (step_of side (Moves.Passes e) ∷ []) behind
+  passes_held side = one-held firsts before net (step_of side (Moves.Passes e)) behind (behind side) (now side) (up side) (no_earlier (behind side)) up tt
+
+  shown_so : (side : Side) (i : ℕ) (call : SocketCall)
+      (c : IsCalled (station old side).host.inner (party net side) (station new side).places i call e.answer e.found) → IsShownAt (firsts side) (before side) c.cx
+  shown_so side i call c =
+      let i0 = (station old side).host.inner in
+      c.shown ∙ (λ k. context_on (hosts_same (firsts side) i0 (seen side) k) i0.moment i0.random)
+      ∙ ap (λ (cx : ContextValue). context_on (host_in (firsts side)) i0.moment cx.random) (sym c.shown)
+
+  abbrev Held : List Step → Type 0
+  Held steps = AreAllHeld firsts before net steps behind
+
+  still_held : (k : Kind) (is : kind_of e.event ≡ k) (none : IsNoCall k)
+      (same : (s : Side) → sockets_of (station new s).places ≡ sockets_of (station old s).places) → Held (still net old new past e of k is none same).steps
+  unfolding still
+  still_held k is none same =
+      subst Held (sym (still_steps (station old A).host.inner (pos 0) net old new past e of (subst IsNoCall (sym is) none) same)) (passes_held A)
+
+  kind_held : (k : Kind) (is : kind_of e.event ≡ k) (quiet : IsNoPoll k) (none : refusal_in past old e.event ≡ None) (acts : Happens old k e.answer e.found new)
+      → Held (by_kind net old new past e of k is quiet none acts).steps
+  unfolding by_kind
+  kind_held (OfHost side (Calls i call)) is quiet none acts =
+      let (c, steps) = call_steps net old new past e side i call of is none acts in
+      subst Held (sym steps) (one-held firsts before net (step_of side (Moves.Invokes i c.cx c.old e call c.new)) behind (before side) (was side)
+      (no_earlier (before side)) (up side) up (shown_so side i call c))
+  kind_held (OfHost side (Sets setting)) is quiet none acts =
+      still_held (OfHost side (Sets setting)) is tt (same_hosts old new side (ap (λ (x : StationValue). sockets_of x.places) acts.acts.0.3) acts.rests)
+  kind_held (OfHost side (Opens n)) is quiet none acts =
+      still_held (OfHost side (Opens n)) is tt (same_hosts old new side (ap (λ (x : StationValue). sockets_of x.places) acts.acts.2) acts.rests)
+  kind_held (OfHost side (Asks t)) is quiet none acts =
+      still_held (OfHost side (Asks t)) is tt (same_hosts old new side (ap (λ (x : StationValue). sockets_of x.places) acts.acts.2) acts.rests)
+  kind_held (OfHost side (Polls t budget)) is quiet none acts = absurd quiet
+  kind_held (OfLink act) is quiet none acts =
+      still_held (OfLink act) is tt (λ s. ap (λ (h : Stations). sockets_of (station h s).places) acts.2 ∙ link_same old act s)
+
+  pub rest_held : (quiet : IsNoPoll (kind_of e.event)) (leads : Leads past old e new) →
+      AreAllHeld firsts before net (rest_comes net old new past e of quiet leads).steps behind
+  unfolding rest_comes
+  rest_held quiet leads = kind_held (kind_of e.event) refl quiet leads.allowed leads.happens
 
 -- RUNS
 

@@ -1,0 +1,331 @@
+-- What an arrival makes of the paths that a host knows, and of the errors that it counts: neither is forgotten.
+use Rattle.std.proofs.Common.{◌≡◌, ℕ, ℤ, ◌≤ℤ◌, ◌^◌, ◌-◌, Bool, true, false, not, ◌&&◌, if◌then◌else◌, List, [], ◌∷◌, ◌++◌, length}
+use Rattle.std.proofs.Common.{Option, Some, None, refl, sym, ap, ◌∙◌, subst, arith, zero, suc}
+use Rattle.std.specs.Prelude.{nat_lt, slice_set, remove}
+use Rattle.std.proofs.lemmas.Int.{ints, clamps}
+use Rattle.interface_ingress.specs.Icmpv6 as Icmpv6
+use Rattle.lan.specs.Worlds.AtLink.Ndisc.{NeighborMessage}
+use Rattle.interface_ingress.specs.IpAddress.{IpAddress}
+use Rattle.interface_ingress.specs.IpAddress.TheVariants as Address
+use Rattle.interface_ingress.specs.IpProtocol.TheVariants as Protocol
+use Rattle.interface_ingress.specs.EthernetRepr.{EthernetRepr}
+use Rattle.interface_ingress.specs.ArpRepr.{ArpRepr}
+use Rattle.interface_ingress.specs.ArpRepr.TheVariants as Arps
+use Rattle.interface.specs.IpRepr.{IpRepr}
+use Rattle.interface.specs.IpRepr.TheVariants as Ip
+use Rattle.interface.specs.Ipv4Repr.{Ipv4Repr}
+use Rattle.interface.specs.Ipv6Repr.{Ipv6Repr}
+use Rattle.interface.specs.SameHost.{IsSameHost}
+use Rattle.ip_tcp.specs.declared.header.TcpHeader.{TcpHeader}
+use Rattle.sockets.specs.Packet.{PayloadValue, ControlV4, ControlV6, Bytes, Datagram, Segment}
+use Rattle.interface_egress.specs.Departing.{HasSettingsOf}
+use Rattle.interface_tables.specs.ErrorLimit.{answered_at}
+use Rattle.interface_tables.specs.Inner.{InnerValue, at_moment, context_of, with_error, with_path}
+use Rattle.interface_tables.specs.PathMtu.{entered, entered_at, heard_of, is_news, lowered, path_room, place_of, victim}
+use Rattle.interface_tables.specs.declared.path_mtu.Path.{Path}
+use Rattle.interface_ingress.specs.Arp.{teaches, learned, arp_arrived}
+use Rattle.interface_ingress.specs.Arrives.{Arrived, ArrivesV4, ArrivesV6, Brings, Hands, is_direct, sender_of, renewed, renewed_by, whole_after}
+use Rattle.interface_ingress.specs.Delivered.{Places, drawn_if, is_taken_raw, packet_delivered, segment_draws}
+use Rattle.interface_ingress.specs.Handed.{handed_host, handed_reply, is_unclaimed, limited_host, message_host, names_nobody, segment_host}
+use Rattle.interface_ingress.specs.Heard.{neighbor_heard}
+use Rattle.interface_ingress.specs.Incoming.{IncomingValue, Arp, Ip4, Ip6}
+use Rattle.interface_ingress.specs.Kept.{HasSameSettings}
+use Rattle.interface_ingress.specs.Reassembled.{Slots, bytes_at, is_astray, is_control_v6, is_heard, is_piece, is_piece_v6, is_sender, is_sender_v6}
+use Rattle.interface_ingress.specs.Reassembled.{is_taken_in, kept, place_in, rebuilt, rebuilt_v6, taken_in, uncut, whole_of}
+use Rattle.interface_ingress.proofs.Hearing.{entries-alone}
+use Rattle.interface_ingress.proofs.Limit.{counted_so}
+use Rattle.interface_ingress.proofs.PathTold.{path_v4_so, path_v6_so}
+use Rattle.lan.proofs.Worlds.Moves.Held.{IsAsAt, Stays}
+
+-- ERRORS
+
+pub past_it : (first until now : ℤ) → first ≤ℤ until → answered_at until now ≡ first → ⊥
+past_it first until now low is = omega (arith, ints, clamps, low, is)
+
+-- a segment may draw a word, no more
+drawn_errors : (draws : Bool) (i : InnerValue) → (drawn_if draws i).errors_until ≡ i.errors_until
+drawn_errors true i = refl
+drawn_errors false i = refl
+
+by_errors : (nobody draws : Bool) (i : InnerValue) → (if nobody then i else drawn_if draws i).errors_until ≡ i.errors_until
+by_errors true draws i = refl
+by_errors false draws i = drawn_errors draws i
+
+pub segment_errors : (i : InnerValue) (places : Places) (ip : IpRepr) (header : TcpHeader) (bytes : List ℕ) →
+    (segment_host i places ip header bytes).errors_until ≡ i.errors_until
+segment_errors i places ip header bytes = by_errors (names_nobody i ip) (segment_draws (context_of i) ip header bytes places) i
+
+-- WHAT COMES TO THIS HOST
+
+-- no loopback address is in it but one of a family of which the host has one
+abbrev pub IsHome : InnerValue → Option IncomingValue → Type 0
+IsHome i None = Unit {0}
+IsHome i (Some (Arp link packet)) = Unit {0}
+IsHome i (Some (Ip4 link header piece payload)) = is_astray i (Address.Ipv4 header.src_addr) (Address.Ipv4 header.dst_addr) ≡ false
+IsHome i (Some (Ip6 link header payload)) = is_astray i (Address.Ipv6 header.src_addr) (Address.Ipv6 header.dst_addr) ≡ false
+
+-- what the host takes in of a content
+taken_cut : (i : InnerValue) (h : Bool) (heard sender astray : Bool) → (heard && sender && not astray) ≡ h → h ≡ true → astray ≡ false
+taken_cut i h true true false is so = refl
+taken_cut i h true true true is so = absurd (let clash : false ≡ true = is ∙ so in cc)
+taken_cut i h true false astray is so = absurd (let clash : false ≡ true = is ∙ so in cc)
+taken_cut i h false sender astray is so = absurd (let clash : false ≡ true = is ∙ so in cc)
+
+home_taken : (i : InnerValue) (v : IncomingValue) → is_taken_in i v ≡ true → IsHome i (Some v)
+home_taken i (Arp link packet) is = tt
+home_taken i (Ip4 link h piece payload) is =
+    taken_cut i true (is_heard i link) (is_sender i h.src_addr) (is_astray i (Address.Ipv4 h.src_addr) (Address.Ipv4 h.dst_addr)) is refl
+home_taken i (Ip6 link h payload) is =
+    taken_cut i true (is_heard i link) (is_sender_v6 i h) (is_astray i (Address.Ipv6 h.src_addr) (Address.Ipv6 h.dst_addr)) is refl
+
+taken_if : (i : InnerValue) (v : IncomingValue) (taken : Bool) → is_taken_in i v ≡ taken → IsHome i (if taken then Some v else None)
+taken_if i v true is = home_taken i v is
+taken_if i v false is = tt
+
+taken_home : (i : InnerValue) (content : Option IncomingValue) → IsHome i (taken_in i content)
+taken_home i None = tt
+taken_home i (Some v) = taken_if i v (is_taken_in i v) refl
+
+-- a datagram that is rebuilt has the addresses of its last piece
+rebuilt_v4_home : (i : InnerValue) (link : Option EthernetRepr) (h : Ipv4Repr) (bytes : Option (List ℕ)) →
+    is_astray i (Address.Ipv4 h.src_addr) (Address.Ipv4 h.dst_addr) ≡ false → IsHome i (rebuilt link h bytes)
+rebuilt_v4_home i link h None home = tt
+rebuilt_v4_home i link h (Some bytes) home = by (nat_lt (length bytes) (2 ^ 16 - 20)) where
+  by : (fits : Bool) → IsHome i (if fits then Some (Ip4 link (record h { payload_len = length bytes }) uncut bytes) else None)
+  by true = home
+  by false = tt
+
+rebuilt_v6_home : (i : InnerValue) (link : Option EthernetRepr) (h : Ipv6Repr) (bytes : Option (List ℕ)) →
+    is_astray i (Address.Ipv6 h.src_addr) (Address.Ipv6 h.dst_addr) ≡ false → IsHome i (rebuilt_v6 link h bytes)
+rebuilt_v6_home i link h None home = tt
+rebuilt_v6_home i link h (Some bytes) home = by (nat_lt (length bytes) (2 ^ 16)) where
+  by : (fits : Bool) → IsHome i (if fits then Some (Ip6 link (record h { next_header = Protocol.Ipv6Frag; payload_len = length bytes }) bytes) else None)
+  by true = home
+  by false = tt
+
+whole_home : (i : InnerValue) (slots : Slots) (at : Option ℕ) (content : Option IncomingValue) → IsHome i content → IsHome i (whole_of slots at content)
+whole_home i slots at None home = tt
+whole_home i slots at (Some (Arp link packet)) home = tt
+whole_home i slots at (Some (Ip4 link h piece payload)) home = by (is_piece piece) where
+  by : (is : Bool) → IsHome i (if is then rebuilt link h (bytes_at at slots) else Some (Ip4 link h piece payload))
+  by true = rebuilt_v4_home i link h (bytes_at at slots) home
+  by false = home
+whole_home i slots at (Some (Ip6 link h payload)) home = by (is_piece_v6 h payload) where
+  by : (is : Bool) → IsHome i (if is then rebuilt_v6 link h (bytes_at at slots) else Some (Ip6 link h payload))
+  by true = rebuilt_v6_home i link h (bytes_at at slots) home
+  by false = home
+
+pub brought_home : (i : InnerValue) (timeout : ℕ) (slots : Slots) (content : Option IncomingValue) →
+    IsHome i (whole_after i timeout slots (taken_in i content))
+brought_home i timeout slots content =
+    whole_home i (kept i timeout slots (taken_in i content)) (place_in slots (taken_in i content)) (taken_in i content) (taken_home i content)
+
+-- LATER: errors are counted up to no earlier moment, and what was known of paths isn't forgotten
+abbrev pub IsLater : InnerValue → InnerValue → Type 0
+IsLater i i' = (i.errors_until ≤ℤ i'.errors_until) × (i'.paths ≡ [] → i.paths ≡ [])
+
+no_earlier : (t : ℤ) → t ≤ℤ t
+no_earlier t = omega (arith, ints)
+
+later_same : (i i' : InnerValue) → i'.errors_until ≡ i.errors_until → i'.paths ≡ i.paths → IsLater i i'
+later_same i i' errors paths = (subst (λ (t : ℤ). i.errors_until ≤ℤ t) (sym errors) (no_earlier i.errors_until), λ none. sym paths ∙ none)
+
+later_itself : (i : InnerValue) → IsLater i i
+later_itself i = later_same i i refl refl
+
+in_turn : (a b c : ℤ) → a ≤ℤ b → b ≤ℤ c → a ≤ℤ c
+in_turn a b c one other = omega (arith, ints, one, other)
+
+later_then : (i j k : InnerValue) → IsLater i j → IsLater j k → IsLater i k
+later_then i j k first second = (in_turn i.errors_until j.errors_until k.errors_until first.0 second.0, λ none. first.1 (second.1 none))
+
+later_at : (i j k : InnerValue) → k ≡ j → IsLater i j → IsLater i k
+later_at i j k is later = subst (IsLater i) (sym is) later
+
+-- an error
+no_less : (until now : ℤ) → until ≤ℤ answered_at until now
+no_less until now = omega (arith, ints, clamps)
+
+later_error : (i : InnerValue) → IsLater i (with_error i)
+later_error i = (no_less i.errors_until i.moment, λ none. none)
+
+-- a path
+behind_none : (xs : List Path) (x : Path) → xs ++ x ∷ [] ≡ [] → ⊥
+behind_none [] x is = absurd cc
+behind_none (y ∷ xs) x is = absurd cc
+
+set_none : (paths : List Path) (at : ℕ) (x : Path) → slice_set paths at x ≡ [] → paths ≡ []
+set_none [] at x is = refl
+set_none (p ∷ ps) zero x is = absurd cc
+set_none (p ∷ ps) (suc at) x is = absurd cc
+
+entered_none : (at : Option ℕ) (paths : List Path) (x : Path) → entered_at at paths x ≡ [] → paths ≡ []
+entered_none (Some at) paths x is = set_none paths at x is
+entered_none None paths x is = by (nat_lt (length paths) path_room) is where
+  by : (fits : Bool) → (if fits then paths ++ x ∷ [] else remove paths (victim paths) ++ x ∷ []) ≡ [] → paths ≡ []
+  by true is = absurd (behind_none paths x is)
+  by false is = absurd (behind_none (remove paths (victim paths)) x is)
+
+lowered_none : (paths : List Path) (address : IpAddress) (told : ℕ) (now : ℤ) (whole : ℕ) → lowered paths address told now whole ≡ [] → paths ≡ []
+unfolding lowered
+lowered_none paths address told now whole is = by (is_news paths address told now whole) is where
+  by : (news : Bool) → (if news then entered paths (heard_of address told now) else paths) ≡ [] → paths ≡ []
+  by true is = entered_none (place_of paths address) paths (heard_of address told now) is
+  by false is = is
+
+later_told : (i : InnerValue) (address : IpAddress) (told : ℕ) → IsLater i (with_path i address told)
+later_told i address told = (no_earlier i.errors_until, λ none. lowered_none i.paths address told i.moment i.mtu none)
+
+-- what carries it
+later_drawn : (draws : Bool) (i : InnerValue) → IsLater i (drawn_if draws i)
+later_drawn true i = later_same i (drawn_if true i) refl refl
+later_drawn false i = later_itself i
+
+later_segment : (i : InnerValue) (places : Places) (ip : IpRepr) (header : TcpHeader) (bytes : List ℕ) → IsLater i (segment_host i places ip header bytes)
+later_segment i places ip header bytes =
+    elim (names_nobody i ip) as (λ b. IsLater i (if b then i else drawn_if (segment_draws (context_of i) ip header bytes places) i)) [
+      | true ↦ later_itself i
+      | false ↦ later_drawn (segment_draws (context_of i) ip header bytes places) i
+    ]
+
+later_heard : (i : InnerValue) (header : Ipv6Repr) (message : NeighborMessage) → IsLater i (neighbor_heard i header message).inner
+later_heard i header message =
+    later_same i (neighbor_heard i header message).inner (ap (λ (x : InnerValue). x.errors_until) (entries-alone i header message))
+    (ap (λ (x : InnerValue). x.paths) (entries-alone i header message))
+
+later_message : (i : InnerValue) (places : Places) (header : Ipv6Repr) (message : Icmpv6.MessageValue) (bytes : List ℕ) →
+    IsLater i (message_host i places header message bytes)
+later_message i places header (Icmpv6.DstUnreachable reason about) bytes = later_itself i
+later_message i places header (Icmpv6.PktTooBig mtu about) bytes =
+    path_v6_so (IsLater i) i (later_itself i) (later_told i) places (Icmpv6.PktTooBig mtu about) bytes
+later_message i places header (Icmpv6.TimeExceeded reason about) bytes = later_itself i
+later_message i places header (Icmpv6.ParamProblem reason pointer about) bytes = later_itself i
+later_message i places header (Icmpv6.EchoRequest ident seq_no) bytes = later_itself i
+later_message i places header (Icmpv6.EchoReply ident seq_no) bytes = later_itself i
+later_message i places header (Icmpv6.Ndisc message) bytes =
+    elim (is_control_v6 header.next_header) as (λ b. IsLater i (if b then (neighbor_heard i header message).inner else i)) [
+      | true ↦ later_heard i header message
+      | false ↦ later_itself i
+    ]
+
+later_handed : (i : InnerValue) (places : Places) (ip : IpRepr) (payload : List ℕ) (carried : Option PayloadValue) →
+    IsLater i (handed_host i places ip payload carried)
+later_handed i places (Ip.Ipv4 header) payload (Some (ControlV4 message bytes)) =
+    path_v4_so (IsLater i) i (later_itself i) (later_told i) places payload message bytes
+later_handed i places (Ip.Ipv6 header) payload (Some (ControlV4 message bytes)) = later_itself i
+later_handed i places (Ip.Ipv4 header) payload (Some (ControlV6 message bytes)) = later_itself i
+later_handed i places (Ip.Ipv6 header) payload (Some (ControlV6 message bytes)) = later_message i places header message bytes
+later_handed i places ip payload (Some (Bytes bytes)) = later_itself i
+later_handed i places ip payload (Some (Datagram udp bytes)) = later_itself i
+later_handed i places ip payload (Some (Segment header bytes)) = later_segment i places ip header bytes
+later_handed i places ip payload None = later_itself i
+
+later_limited : (i : InnerValue) (places : Places) (ip : IpRepr) (payload : List ℕ) (taken : Bool) (carried : Option PayloadValue) →
+    IsLater i (limited_host i places ip payload taken carried)
+later_limited i places ip payload taken carried =
+    let after = handed_host i places ip payload carried in
+    let same = later_handed i places ip payload carried in
+    counted_so (IsLater i) (is_unclaimed i places ip carried) i (handed_reply i places ip payload taken carried) after same
+    (later_then i after (with_error after) same (later_error after))
+
+later_renewed : (i : InnerValue) (link : Option EthernetRepr) (ip : IpRepr) → IsLater i (renewed i link ip)
+later_renewed i link ip =
+    elim (is_direct i ip) as (λ b. IsLater i (if b then renewed_by i link (sender_of ip) else i)) [ true ↦ by link | false ↦ later_itself i ]
+  where
+    by : (link : Option EthernetRepr) → IsLater i (renewed_by i link (sender_of ip))
+    by None = later_itself i
+    by (Some link) = later_same i (renewed_by i (Some link) (sender_of ip)) refl refl
+
+later_in : (i : InnerValue) (places : Places) (link : Option EthernetRepr) (ip : IpRepr) (payload : List ℕ) (taken : Bool) (a : Arrived) →
+    Hands (renewed i link ip) places ip payload taken a → IsLater i a.inner
+later_in i places link ip payload taken a (carried, is, handed) =
+    later_at i (limited_host (renewed i link ip) places ip payload taken carried) a.inner handed.inner
+    (later_then i (renewed i link ip) (limited_host (renewed i link ip) places ip payload taken carried) (later_renewed i link ip)
+    (later_limited (renewed i link ip) places ip payload taken carried))
+
+later_v4 : (ours : Bool) (i : InnerValue) (places : Places) (link : Option EthernetRepr) (ip : IpRepr) (payload : List ℕ) (a : Arrived) →
+    ArrivesV4 ours i places link ip payload a → IsLater i a.inner
+later_v4 true i places link ip payload a h = later_in i (packet_delivered ip payload places) link ip payload (is_taken_raw ip places) a h
+later_v4 false i places link ip payload a h = later_at i i a.inner h.inner (later_itself i)
+
+later_v6 : (ours : Bool) (i : InnerValue) (places : Places) (link : Option EthernetRepr) (ip : IpRepr) (payload : List ℕ) (a : Arrived) →
+    ArrivesV6 ours i places link ip payload a → IsLater i a.inner
+later_v6 true i places link ip payload a h = later_in i (packet_delivered ip payload places) link ip payload (is_taken_raw ip places) a h
+later_v6 false i places link ip payload a h = later_at i i a.inner h.inner (later_itself i)
+
+later_learned : (i : InnerValue) (packet : ArpRepr) → IsLater i (learned i packet)
+later_learned i (Arps.EthernetIpv4 operation source_hardware source target_hardware target) =
+    later_same i (learned i (Arps.EthernetIpv4 operation source_hardware source target_hardware target)) refl refl
+
+later_arp : (i : InnerValue) (packet : ArpRepr) → IsLater i (arp_arrived i packet)
+later_arp i packet =
+    elim (teaches i packet) as (λ b. IsLater i (if b then learned i packet else i)) [ true ↦ later_learned i packet | false ↦ later_itself i ]
+
+pub brings_later : (i : InnerValue) (places : Places) (content : Option IncomingValue) (a : Arrived) → Brings i places content a → IsLater i a.inner
+brings_later i places None a h = later_at i i a.inner h.inner (later_itself i)
+brings_later i places (Some (Arp link packet)) a h = later_at i (arp_arrived i packet) a.inner h.inner (later_arp i packet)
+brings_later i places (Some (Ip4 link header piece payload)) a h = later_v4 _ i places link (Ip.Ipv4 header) payload a h
+brings_later i places (Some (Ip6 link header payload)) a h = later_v6 _ i places link (Ip.Ipv6 header) payload a h
+
+-- BACK
+
+no_way : (a b c : ℤ) → a ≤ℤ b → b ≤ℤ c → c ≡ a → b ≡ a
+no_way a b c one other is = omega (arith, ints, one, other, is)
+
+-- what is still behind an arrival was so before it
+pub stayed : (i0 i i' : InnerValue) → i0.errors_until ≤ℤ i.errors_until → IsLater i i' → Stays i0 i' → Stays i0 i
+stayed i0 i i' low later still = (later.1 still.0, no_way i0.errors_until i.errors_until i'.errors_until low later.0 still.1)
+
+-- SINCE A POLL BEGAN
+
+abbrev pub IsSince : InnerValue → InnerValue → Type 0
+IsSince i0 i = HasSettingsOf i0 i × (i0.errors_until ≤ℤ i.errors_until)
+
+pub since_itself : (i : InnerValue) → IsSince i i
+since_itself i =
+    (record { hardware = refl; mtu = refl; checksums = refl; addresses = refl; isn_key = refl; any_ip = refl; routes = refl }, no_earlier i.errors_until)
+
+pub since_begun : (i0 i : InnerValue) (t : ℤ) → IsSince i0 i → IsSince i0 (at_moment t i)
+since_begun i0 i t since = (
+  record {
+    hardware = since.0.hardware;
+    mtu = since.0.mtu;
+    checksums = since.0.checksums;
+    addresses = since.0.addresses;
+    isn_key = since.0.isn_key;
+    any_ip = since.0.any_ip;
+    routes = since.0.routes;
+  },
+  since.1,
+)
+
+pub since_arrival : (i0 i i' : InnerValue) → HasSameSettings i i' → IsLater i i' → IsSince i0 i → IsSince i0 i'
+since_arrival i0 i i' same later since = (
+  record {
+    hardware = same.hardware ∙ since.0.hardware;
+    mtu = same.mtu ∙ since.0.mtu;
+    checksums = same.checksums ∙ since.0.checksums;
+    addresses = same.addresses ∙ since.0.addresses;
+    isn_key = same.isn_key ∙ since.0.isn_key;
+    any_ip = same.any_ip ∙ since.0.any_ip;
+    routes = same.routes ∙ since.0.routes;
+  },
+  in_turn i0.errors_until i.errors_until i'.errors_until since.1 later.0,
+)
+
+pub since_out : (i0 i i' : InnerValue) → IsSameHost i i' → IsSince i0 i → IsSince i0 i'
+since_out i0 i i' same since = (
+  record {
+    hardware = ap (λ (x : InnerValue). x.hardware) same ∙ since.0.hardware;
+    mtu = ap (λ (x : InnerValue). x.mtu) same ∙ since.0.mtu;
+    checksums = ap (λ (x : InnerValue). x.checksums) same ∙ since.0.checksums;
+    addresses = ap (λ (x : InnerValue). x.addresses) same ∙ since.0.addresses;
+    isn_key = ap (λ (x : InnerValue). x.isn_key) same ∙ since.0.isn_key;
+    any_ip = ap (λ (x : InnerValue). x.any_ip) same ∙ since.0.any_ip;
+    routes = ap (λ (x : InnerValue). x.routes) same ∙ since.0.routes;
+  },
+  subst (λ (u : ℤ). i0.errors_until ≤ℤ u) (sym (ap (λ (x : InnerValue). x.errors_until) same)) since.1,
+)
+
+pub as_since : (i0 i : InnerValue) (t : ℤ) → i.moment ≡ t → IsSince i0 i → IsAsAt i0 t i
+as_since i0 i t is since = record { settings = since.0; moment = is; low = since.1 }
