@@ -27,7 +27,7 @@ use Rattle.tcp_tie.specs.declared.pair.event.Side as Pairs
 use Rattle.tcp_tie.proofs.AddressLaws.{accepts_same, arrives_same, keyed_draws}
 use Rattle.tcp_model.specs.Arrival.{arrives}
 use Rattle.tcp_model.specs.Names.{accepts}
-use Rattle.tcp_control.specs.Offers.{Offered}
+use Rattle.tcp_model.specs.BaseOffers.{Offered}
 use Rattle.tcp_model.specs.Offers.{offer_of, payload_of}
 use Rattle.tcp_model.specs.OpenOffer.{OpenOffer}
 use Rattle.tcp_model.specs.Reply.{Reply}

@@ -1,9 +1,9 @@
 -- What a socket reads of its host's random words: nothing in an offer, and nothing in a call where first numbers are made with a key (RFC 6528).
 use Rattle.std.proofs.Common.{◌≡◌, ℕ, ℤ, List, if◌then◌else◌, Option, Some, None, refl, sym, subst}
 use Rattle.ip_wire.specs.IpEndpoint.{IpEndpoint}
-use Rattle.tcp_control.specs.FirstNumbers.{number_for}
-use Rattle.tcp_control.specs.States.{is_closed}
-use Rattle.tcp_control.specs.declared.endpoints.EndpointPair.{EndpointPair}
+use Rattle.tcp_model.specs.FirstNumbers.{number_for}
+use Rattle.tcp_model.specs.States.{is_closed}
+use Rattle.tcp_model.specs.EndpointPair.{EndpointPair}
 use Rattle.tcp_tie.specs.Pair.Values.{HostContext, context_on}
 use Rattle.tcp_model.specs.Calls.{connect_after, connected_by, pair_for}
 use Rattle.tcp_model.specs.Offers.{offer_of, offer_with}
