@@ -25,7 +25,6 @@ pub mod Answering
 pub mod Protocols
 pub mod Ports
 pub mod Fits
-mod Held
 pub mod Wide
 pub mod Named
 pub mod Makers
