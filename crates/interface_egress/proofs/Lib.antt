@@ -14,3 +14,4 @@ pub mod OneWay
 pub mod Leaving
 pub mod GoesWhole
 pub mod Lent
+pub mod Resting

@@ -1,4 +1,5 @@
 pub mod Meta
+pub mod AtRest
 pub mod Set
 pub mod Used
 pub mod Lends

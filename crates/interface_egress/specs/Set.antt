@@ -20,7 +20,7 @@ module _ {T : Type 0} where
   unmarked socket = record { inner = Some (record { meta = record { waiting = None }; socket = socket }) }
 
   abbrev pub places : SocketSet T → List (SocketStorage T)
-  places set = storage_items set.sockets
+  places set = set.places
 
   abbrev pub is_fixed_storage : ManagedSlice (SocketStorage T) → Bool
   is_fixed_storage (Fixed v) = true
@@ -28,7 +28,7 @@ module _ {T : Type 0} where
 
   -- the storage never grows
   abbrev pub is_fixed : SocketSet T → Bool
-  is_fixed set = is_fixed_storage set.sockets
+  is_fixed set = set.fixed
 
   abbrev pub is_free : SocketStorage T → Bool
   is_free place = is_none place.inner

@@ -7,6 +7,7 @@ mod fill;
 mod fragmenter;
 mod frame;
 pub mod laws;
+mod places;
 mod plan;
 pub mod socket_laws;
 mod socket_meta;
@@ -22,6 +23,7 @@ pub use interface_tables::{
     Config, HardwareAddrError, InterfaceInner, LinkAddress, NewError, NotUnicast,
     PacketAssemblerSet, Route, RouteTableFull, Routes, TABLE_ROOM,
 };
+pub use places::Places;
 pub use plan::{Plan, plan_for, plan_from};
 pub use socket_meta::{Meta, Waiting};
 pub use socket_set::{

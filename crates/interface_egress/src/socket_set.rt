@@ -8,7 +8,9 @@ ghost use Rattle.interface_egress.specs.Set.{places, is_fixed, is_fixed_storage,
 ghost use Rattle.interface_egress.specs.Lends.{LendsPlace, LendsSocket};
 ghost use Rattle.interface_egress.specs.Used.{used, used_left, lent_left, CanLend, handles_left, handle_of};
 
+use crate::places::Places;
 use crate::socket_meta::Meta;
+use agenda::Idle;
 use net_base::ManagedSlice;
 use std::{fmt, mem, slice};
 
@@ -67,17 +69,28 @@ pub enum AddError<T> {
 
 /// Sockets by their handles: in fixed storage, or in storage that grows.
 #[derive(Debug, Drop)]
-pub struct SocketSet<T> {
-    pub sockets: ManagedSlice<SocketStorage<T>>,
+pub struct SocketSet<T: Idle> {
+    pub places: Places<T>,
+    /// The storage never grows.
+    pub fixed: bool,
 }
 
-impl<T: Drop> SocketSet<T> {
+impl<T: Drop + Idle> SocketSet<T> {
     /// A set in this storage, with the sockets that are in it.
     pub fn new(sockets: ManagedSlice<SocketStorage<T>>) -> SocketSet<T>
         ensures places { places result ≡ storage_items sockets }
         ensures fixed { is_fixed result ≡ is_fixed_storage sockets }
     {
-        SocketSet { sockets }
+        match sockets {
+            ManagedSlice::Fixed(storage) => SocketSet {
+                places: Places::of(storage),
+                fixed: true,
+            },
+            ManagedSlice::Owned(storage) => SocketSet {
+                places: Places::of(storage),
+                fixed: false,
+            },
+        }
     }
 
     /// Puts a socket into the first free place, or behind the others where the storage grows.
@@ -89,15 +102,10 @@ impl<T: Drop> SocketSet<T> {
             meta: Meta::default(),
             socket,
         };
-        match free_place(self.sockets.as_slice()) {
-            Some(at) => match &mut self.sockets {
-                ManagedSlice::Fixed(places) => Ok(put(places, at, item)),
-                ManagedSlice::Owned(places) => Ok(put(places, at, item)),
-            },
-            None => match &mut self.sockets {
-                ManagedSlice::Fixed(_) => Err(AddError::Full(item.socket)),
-                ManagedSlice::Owned(places) => append(places, item),
-            },
+        match free_place(self.places.as_slice()) {
+            Some(at) => Ok(put(&mut self.places, at, item)),
+            None if self.fixed => Err(AddError::Full(item.socket)),
+            None => append(&mut self.places, item),
         }
     }
 
@@ -106,7 +114,7 @@ impl<T: Drop> SocketSet<T> {
         ensures { used_left result ≡ used 0 (places self.now) }
     {
         Iter {
-            places: self.sockets.as_slice(),
+            places: self.places.as_slice(),
             at: 0,
         }
     }
@@ -116,11 +124,10 @@ impl<T: Drop> SocketSet<T> {
         ensures left { lent_left result ≡ used 0 (places self.old) }
         ensures ready { CanLend result }
     {
-        let places = match &mut self.sockets {
-            ManagedSlice::Fixed(places) => places.iter_mut(),
-            ManagedSlice::Owned(places) => places.iter_mut(),
-        };
-        IterMut { places, at: 0 }
+        IterMut {
+            places: self.places.all_mut().iter_mut(),
+            at: 0,
+        }
     }
 
     /// The handles of the sockets, from the lowest place on.
@@ -136,22 +143,15 @@ impl<T: Drop> SocketSet<T> {
     pub fn get(&self, handle: SocketHandle) -> Option<&T>
         ensures { option_copied result ≡ socket_at (places self.now) handle.0 }
     {
-        socket_in(self.sockets.as_slice(), handle.0)
+        socket_in(self.places.as_slice(), handle.0)
     }
 
     /// Lends the socket of this handle. Its mark, and what the other places hold, stay as they are.
     pub fn get_mut(&mut self, handle: SocketHandle) -> Option<&mut T>
-        ensures* lends { sem 𝓛 (LendsSocket T.row self.entry self.old handle.0 result) }
+        ensures* lends { sem 𝓛 (LendsSocket T.row T.Idle self.entry self.old handle.0 result) }
         ensures value { option_copied_mut result ≡ socket_at (places self.old) handle.0 }
     {
-        match &mut self.sockets {
-            ManagedSlice::Fixed(places) => {
-                return socket_mut(places, handle.0);
-            }
-            ManagedSlice::Owned(places) => {
-                return socket_mut(places, handle.0);
-            }
-        }
+        socket_mut(&mut self.places, handle.0)
     }
 
     /// Calls `f` on the socket of this handle, if there is one, and answers what it answers.
@@ -164,10 +164,7 @@ impl<T: Drop> SocketSet<T> {
         ensures after { Updates (FnOnceReturnsAtMut F.FnOnce f) (slice_get (places self.old) handle.0) (places self.old) handle.0 result (places self.new) }
         ensures fixed { is_fixed self.new ≡ is_fixed self.old }
     {
-        match &mut self.sockets {
-            ManagedSlice::Fixed(places) => update_in(places, handle.0, f),
-            ManagedSlice::Owned(places) => update_in(places, handle.0, f),
-        }
+        update_in(&mut self.places, handle.0, f)
     }
 
     /// Takes the socket of this handle out.
@@ -176,10 +173,7 @@ impl<T: Drop> SocketSet<T> {
         ensures after { places self.new ≡ slice_set (places self.old) handle.0 free }
         ensures fixed { is_fixed self.new ≡ is_fixed self.old }
     {
-        match &mut self.sockets {
-            ManagedSlice::Fixed(places) => take(places, handle.0),
-            ManagedSlice::Owned(places) => take(places, handle.0),
-        }
+        take(&mut self.places, handle.0)
     }
 }
 
@@ -244,7 +238,7 @@ impl<'a, T> Iterator for IterMut<'a, T> {
     }
 }
 
-impl<'a, T: Drop> IntoIterator for &'a SocketSet<T> {
+impl<'a, T: Drop + Idle> IntoIterator for &'a SocketSet<T> {
     type Item = (SocketHandle, &'a T);
 
     type IntoIter = Iter<'a, T>;
@@ -256,7 +250,7 @@ impl<'a, T: Drop> IntoIterator for &'a SocketSet<T> {
     }
 }
 
-impl<'a, T: Drop> IntoIterator for &'a mut SocketSet<T> {
+impl<'a, T: Drop + Idle> IntoIterator for &'a mut SocketSet<T> {
     type Item = (SocketHandle, &'a mut T);
 
     type IntoIter = IterMut<'a, T>;
@@ -301,31 +295,28 @@ fn free_place<T>(places: &[SocketStorage<T>]) -> Option<usize>
 }
 
 /// Puts a socket into this place.
-fn put<T: Drop>(places: &mut Vec<SocketStorage<T>>, at: usize, item: Item<T>) -> SocketHandle
-    requires { at < length places.old.items }
+fn put<T: Drop + Idle>(places: &mut Places<T>, at: usize, item: Item<T>) -> SocketHandle
+    requires { at < length places.old }
     ensures handle { result ≡ record { 0 = at } }
-    ensures after { places.new.items ≡ slice_set places.old.items at (record { inner = Some item }) }
+    ensures after { places.new ≡ slice_set places.old at (record { inner = Some item }) }
 {
-    places[at] = SocketStorage { inner: Some(item) };
+    *places.place_mut(at) = SocketStorage { inner: Some(item) };
     SocketHandle(at)
 }
 
 /// Adds a place with this socket, if there is memory for it.
-fn append<T: Drop>(
-    places: &mut Vec<SocketStorage<T>>,
+fn append<T: Drop + Idle>(
+    places: &mut Places<T>,
     item: Item<T>,
 ) -> Result<SocketHandle, AddError<T>>
-    ensures { MatchResult result (λ h. (h ≡ record { 0 = length places.old.items }) ×
-        (places.new.items ≡ places.old.items ++ record { inner = Some item } ∷ [])) (λ e. (e ≡ AddError.Memory item.socket) ×
-        (places.new.items ≡ places.old.items)) }
+    ensures { MatchResult result (λ h. (h ≡ record { 0 = length places.old }) ×
+        (places.new ≡ places.old ++ record { inner = Some item } ∷ [])) (λ e. (e ≡ AddError.Memory item.socket) ×
+        (places.new ≡ places.old)) }
 {
     let at = places.len();
-    if places.reserve(1).is_err() {
-        return Err(AddError::Memory(item.socket));
-    }
-    match places.push(SocketStorage { inner: Some(item) }) {
+    match places.push(item) {
         Ok(()) => Ok(SocketHandle(at)),
-        Err(_) => unreachable!(),
+        Err(item) => Err(AddError::Memory(item.socket)),
     }
 }
 
@@ -340,19 +331,17 @@ fn socket_in<T>(places: &[SocketStorage<T>], at: usize) -> Option<&T>
 }
 
 /// Lends the socket at this place.
-fn socket_mut<T>(places: &mut Vec<SocketStorage<T>>, at: usize) -> Option<&mut T>
-    ensures* lends { sem 𝓛 (LendsPlace T.row places.entry places.old.items at result) }
-    ensures value { option_copied_mut result ≡ socket_at places.old.items at }
+fn socket_mut<T: Idle>(places: &mut Places<T>, at: usize) -> Option<&mut T>
+    ensures* lends { sem 𝓛 (LendsPlace T.row T.Idle places.entry places.old at result) }
+    ensures value { option_copied_mut result ≡ socket_at places.old at }
 {
-    match places.get_mut(at) {
-        Some(place) => match &mut place.inner {
-            Some(item) => {
-                return Some(&mut item.socket);
-            }
-            None => {
-                return None;
-            }
-        },
+    if at >= places.len() {
+        return None;
+    }
+    match &mut places.place_mut(at).inner {
+        Some(item) => {
+            return Some(&mut item.socket);
+        }
         None => {
             return None;
         }
@@ -360,32 +349,32 @@ fn socket_mut<T>(places: &mut Vec<SocketStorage<T>>, at: usize) -> Option<&mut T
 }
 
 /// Calls `f` on the socket at this place, if there is one.
-fn update_in<T, R: Drop, F: FnOnce(&mut T) -> R>(
-    places: &mut Vec<SocketStorage<T>>,
+fn update_in<T: Idle, R: Drop, F: FnOnce(&mut T) -> R>(
+    places: &mut Places<T>,
     at: usize,
     f: F,
 ) -> Option<R>
     requires { F.IsAlwaysCallable f }
-    ensures { Updates (FnOnceReturnsAtMut F.FnOnce f) (slice_get places.old.items at) places.old.items at result places.new.items }
+    ensures { Updates (FnOnceReturnsAtMut F.FnOnce f) (slice_get places.old at) places.old at result places.new }
 {
     if at >= places.len() {
         return None;
     }
-    match &mut places[at].inner {
+    match &mut places.place_mut(at).inner {
         Some(item) => Some(f(&mut item.socket)),
         None => None,
     }
 }
 
 /// Takes the socket out of this place, if there is one.
-fn take<T: Drop>(places: &mut Vec<SocketStorage<T>>, at: usize) -> Option<T>
-    ensures value { result ≡ socket_at places.old.items at }
-    ensures after { places.new.items ≡ slice_set places.old.items at free }
+fn take<T: Drop + Idle>(places: &mut Places<T>, at: usize) -> Option<T>
+    ensures value { result ≡ socket_at places.old at }
+    ensures after { places.new ≡ slice_set places.old at free }
 {
     if at >= places.len() {
         return None;
     }
-    match mem::replace(&mut places[at], SocketStorage { inner: None }).inner {
+    match mem::replace(places.place_mut(at), SocketStorage { inner: None }).inner {
         Some(item) => Some(item.socket),
         None => None,
     }

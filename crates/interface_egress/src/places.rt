@@ -1,0 +1,137 @@
+//! The places of a set, and which of them have something to do.
+ghost use Rattle.std.specs.Prelude.{◌≡◌, ◌<◌, ◌++◌, ◌∷◌, [], length, slice_set, slice_get, Some, MatchResult};
+ghost use Rattle.std.specs.Borrow.{Array, Lends, sem};
+ghost use Rattle.interface_egress.specs.AtRest.{IsNextBusy, first_of, is_some_at_rest, with_first};
+ghost use Rattle.interface_egress.specs.contracts.places.Places.{the_row};
+ghost use Rattle.interface_egress.specs.contracts.socket_set.SocketStorage.{the_row as storage_row};
+
+use crate::socket_set::{Item, SocketStorage};
+use agenda::{Agenda, Idle};
+use std::alloc::Global;
+use std::marker::Model;
+
+/// The places of a set, each with a socket or free. Who is off the agenda is at rest: its socket has nothing to do until it is called or
+/// something arrives for it, and waits for no neighbour. A place that is lent is on the agenda, and stays there until `let_rest`.
+#[derive(Debug, Drop)]
+pub struct Places<T: Idle> {
+    storage: Vec<SocketStorage<T>>,
+    agenda: Agenda,
+}
+
+impl<T: Idle> Model for Places<T> {
+    ghost use Rattle.std.specs.Prelude.{List};
+    ghost use Rattle.interface_egress.specs.declared.socket_set.SocketStorage.{SocketStorage};
+    ghost use Rattle.interface_egress.specs.AtRest.{AreAtRest};
+
+    ghost Value = { List (SocketStorage T) };
+
+    ghost view = { λ p. p.storage.items };
+
+    ghost invariant = { λ p. AreAtRest T.idle p.agenda p.storage.items };
+}
+
+impl<T: Drop + Idle> Places<T> {
+    /// The places of this storage, all on the agenda.
+    pub fn of(storage: Vec<SocketStorage<T>>) -> Places<T>
+        ensures { result ≡ storage.items }
+    {
+        let agenda = Agenda::new(*storage.allocator());
+        Places { storage, agenda }
+    }
+
+    /// Adds a place with this socket, if there is memory for it.
+    pub fn push(&mut self, item: Item<T>) -> Result<(), Item<T>>
+        ensures { MatchResult result (λ u. self.new ≡ self.old ++ record { inner = Some item } ∷ []) (λ e. (e ≡ item) × (self.new ≡ self.old)) }
+    {
+        if self.storage.reserve(1).is_err() {
+            return Err(item);
+        }
+        match self.storage.push(SocketStorage { inner: Some(item) }) {
+            Ok(()) => Ok(()),
+            Err(_) => unreachable!(),
+        }
+    }
+}
+
+impl<T: Idle> Places<T> {
+    /// How many places there are.
+    pub fn len(&self) -> usize
+        ensures { result ≡ length self.now }
+    {
+        self.storage.len()
+    }
+
+    /// The places.
+    pub fn as_slice(&self) -> &[SocketStorage<T>]
+        ensures { result.now ≡ self.now }
+    {
+        self.storage.as_slice()
+    }
+
+    /// Lends a place, which is on the agenda from now on.
+    pub fn place_mut(&mut self, at: usize) -> &mut SocketStorage<T>
+        requires { at < length self.old }
+        ensures* lends { sem 𝓛 (Lends (the_row T.row T.Idle) (storage_row T.row) self.entry result (λ w. slice_set self.old at w)) }
+        ensures value { slice_get self.old at ≡ Some result.now }
+    {
+        self.agenda.put_on(at);
+        &mut self.storage[at]
+    }
+
+    /// Lends all places, which are on the agenda from now on.
+    pub fn all_mut(&mut self) -> &mut [SocketStorage<T>]
+        ensures* lends { sem 𝓛 (Lends (the_row T.row T.Idle) (Array (storage_row T.row) 0) self.entry result (with_first self.old)) }
+        ensures value { result.now ≡ self.old }
+    {
+        self.agenda.clear();
+        self.storage.as_mut_slice()
+    }
+
+    /// The first place from this one on that isn't known to be at rest.
+    pub fn next_busy(&self, from: usize) -> Option<usize>
+        ensures { IsNextBusy T.idle from self.now result }
+    {
+        first_of(
+            self.agenda.next(from),
+            from,
+            self.agenda.len(),
+            self.storage.len(),
+        )
+    }
+
+    /// Takes a place off the agenda, if it is at rest. Without memory for its mark it stays there.
+    pub fn let_rest(&mut self, at: usize)
+        ensures { self.new ≡ self.old }
+    {
+        if at == self.agenda.len() && at < self.storage.len() && self.agenda.push().is_err() {
+            return;
+        }
+        if is_at_rest(self.storage.as_slice(), at) {
+            self.agenda.take_off(at);
+        }
+    }
+}
+
+/// Whether there is such a place, and it is at rest.
+fn is_at_rest<T: Idle>(places: &[SocketStorage<T>], at: usize) -> bool
+    ensures { result ≡ is_some_at_rest T.idle (slice_get places.now at) }
+{
+    match places.get(at) {
+        Some(SocketStorage { inner: Some(item) }) => {
+            item.meta.waiting.is_none() && item.socket.is_idle()
+        }
+        Some(SocketStorage { inner: None }) => true,
+        None => false,
+    }
+}
+
+/// The first place that is on the agenda, or else that has no mark, if there is one.
+fn first_of(next: Option<usize>, from: usize, marks: usize, places: usize) -> Option<usize>
+    ensures { result ≡ first_of next from marks places }
+{
+    match next {
+        Some(at) => Some(at),
+        None if from.max(marks) < places => Some(from.max(marks)),
+        None => None,
+    }
+}
