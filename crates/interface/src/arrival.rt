@@ -9,7 +9,7 @@ ghost use Rattle.interface.specs.Ingress.{is_read, is_question, Replied, Receive
 
 use crate::awaited::turn_of;
 use interface_egress::{
-    ArpFrame, Fragmenter, InterfaceInner, PacketAssemblerSet, Plan, SocketStorage, dispatch_by,
+    ArpFrame, Fragmenter, InterfaceInner, PacketAssemblerSet, Places, Plan, dispatch_by,
     plan_for, send,
 };
 use interface_ingress::laws::same_settings;
@@ -29,7 +29,7 @@ pub fn ingress<D: Device>(
     slots: &mut PacketAssemblerSet,
     timeout: Duration,
     device: &mut D,
-    places: &mut [SocketStorage<Socket>],
+    places: &mut Places<Socket>,
 ) -> Option<bool>
     ensures takes { Takes D.moves (state device.old (host inner.old fragmenter.old slots.old timeout) places.old) result
         (state device.new (host inner.new fragmenter.new slots.new timeout) places.new) }
@@ -70,7 +70,7 @@ fn read_frame<D: Device>(
     timeout: Duration,
     device: &mut D,
     token: D::TxToken,
-    places: &mut [SocketStorage<Socket>],
+    places: &mut Places<Socket>,
     frame: &[u8],
 )
     requires room { D.refused device.old + 1 < 2 ^ 64 }
@@ -100,7 +100,7 @@ fn read_any<D: Device>(
     timeout: Duration,
     device: &mut D,
     token: D::TxToken,
-    places: &mut [SocketStorage<Socket>],
+    places: &mut Places<Socket>,
     frame: &[u8],
 )
     requires room { D.refused device.old + 1 < 2 ^ 64 }
@@ -129,7 +129,7 @@ fn receive<D: Device>(
     timeout: Duration,
     device: &mut D,
     token: D::TxToken,
-    places: &mut [SocketStorage<Socket>],
+    places: &mut Places<Socket>,
     content: &Option<Incoming<'_>>,
 )
     requires room { D.refused device.old + 1 < 2 ^ 64 }
@@ -154,7 +154,7 @@ fn answer<D: Device>(
     fragmenter: &mut Fragmenter,
     device: &mut D,
     token: D::TxToken,
-    places: &[SocketStorage<Socket>],
+    places: &Places<Socket>,
     reply: &Option<Reply<'_>>,
 )
     requires room { D.refused device.old + 1 < 2 ^ 64 }

@@ -4,7 +4,7 @@ ghost use Rattle.std.specs.List.{fold, list_any};
 ghost use Rattle.interface_tables.specs.Best.{better_of};
 ghost use Rattle.interface.specs.Awaited.{awaited_by, awaited_in, comes_before, is_marked, next_awaited, turn_of};
 
-use interface_egress::{InterfaceInner, SocketStorage, Waiting};
+use interface_egress::{InterfaceInner, Places, SocketStorage, Waiting};
 use interface_ingress::Socket;
 use ip_wire::IpAddress;
 use net_base::Instant;
@@ -20,17 +20,17 @@ pub struct Awaited {
 
 /// Whose turn it is to be asked for, where a socket waits: an address that was never asked for, else the one that was asked for longest
 /// ago.
-pub fn turn_of(inner: &InterfaceInner, places: &[SocketStorage<Socket>]) -> Option<IpAddress>
+pub fn turn_of(inner: &InterfaceInner, places: &Places<Socket>) -> Option<IpAddress>
     ensures { result ≡ turn_of inner.now places.now }
 {
-    match next_awaited(inner, places) {
+    match next_awaited(inner, places.as_slice()) {
         Some(awaited) => Some(awaited.hop),
         None => None,
     }
 }
 
 /// The same where mostly no socket waits, which is seen before the places are gone through for the one that comes first.
-pub fn turn_if_any(inner: &InterfaceInner, places: &[SocketStorage<Socket>]) -> Option<IpAddress>
+pub fn turn_if_any(inner: &InterfaceInner, places: &Places<Socket>) -> Option<IpAddress>
     ensures { result ≡ turn_of inner.now places.now }
 {
     if some_wait(places) {
@@ -57,11 +57,18 @@ fn first_in_turn(inner: &InterfaceInner, places: &[SocketStorage<Socket>]) -> Op
     )
 }
 
-/// Whether a socket waits for a neighbour, which few do.
-fn some_wait(places: &[SocketStorage<Socket>]) -> bool
+/// Whether a socket waits for a neighbour, which few do, and none at rest does.
+fn some_wait(places: &Places<Socket>) -> bool
     ensures { result ≡ list_any is_marked places.now }
 {
-    places.iter().any(|place| is_marked(place))
+    let mut from = 0;
+    while let Some(at) = places.next_busy(from) {
+        if is_marked(&places.as_slice()[at]) {
+            return true;
+        }
+        from = at + 1;
+    }
+    false
 }
 
 /// Whether the socket at a place waits for a neighbour.

@@ -1,11 +1,12 @@
 //! When an interface wants to be polled.
-ghost use Rattle.std.specs.Prelude.{◌≡◌};
-ghost use Rattle.interface.specs.Instant.{instant_of, earlier_than, earlier, own_instant, item_instant, place_instant, poll_instant};
+ghost use Rattle.std.specs.Prelude.{◌≡◌, false};
+ghost use Rattle.interface.specs.Instant.{instant_of, earlier_than, earlier, own_instant, item_instant, place_instant, poll_instant, soonest};
+ghost use Rattle.interface_tables.specs.PathMtu.{some_count};
 ghost use Rattle.interface.specs.Remote.{remote_of};
 
 use crate::remote::{end_by, remote_of};
 use crate::turn::is_known;
-use interface_egress::{Fragmenter, InterfaceInner, Item, SocketStorage};
+use interface_egress::{Fragmenter, InterfaceInner, Item, Places, SocketStorage};
 use interface_ingress::{Context, PollAt, Socket};
 use interface_tables::Look;
 use ip_wire::IpAddress;
@@ -15,17 +16,41 @@ use net_base::Instant;
 pub fn poll_instant(
     inner: &InterfaceInner,
     fragmenter: &Fragmenter,
-    places: &[SocketStorage<Socket>],
+    places: &Places<Socket>,
 ) -> Option<Instant>
     ensures { result ≡ poll_instant inner.now fragmenter.now places.now }
 {
     if fragmenter.is_waiting() {
-        return Some(Instant::ZERO);
+        Some(Instant::ZERO)
+    } else if inner.knows_a_path() {
+        soonest(inner, places.as_slice())
+    } else {
+        soonest_of_busy(inner, places)
     }
+}
+
+/// When the first of these wants to be polled.
+fn soonest(inner: &InterfaceInner, places: &[SocketStorage<Socket>]) -> Option<Instant>
+    ensures { result ≡ soonest inner.now places.now }
+{
     places.iter().fold(
         None,
         |best, place| earlier(best, place_instant(inner, place)),
     )
+}
+
+/// The same where nothing is known of any path, so that no socket at rest wants to be polled.
+fn soonest_of_busy(inner: &InterfaceInner, places: &Places<Socket>) -> Option<Instant>
+    requires { some_count inner.now.paths inner.now.moment ≡ false }
+    ensures { result ≡ soonest inner.now places.now }
+{
+    let mut best = None;
+    let mut from = 0;
+    while let Some(at) = places.next_busy(from) {
+        best = earlier(best, place_instant(inner, &places.as_slice()[at]));
+        from = at + 1;
+    }
+    best
 }
 
 /// When the socket at a place wants to be polled, if there is one.

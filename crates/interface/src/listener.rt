@@ -22,10 +22,10 @@ use crate::listener::longest::oldest;
 use crate::listener::noting::note_all;
 use crate::listener::way::give_way;
 pub use entry::Entry;
-use interface_egress::{SocketHandle, SocketSet, SocketStorage};
+use interface_egress::{Places, SocketHandle, SocketSet};
 use interface_ingress::Socket;
 use ip_wire::IpListenEndpoint;
-use net_base::{Instant, ManagedSlice};
+use net_base::Instant;
 pub use stage::Stage;
 use std::alloc::{AllocError, Global};
 
@@ -47,13 +47,13 @@ fn micros_of(moment: Instant) -> u64
 
 /// What a refresh makes of the sockets of a set.
 fn refresh_places(
-    places: &mut Vec<SocketStorage<Socket>>,
+    places: &mut Places<Socket>,
     entries: &mut Vec<Entry>,
     keepers: &[SocketHandle],
     endpoint: IpListenEndpoint,
     now: u64,
 )
-    ensures { Refreshes endpoint now keepers.now places.old.items entries.old.items places.new.items entries.new.items }
+    ensures { Refreshes endpoint now keepers.now places.old entries.old.items places.new entries.new.items }
 {
     note_all(places, entries, endpoint, now);
     give_way(places, entries, endpoint, now);
@@ -110,14 +110,13 @@ impl Listener {
     {
         let now = micros_of(now);
         let keepers = self.keepers.as_slice();
-        match &mut set.sockets {
-            ManagedSlice::Fixed(places) => {
-                refresh_places(places, &mut self.entries, keepers, self.endpoint, now)
-            }
-            ManagedSlice::Owned(places) => {
-                refresh_places(places, &mut self.entries, keepers, self.endpoint, now)
-            }
-        }
+        refresh_places(
+            &mut set.places,
+            &mut self.entries,
+            keepers,
+            self.endpoint,
+            now,
+        );
     }
 
     /// The socket whose connection has waited for longest. It is its user's until `give_back`.

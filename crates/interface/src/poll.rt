@@ -22,10 +22,10 @@ use crate::host::Interface;
 use crate::instant::poll_instant;
 use crate::passes::either;
 use crate::step::egress;
-use interface_egress::{Fragmenter, InterfaceInner, PacketAssemblerSet, SocketSet, SocketStorage};
+use interface_egress::SocketSet;
 use interface_ingress::Socket;
 use interface_ingress::socket_laws::due_as_before;
-use net_base::{Device, Duration, Instant, ManagedSlice};
+use net_base::{Device, Duration, Instant};
 
 /// What a poll did to the sockets.
 #[derive(Clone, Copy, Debug, PartialEq, Eq)]
@@ -138,7 +138,7 @@ impl Interface {
         ensures after { self.new ≡ host_at timestamp self.old }
     {
         self.inner.set_now(timestamp);
-        poll_instant(&self.inner, &self.fragmenter, sockets.sockets.as_slice())
+        poll_instant(&self.inner, &self.fragmenter, &sockets.places)
     }
 
     /// How long it is until the interface wants to be polled.
@@ -250,24 +250,14 @@ impl Interface {
     {
         self.inner.set_now(timestamp);
         self.slots.remove_expired(timestamp);
-        match &mut sockets.sockets {
-            ManagedSlice::Fixed(places) => ingress_in(
-                &mut self.inner,
-                &mut self.fragmenter,
-                &mut self.slots,
-                self.timeout,
-                device,
-                places,
-            ),
-            ManagedSlice::Owned(places) => ingress_in(
-                &mut self.inner,
-                &mut self.fragmenter,
-                &mut self.slots,
-                self.timeout,
-                device,
-                places,
-            ),
-        }
+        ingress(
+            &mut self.inner,
+            &mut self.fragmenter,
+            &mut self.slots,
+            self.timeout,
+            device,
+            &mut sockets.places,
+        )
     }
 
     /// One step of the way out. Says whether a socket's state or a queue changed.
@@ -286,59 +276,13 @@ impl Interface {
         ensures capabilities { D.described device.new ≡ D.described device.old }
     {
         self.inner.set_now(timestamp);
-        match &mut sockets.sockets {
-            ManagedSlice::Fixed(places) => {
-                egress_in(&mut self.inner, &mut self.fragmenter, device, places)
-            }
-            ManagedSlice::Owned(places) => {
-                egress_in(&mut self.inner, &mut self.fragmenter, device, places)
-            }
-        }
+        egress(
+            &mut self.inner,
+            &mut self.fragmenter,
+            device,
+            &mut sockets.places,
+        )
     }
-}
-
-/// One step of the way in, of the sockets in this storage.
-fn ingress_in<D: Device>(
-    inner: &mut InterfaceInner,
-    fragmenter: &mut Fragmenter,
-    slots: &mut PacketAssemblerSet,
-    timeout: Duration,
-    device: &mut D,
-    places: &mut Vec<SocketStorage<Socket>>,
-) -> Option<bool>
-    ensures takes { Takes D.moves (state device.old (host inner.old fragmenter.old slots.old timeout) places.old.items) result
-        (state device.new (host inner.new fragmenter.new slots.new timeout) places.new.items) }
-    ensures settings { KeepsSettings inner.old inner.new }
-    ensures capabilities { D.described device.new ≡ D.described device.old }
-{
-    ingress(
-        inner,
-        fragmenter,
-        slots,
-        timeout,
-        device,
-        places.as_mut_slice(),
-    )
-}
-
-/// One step of the way out, of the sockets in this storage.
-fn egress_in<D: Device>(
-    inner: &mut InterfaceInner,
-    fragmenter: &mut Fragmenter,
-    device: &mut D,
-    places: &mut Vec<SocketStorage<Socket>>,
-) -> bool
-    ensures egress { Egress D.moves (sender device.old inner.old fragmenter.old) places.old.items
-        (passed (sender device.new inner.new fragmenter.new) places.new.items result) }
-    ensures host { IsSameHost inner.old inner.new }
-    ensures unchanged { result ≡ false → AreUnchanged places.old.items places.new.items }
-    ensures quiet { (asked : InnerValue) → inner.old ≡ at_moment inner.old.moment asked
-        → IsEarly asked fragmenter.old places.old.items inner.old.moment
-        → IsQuiet asked (sender device.old inner.old fragmenter.old) places.old.items
-        (passed (sender device.new inner.new fragmenter.new) places.new.items result) }
-    ensures capabilities { D.described device.new ≡ D.described device.old }
-{
-    egress(inner, fragmenter, device, places.as_mut_slice())
 }
 
 /// How long it is until a moment, nothing where that has come.

@@ -14,13 +14,13 @@ ghost use Rattle.interface.specs.Turn.{is_waiting};
 use crate::host::Interface;
 use crate::turn::{is_done, is_waiting, leave_straight};
 use interface_egress::{
-    Fragmenter, InterfaceInner, Item, Meta, SocketHandle, SocketSet, SocketStorage, straight_to,
+    Fragmenter, InterfaceInner, Item, Meta, Places, SocketHandle, SocketSet, SocketStorage, straight_to,
 };
 use interface_ingress::udp::{SendError, UdpMetadata};
 use interface_ingress::widths::fields_have_widths;
 use interface_ingress::{Packet, Socket, udp};
 use interface_tables::Look;
-use net_base::{Device, Instant, ManagedSlice};
+use net_base::{Device, Instant};
 use thiserror::Error;
 
 /// What became of a datagram that was taken.
@@ -84,26 +84,15 @@ impl Interface {
     {
         self.inner.set_now(timestamp);
         let at = handle.place();
-        match &mut sockets.sockets {
-            ManagedSlice::Fixed(places) => send_in(
-                &mut self.inner,
-                &self.fragmenter,
-                device,
-                places,
-                at,
-                bytes,
-                to,
-            ),
-            ManagedSlice::Owned(places) => send_in(
-                &mut self.inner,
-                &self.fragmenter,
-                device,
-                places,
-                at,
-                bytes,
-                to,
-            ),
-        }
+        send_in(
+            &mut self.inner,
+            &self.fragmenter,
+            device,
+            &mut sockets.places,
+            at,
+            bytes,
+            to,
+        )
     }
 }
 
@@ -112,20 +101,27 @@ fn send_in<D: Device>(
     inner: &mut InterfaceInner,
     fragmenter: &Fragmenter,
     device: &mut D,
-    places: &mut Vec<SocketStorage<Socket>>,
+    places: &mut Places<Socket>,
     at: usize,
     bytes: &[u8],
     to: &UdpMetadata,
 ) -> Result<Sending, SendToError>
-    ensures sends { SendsFrom D.moves (sender device.old inner.old fragmenter.now) places.old.items at (to.now, bytes.now) result
-        device.new inner.new places.new.items }
+    ensures sends { SendsFrom D.moves (sender device.old inner.old fragmenter.now) places.old at (to.now, bytes.now) result
+        device.new inner.new places.new }
     ensures host { IsSameHost inner.old inner.new }
     ensures capabilities { D.described device.new ≡ D.described device.old }
 {
     if at >= places.len() {
         return Err(SendToError::NotUdp);
     }
-    send_at(inner, fragmenter, device, &mut places[at], bytes, to)
+    send_at(
+        inner,
+        fragmenter,
+        device,
+        places.place_mut(at),
+        bytes,
+        to,
+    )
 }
 
 /// Sends a datagram from the socket at a place, if there is one.

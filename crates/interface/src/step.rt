@@ -9,7 +9,7 @@ ghost use Rattle.interface.specs.SameHost.{IsSameHost};
 
 use crate::awaited::turn_if_any;
 use crate::passes::pass;
-use interface_egress::{Fragmenter, InterfaceInner, SocketStorage, send_next};
+use interface_egress::{Fragmenter, InterfaceInner, Places, send_next};
 use interface_ingress::socket_laws::due_as_before;
 use interface_ingress::{Context, Socket};
 use net_base::Device;
@@ -19,7 +19,7 @@ pub fn egress<D: Device>(
     inner: &mut InterfaceInner,
     fragmenter: &mut Fragmenter,
     device: &mut D,
-    places: &mut [SocketStorage<Socket>],
+    places: &mut Places<Socket>,
 ) -> bool
     ensures egress { Egress D.moves (sender device.old inner.old fragmenter.old) places.old
         (passed (sender device.new inner.new fragmenter.new) places.new result) }
@@ -39,7 +39,7 @@ fn send_turns<D: Device>(
     inner: &mut InterfaceInner,
     fragmenter: &mut Fragmenter,
     device: &mut D,
-    places: &mut [SocketStorage<Socket>],
+    places: &mut Places<Socket>,
 ) -> bool
     ensures egress { Egress D.moves (sender device.old inner.old fragmenter.old) places.old
         (passed (sender device.new inner.new fragmenter.new) places.new result) }

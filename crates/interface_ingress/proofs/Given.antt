@@ -1,5 +1,5 @@
 -- Something that arrived for no socket changes none.
-use Rattle.std.proofs.Common.{◌≡◌, Bool, false, Option, None, Some, ap, ap₂, refl}
+use Rattle.std.proofs.Common.{◌≡◌, Bool, false, Option, None, Some, ap, ap₂, refl, sym, ◌∙◌, length}
 use Rattle.std.specs.Prelude.{if◌then◌else◌, ◌∷◌, []}
 use Rattle.std.specs.List.{list_any}
 use Rattle.std.proofs.lemmas.Bool.{or_parts}
@@ -23,3 +23,9 @@ none_given test change [] none = refl
 none_given test change (place ∷ places) none =
     let parts = or_parts (passes test place) (list_any (passes test) places) none in
     ap₂ (λ (p : SocketStorage Socket) (ps : Places). p ∷ ps) (same_place test change place parts.0) (none_given test change places parts.1)
+
+-- so of places that were seen to be for none of it
+pub none_seen : (test : Socket → Bool) (change : Socket → Socket) (places seen : Places) (some : Bool) → some ≡ list_any (passes test) seen → seen ≡ places
+    → some ≡ false → places ≡ all_given test change places
+none_seen test change places seen some is same none =
+    sym (none_given test change places (sym (ap (list_any (passes test)) same) ∙ (sym is ∙ none)))

@@ -18,7 +18,7 @@ use crate::icmp_reply::is_one_host;
 use crate::incoming::Incoming;
 use crate::reassemble::{bytes_at, is_piece, is_piece_v6, rebuilt, rebuilt_v6};
 use crate::reply::{Reply, arp_reply};
-use interface_egress::{InterfaceInner, PacketAssemblerSet, SocketStorage};
+use interface_egress::{InterfaceInner, PacketAssemblerSet, Places};
 use ip_wire::{AddressExt, EthernetRepr, HardwareAddress, IpAddress, IpRepr, Ipv4Repr, Ipv6Repr};
 use sockets::Socket;
 
@@ -60,7 +60,7 @@ fn renew_at(inner: &mut InterfaceInner, link: &EthernetRepr, header: &IpRepr)
 /// Takes in the payload of a packet for the host.
 fn accept<'a>(
     inner: &mut InterfaceInner,
-    places: &mut [SocketStorage<Socket>],
+    places: &mut Places<Socket>,
     link: &Option<EthernetRepr>,
     header: &IpRepr,
     payload: &'a [u8],
@@ -82,7 +82,7 @@ fn accept<'a>(
 /// Takes in a whole IPv4 packet: raw sockets get it first, whomever it is for.
 fn arrive_ipv4<'a>(
     inner: &mut InterfaceInner,
-    places: &mut [SocketStorage<Socket>],
+    places: &mut Places<Socket>,
     link: &Option<EthernetRepr>,
     header: &Ipv4Repr,
     payload: &'a [u8],
@@ -105,7 +105,7 @@ fn arrive_ipv4<'a>(
 /// Takes in an IPv6 packet, if it is for the host.
 fn arrive_ipv6<'a>(
     inner: &mut InterfaceInner,
-    places: &mut [SocketStorage<Socket>],
+    places: &mut Places<Socket>,
     link: &Option<EthernetRepr>,
     header: &Ipv6Repr,
     payload: &'a [u8],
@@ -130,7 +130,7 @@ fn arrive_ipv6<'a>(
 #[inline(always)]
 fn bring_in<'a>(
     inner: &mut InterfaceInner,
-    places: &mut [SocketStorage<Socket>],
+    places: &mut Places<Socket>,
     incoming: &Incoming<'a>,
     reply: &mut Option<Reply<'a>>,
 )
@@ -158,7 +158,7 @@ fn bring_in<'a>(
 /// Takes in the datagram that a piece completed, if it did, and writes what answers it.
 fn bring_rebuilt<'a>(
     inner: &mut InterfaceInner,
-    places: &mut [SocketStorage<Socket>],
+    places: &mut Places<Socket>,
     datagram: &Option<Incoming<'a>>,
     reply: &mut Option<Reply<'a>>,
 )
@@ -176,7 +176,7 @@ fn bring_rebuilt<'a>(
 /// datagram that it completes. A piece that completes none brings nothing. `place` is what `keep` returned.
 pub fn bring<'a>(
     inner: &mut InterfaceInner,
-    places: &mut [SocketStorage<Socket>],
+    places: &mut Places<Socket>,
     slots: &'a PacketAssemblerSet,
     place: Option<usize>,
     content: Option<&Incoming<'a>>,

@@ -19,7 +19,7 @@ use crate::places::{Arrival, give_all, is_for_any};
 use crate::reply::Reply;
 use icmpv4::Icmpv4Repr;
 use icmpv6::Icmpv6Repr;
-use interface_egress::{InterfaceInner, Item, SocketStorage};
+use interface_egress::{InterfaceInner, Item, Places, SocketStorage};
 use ip_wire::{IpRepr, Ipv4Repr, Ipv6Repr, TcpControl, TcpRepr, UdpRepr};
 use net_base::PacketMeta;
 use sockets::{IpPayload, Packet, Socket, tcp};
@@ -54,15 +54,14 @@ impl<'a> Arrival for RawPacket<'a> {
 }
 
 /// Gives a packet to every raw socket that asks for it, and says whether there is one.
-#[tactic(auto, using(crate::proofs::Given::none_given))]
-pub fn deliver_packet(places: &mut [SocketStorage<Socket>], header: &IpRepr, payload: &[u8]) -> bool
+pub fn deliver_packet(places: &mut Places<Socket>, header: &IpRepr, payload: &[u8]) -> bool
     ensures taken { result ≡ is_taken_raw header.now places.old }
     ensures places { places.new ≡ packet_delivered header.now payload.now places.old }
 {
     let packet = RawPacket { header, payload };
-    let is_taken = is_for_any(places, &packet);
+    let is_taken = is_for_any(places.as_slice(), &packet);
     if is_taken {
-        give_all(places, &packet);
+        give_all(places.all_mut(), &packet);
     }
     is_taken
 }
@@ -99,14 +98,13 @@ impl<'a> Arrival for Icmpv4Arrival<'a> {
 }
 
 /// Gives an ICMPv4 message to every socket that accepts it.
-pub fn deliver_icmpv4(
-    places: &mut [SocketStorage<Socket>],
-    header: &Ipv4Repr,
-    message: &Icmpv4Repr<'_>,
-)
+pub fn deliver_icmpv4(places: &mut Places<Socket>, header: &Ipv4Repr, message: &Icmpv4Repr<'_>)
     ensures { places.new ≡ icmpv4_delivered header.now (Icmpv4.header_of message.now) (Icmpv4.payload_of message.now) places.old }
 {
-    give_all(places, &Icmpv4Arrival { header, message });
+    let arrival = Icmpv4Arrival { header, message };
+    if is_for_any(places.as_slice(), &arrival) {
+        give_all(places.all_mut(), &arrival);
+    }
 }
 
 /// An ICMPv6 message with the header of its packet.
@@ -142,14 +140,13 @@ impl<'a> Arrival for Icmpv6Arrival<'a> {
 }
 
 /// Gives an ICMPv6 message to every socket that accepts it.
-pub fn deliver_icmpv6(
-    places: &mut [SocketStorage<Socket>],
-    header: &Ipv6Repr,
-    message: &Icmpv6Repr<'_>,
-)
+pub fn deliver_icmpv6(places: &mut Places<Socket>, header: &Ipv6Repr, message: &Icmpv6Repr<'_>)
     ensures { places.new ≡ icmpv6_delivered header.now (Icmpv6.value_of (Icmpv6.header_of message.now)) (Icmpv6.carried_by message.now) places.old }
 {
-    give_all(places, &Icmpv6Arrival { header, message });
+    let arrival = Icmpv6Arrival { header, message };
+    if is_for_any(places.as_slice(), &arrival) {
+        give_all(places.all_mut(), &arrival);
+    }
 }
 
 /// Whether the place has a socket that accepts a datagram: a UDP socket, or a client of DHCP or DNS.
@@ -231,7 +228,7 @@ fn process_datagram_in(
 #[tactic(auto, using(crate::proofs::AtPlace::given_here))]
 fn process_datagram_at(
     inner: &InterfaceInner,
-    places: &mut [SocketStorage<Socket>],
+    places: &mut Places<Socket>,
     at: usize,
     header: &IpRepr,
     udp: &UdpRepr,
@@ -240,14 +237,14 @@ fn process_datagram_at(
     requires { at < length places.old }
     ensures { GivenAt (context_of inner.now) header.now udp.now bytes.now (Some at) places.old places.new }
 {
-    process_datagram_in(inner, &mut places[at], header, udp, bytes);
+    process_datagram_in(inner, places.place_mut(at), header, udp, bytes);
 }
 
 /// Gives a user datagram to the first socket that accepts it, and says whether there is one.
 #[tactic(auto, using(crate::proofs::AtPlace::delivered_at, crate::proofs::AtPlace::delivered_nowhere))]
 pub fn deliver_datagram(
     inner: &InterfaceInner,
-    places: &mut [SocketStorage<Socket>],
+    places: &mut Places<Socket>,
     header: &IpRepr,
     udp: &UdpRepr,
     bytes: &[u8],
@@ -255,7 +252,7 @@ pub fn deliver_datagram(
     ensures taken { result ≡ is_some (datagram_place (context_of inner.now) header.now udp.now places.old) }
     ensures places { IsDelivered (context_of inner.now) header.now udp.now bytes.now places.old places.new }
 {
-    match datagram_place(inner, places, header, udp) {
+    match datagram_place(inner, places.as_slice(), header, udp) {
         Some(at) => {
             process_datagram_at(inner, places, at, header, udp, bytes);
             true
@@ -397,7 +394,7 @@ fn process_in<'a>(
 #[tactic(auto, using(crate::proofs::AtPlace::changed_here, crate::proofs::AtPlace::answer_here, crate::proofs::AtPlace::passes_here))]
 fn process_at<'a>(
     inner: &mut InterfaceInner,
-    places: &mut [SocketStorage<Socket>],
+    places: &mut Places<Socket>,
     at: usize,
     header: &IpRepr,
     segment: &TcpRepr<'_>,
@@ -413,7 +410,7 @@ fn process_at<'a>(
     ensures host { inner.new ≡
         drawn_if (passes_at (draws_of (context_of inner.old) header.now (Tcp.header_of segment.now) segment.now.payload.now) (Some at) places.old) inner.old }
 {
-    process_in(inner, &mut places[at], header, segment, reply);
+    process_in(inner, places.place_mut(at), header, segment, reply);
 }
 
 /// The reset that answers a segment which no socket accepts, as far as the limit on errors allows, but for a reset and a segment
@@ -443,7 +440,7 @@ fn reset<'a>(
 /// socket's, or a reset where no socket accepts it and the limit on errors allows one. `is_taken` says that a raw socket took it.
 pub fn deliver_segment<'a>(
     inner: &mut InterfaceInner,
-    places: &mut [SocketStorage<Socket>],
+    places: &mut Places<Socket>,
     header: &IpRepr,
     segment: &TcpRepr<'_>,
     is_taken: bool,
@@ -460,7 +457,7 @@ pub fn deliver_segment<'a>(
         (segment_answer (context_of inner.old) header.now (Tcp.header_of segment.now) segment.now.payload.now is_taken places.old)
         (drawn_if (segment_draws (context_of inner.old) header.now (Tcp.header_of segment.now) segment.now.payload.now places.old) inner.old) }
 {
-    match segment_place(inner, places, header, segment) {
+    match segment_place(inner, places.as_slice(), header, segment) {
         Some(at) => process_at(inner, places, at, header, segment, reply),
         None => reset(inner, header, segment, is_taken, reply),
     }

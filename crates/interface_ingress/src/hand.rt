@@ -33,7 +33,7 @@ use crate::reassemble::is_control;
 use crate::reply::{Reply, packet_reply};
 use icmpv4::Icmpv4Repr;
 use icmpv6::Icmpv6Repr;
-use interface_egress::{InterfaceInner, SocketStorage};
+use interface_egress::{InterfaceInner, Places, SocketStorage};
 use ip_wire::{IpAddress, IpProtocol, IpRepr, Ipv6Repr, TcpRepr};
 use ipv6_headers::{Behind, Problem, carries_error, go_through};
 use sockets::addresses::{is_multicast, is_unspecified};
@@ -42,7 +42,7 @@ use sockets::{Context, IpPayload, Packet, Socket};
 /// Gives an ICMPv4 message, which these bytes are, to the sockets that accept it, takes in what it tells of a path, and answers it.
 fn hand_icmpv4<'a>(
     inner: &mut InterfaceInner,
-    places: &mut [SocketStorage<Socket>],
+    places: &mut Places<Socket>,
     header: &IpRepr,
     bytes: &[u8],
     message: &Icmpv4Repr<'a>,
@@ -58,7 +58,7 @@ fn hand_icmpv4<'a>(
         return None;
     };
     let answer = echo_ipv4(inner, header, message);
-    hear_of_path_v4(inner, places, bytes, message);
+    hear_of_path_v4(inner, places.as_slice(), bytes, message);
     deliver_icmpv4(places, header, message);
     answer
 }
@@ -95,7 +95,7 @@ fn answer_icmpv6<'a>(
 /// Gives an ICMPv6 message to the sockets that accept it, and answers it.
 fn hand_icmpv6<'a>(
     inner: &mut InterfaceInner,
-    places: &mut [SocketStorage<Socket>],
+    places: &mut Places<Socket>,
     header: &IpRepr,
     message: &Icmpv6Repr<'a>,
 ) -> Option<Packet<'a>>
@@ -110,7 +110,7 @@ fn hand_icmpv6<'a>(
     let IpRepr::Ipv6(header) = header else {
         return None;
     };
-    let answer = answer_icmpv6(inner, places, header, message);
+    let answer = answer_icmpv6(inner, places.as_slice(), header, message);
     deliver_icmpv6(places, header, message);
     answer
 }
@@ -296,7 +296,7 @@ fn reply_unreached<'a>(
 /// the limit on errors allows.
 fn give_datagram<'a>(
     inner: &mut InterfaceInner,
-    places: &mut [SocketStorage<Socket>],
+    places: &mut Places<Socket>,
     header: &IpRepr,
     payload: &'a [u8],
     is_taken: bool,
@@ -324,7 +324,7 @@ fn give_datagram<'a>(
 /// Gives the datagram of a packet to whom it concerns, and answers it.
 fn hand_datagram<'a>(
     inner: &mut InterfaceInner,
-    places: &mut [SocketStorage<Socket>],
+    places: &mut Places<Socket>,
     header: &IpRepr,
     payload: &'a [u8],
     is_taken: bool,
@@ -348,7 +348,7 @@ fn hand_datagram<'a>(
 /// Reads the datagram of a packet for the host, gives it to whom it concerns, and answers it.
 fn hand_udp<'a>(
     inner: &mut InterfaceInner,
-    places: &mut [SocketStorage<Socket>],
+    places: &mut Places<Socket>,
     header: &IpRepr,
     payload: &'a [u8],
     is_taken: bool,
@@ -370,7 +370,7 @@ fn hand_udp<'a>(
 /// Gives a segment to its connection, else to the first socket that accepts it, and answers it.
 fn give_segment<'a>(
     inner: &mut InterfaceInner,
-    places: &mut [SocketStorage<Socket>],
+    places: &mut Places<Socket>,
     header: &IpRepr,
     is_taken: bool,
     segment: &TcpRepr<'_>,
@@ -394,7 +394,7 @@ fn give_segment<'a>(
 /// Gives the segment of a packet to whom it concerns, and answers it.
 fn hand_segment<'a>(
     inner: &mut InterfaceInner,
-    places: &mut [SocketStorage<Socket>],
+    places: &mut Places<Socket>,
     header: &IpRepr,
     payload: &'a [u8],
     is_taken: bool,
@@ -418,7 +418,7 @@ fn hand_segment<'a>(
 /// Reads the segment of a packet for the host, gives it to whom it concerns, and answers it.
 fn hand_tcp<'a>(
     inner: &mut InterfaceInner,
-    places: &mut [SocketStorage<Socket>],
+    places: &mut Places<Socket>,
     header: &IpRepr,
     payload: &'a [u8],
     is_taken: bool,
@@ -441,7 +441,7 @@ fn hand_tcp<'a>(
 /// Gives a packet's control message to whom it concerns, and answers it, or answers that nothing was read.
 fn hand_message<'a>(
     inner: &mut InterfaceInner,
-    places: &mut [SocketStorage<Socket>],
+    places: &mut Places<Socket>,
     header: &IpRepr,
     payload: &'a [u8],
     is_taken: bool,
@@ -470,7 +470,7 @@ fn hand_message<'a>(
 #[inline(never)]
 fn hand_control<'a>(
     inner: &mut InterfaceInner,
-    places: &mut [SocketStorage<Socket>],
+    places: &mut Places<Socket>,
     header: &IpRepr,
     payload: &'a [u8],
     is_taken: bool,
@@ -498,7 +498,7 @@ fn hand_control<'a>(
 /// So is a reply, which nearly always is none: it is written where the caller wants it, in place of going up through each call.
 fn hand_upper<'a>(
     inner: &mut InterfaceInner,
-    places: &mut [SocketStorage<Socket>],
+    places: &mut Places<Socket>,
     header: &IpRepr,
     payload: &'a [u8],
     is_taken: bool,
@@ -560,7 +560,7 @@ fn upper_bytes<'a>(payload: &'a [u8], behind: &Behind) -> &'a [u8]
 /// Hands on the payload of a packet for the host that has no extension headers.
 pub(crate) fn hand_bare<'a>(
     inner: &mut InterfaceInner,
-    places: &mut [SocketStorage<Socket>],
+    places: &mut Places<Socket>,
     header: &IpRepr,
     payload: &'a [u8],
     is_taken: bool,
@@ -584,7 +584,7 @@ pub(crate) fn hand_bare<'a>(
 /// Goes through the extension headers of an IPv6 packet for the host, and hands on what stands behind them.
 fn hand_behind<'a>(
     inner: &mut InterfaceInner,
-    places: &mut [SocketStorage<Socket>],
+    places: &mut Places<Socket>,
     header: &Ipv6Repr,
     payload: &'a [u8],
     is_taken: bool,
@@ -609,7 +609,7 @@ fn hand_behind<'a>(
 /// `is_taken` says that a raw socket took the packet.
 pub(crate) fn hand<'a>(
     inner: &mut InterfaceInner,
-    places: &mut [SocketStorage<Socket>],
+    places: &mut Places<Socket>,
     header: &IpRepr,
     payload: &'a [u8],
     is_taken: bool,

@@ -15,7 +15,7 @@ use crate::deliver::deliver_packet;
 use crate::hand::hand_bare;
 use crate::reassemble::{is_heard, is_piece, is_sender};
 use crate::reply::Reply;
-use interface_egress::{InterfaceInner, SocketStorage};
+use interface_egress::{InterfaceInner, Places};
 use ip_wire::{
     EthernetFrame, EthernetProtocol, EthernetRepr, HardwareAddress, IpCidr, IpRepr, Ipv4Address,
     Ipv4Packet, Ipv4Piece, Ipv4Repr,
@@ -26,7 +26,7 @@ use sockets::{Context, Socket};
 /// `release` would make of it. Says whether it was such a frame; any other one changes nothing.
 pub fn take_short<'a>(
     inner: &mut InterfaceInner,
-    places: &mut [SocketStorage<Socket>],
+    places: &mut Places<Socket>,
     frame: &'a [u8],
     reply: &mut Option<Reply<'a>>,
 ) -> bool
@@ -81,7 +81,7 @@ fn packet_behind<'a>(
 /// The same of what stands behind a link header that is for this host, or without one.
 fn take_packet<'a>(
     inner: &mut InterfaceInner,
-    places: &mut [SocketStorage<Socket>],
+    places: &mut Places<Socket>,
     link: &Option<EthernetRepr>,
     bytes: &'a [u8],
     reply: &mut Option<Reply<'a>>,
@@ -106,7 +106,7 @@ fn take_packet<'a>(
 /// Takes in a whole packet for the host: raw sockets get it first.
 fn arrive_plain<'a>(
     inner: &mut InterfaceInner,
-    places: &mut [SocketStorage<Socket>],
+    places: &mut Places<Socket>,
     link: &Option<EthernetRepr>,
     header: &Ipv4Repr,
     payload: &'a [u8],

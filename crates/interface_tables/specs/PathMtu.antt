@@ -2,6 +2,7 @@
 -- sections 4 and 5.3; RFC 1191, sections 3 and 6.3).
 use Rattle.std.specs.Prelude.{ℕ, ◌+◌, ℤ, pos, ◌+ℤ◌, int_lt, Bool, nat_lt, min, max, if◌then◌else◌, List, [], ◌∷◌, ◌++◌, length, slice_set, remove}
 use Rattle.std.specs.Prelude.{replicate, Option, None, Some, position}
+use Rattle.std.specs.List.{list_any}
 use Rattle.ip_wire.specs.IpAddress.{IpAddress}
 use Rattle.ip_wire.specs.IpAddress.TheVariants as Address
 use Rattle.ip_wire.specs.AddressTests.{is_same_address}
@@ -57,6 +58,14 @@ end_by (Some p) now = if int_lt now p.until then Some p.until else None
 
 unfoldable pub end_towards : List Path → IpAddress → ℤ → Option ℤ
 end_towards paths address now = end_by (path_to paths address) now
+
+-- what was told of a path counts
+abbrev pub counts : ℤ → Path → Bool
+counts now p = int_lt now p.until
+
+-- so it is of some path
+abbrev pub some_count : List Path → ℤ → Bool
+some_count paths now = list_any (counts now) paths
 
 -- WHAT A MESSAGE CHANGES
 

@@ -453,6 +453,13 @@ impl InterfaceInner {
         self.paths.end_towards(addr, self.moment)
     }
 
+    /// Whether something is known of some path.
+    pub fn knows_a_path(&self) -> bool
+        ensures { result ≡ some_count self.now.paths self.now.moment }
+    {
+        self.paths.some_count(self.moment)
+    }
+
     /// Takes in that the path to this destination carries packets of so many bytes.
     pub fn lower_path(&mut self, addr: IpAddress, told: usize)
         ensures { self.new ≡ with_path self.old addr told }

@@ -3,7 +3,7 @@
 ghost use Rattle.std.specs.Prelude.{◌≡◌, ◌≤◌, ◌<◌, [], length};
 ghost use Rattle.std.specs.Option.{ForSome};
 ghost use Rattle.net_base.specs.Time.{IsMoment};
-ghost use Rattle.interface_tables.specs.PathMtu.{least_mtu, place_of, path_to, narrowed, mtu_towards, end_towards, victim, entered, heard_of, lowered};
+ghost use Rattle.interface_tables.specs.PathMtu.{least_mtu, place_of, path_to, narrowed, mtu_towards, end_towards, victim, entered, heard_of, lowered, counts, some_count};
 
 use arrayvec::ArrayVec;
 use ip_wire::{IpAddress, Ipv4Address};
@@ -93,6 +93,13 @@ impl Paths {
         }
     }
 
+    /// Whether what was told of some path counts.
+    pub fn some_count(&self, now: Instant) -> bool
+        ensures { result ≡ some_count self.now now }
+    {
+        self.entries.as_slice().iter().any(|path| counts(now, path))
+    }
+
     /// Takes in that the path to this destination carries a packet of so many bytes, where that is less than was known.
     #[tactic(auto, unfolding(crate::specs::PathMtu::lowered))]
     pub fn lower(&mut self, address: IpAddress, told: usize, now: Instant, whole: usize)
@@ -123,6 +130,13 @@ impl Paths {
         }
         self.entries.push(path);
     }
+}
+
+/// Whether what was told of a path counts.
+fn counts(now: Instant, path: &Path) -> bool
+    ensures { result ≡ counts now path.now }
+{
+    now < path.until
 }
 
 /// The least that a path to this destination is taken to carry.

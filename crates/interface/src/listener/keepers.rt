@@ -3,7 +3,7 @@ ghost use Rattle.std.specs.Prelude.{◌≡◌, ◌<◌, length};
 ghost use Rattle.interface.specs.Backlog.Kept.{kept, kept_place, kept_at, kept_all};
 
 use crate::listener::way::restart;
-use interface_egress::{Item, SocketHandle, SocketStorage};
+use interface_egress::{Item, Places, SocketHandle, SocketStorage};
 use interface_ingress::tcp::State;
 use interface_ingress::{Socket, tcp};
 use ip_wire::IpListenEndpoint;
@@ -32,21 +32,22 @@ fn keep_place(place: &mut SocketStorage<Socket>, endpoint: IpListenEndpoint)
     }
 }
 
-fn keep_at(places: &mut Vec<SocketStorage<Socket>>, at: usize, endpoint: IpListenEndpoint)
-    ensures { places.new.items ≡ kept_at endpoint at places.old.items }
+fn keep_at(places: &mut Places<Socket>, at: usize, endpoint: IpListenEndpoint)
+    ensures { places.new ≡ kept_at endpoint at places.old }
 {
     if at < places.len() {
-        keep_place(&mut places[at], endpoint);
+        keep_place(places.place_mut(at), endpoint);
+        places.let_rest(at);
     }
 }
 
 /// Each keeper listens.
 pub(crate) fn keep_all(
-    places: &mut Vec<SocketStorage<Socket>>,
+    places: &mut Places<Socket>,
     keepers: &[SocketHandle],
     endpoint: IpListenEndpoint,
 )
-    ensures { places.new.items ≡ kept_all endpoint keepers.now places.old.items }
+    ensures { places.new ≡ kept_all endpoint keepers.now places.old }
 {
     for i in 0..keepers.len() {
         keep_at(places, keepers[i].place(), endpoint);

@@ -4,7 +4,7 @@ ghost use Rattle.interface.specs.Backlog.Noted.{relisted, state_at, relisted_pla
 
 use crate::listener::entry::Entry;
 use crate::listener::stage::Stage;
-use interface_egress::{Item, SocketStorage};
+use interface_egress::{Item, Places, SocketStorage};
 use interface_ingress::tcp::State;
 use interface_ingress::{Socket, tcp};
 use ip_wire::IpListenEndpoint;
@@ -58,30 +58,31 @@ fn noted(entry: &Entry, state: Option<State>, now: u64) -> Entry
 
 /// Sees how far the socket of an entry came, unless it is its user's.
 fn note(
-    places: &mut Vec<SocketStorage<Socket>>,
+    places: &mut Places<Socket>,
     entry: &mut Entry,
     endpoint: IpListenEndpoint,
     now: u64,
 )
-    ensures { NotesOne endpoint now places.old.items entry.old places.new.items entry.new }
+    ensures { NotesOne endpoint now places.old entry.old places.new entry.new }
 {
     let at = entry.handle.place();
     if entry.stage.is_accepted() || at >= places.len() {
         return;
     }
-    let state = relist_place(&mut places[at], endpoint);
+    let state = relist_place(places.place_mut(at), endpoint);
+    places.let_rest(at);
     *entry = noted(entry, state, now);
 }
 
 /// Sees how far each socket of a backlog came, at this time. A closed one listens again.
 #[tactic(auto, using(crate::proofs::Backlog::Seen::noted_none, crate::proofs::Backlog::Seen::noted_all))]
 pub(crate) fn note_all(
-    places: &mut Vec<SocketStorage<Socket>>,
+    places: &mut Places<Socket>,
     entries: &mut Vec<Entry>,
     endpoint: IpListenEndpoint,
     now: u64,
 )
-    ensures { AreNoted endpoint now places.old.items entries.old.items places.new.items entries.new.items }
+    ensures { AreNoted endpoint now places.old entries.old.items places.new entries.new.items }
 {
     for i in 0..entries.len() {
         note(places, &mut entries[i], endpoint, now);

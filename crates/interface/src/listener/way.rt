@@ -5,7 +5,7 @@ ghost use Rattle.interface.specs.Backlog.GivesWay.{restarted, restarted_place, r
 use crate::listener::entry::Entry;
 use crate::listener::longest::oldest;
 use crate::listener::stage::Stage;
-use interface_egress::{Item, SocketStorage};
+use interface_egress::{Item, Places, SocketStorage};
 use interface_ingress::{Socket, tcp};
 use ip_wire::IpListenEndpoint;
 
@@ -31,11 +31,11 @@ fn restart_place(place: &mut SocketStorage<Socket>, endpoint: IpListenEndpoint)
     }
 }
 
-fn restart_at(places: &mut Vec<SocketStorage<Socket>>, at: usize, endpoint: IpListenEndpoint)
-    ensures { places.new.items ≡ restarted_at endpoint at places.old.items }
+fn restart_at(places: &mut Places<Socket>, at: usize, endpoint: IpListenEndpoint)
+    ensures { places.new ≡ restarted_at endpoint at places.old }
 {
     if at < places.len() {
-        restart_place(&mut places[at], endpoint);
+        restart_place(places.place_mut(at), endpoint);
     }
 }
 
@@ -66,12 +66,12 @@ fn long_half_open(entries: &[Entry], now: u64) -> Option<usize>
 
 /// Where no socket of the backlog is free, the next one gives way.
 pub(crate) fn give_way(
-    places: &mut Vec<SocketStorage<Socket>>,
+    places: &mut Places<Socket>,
     entries: &mut Vec<Entry>,
     endpoint: IpListenEndpoint,
     now: u64,
 )
-    ensures { GivesWay endpoint now places.old.items entries.old.items places.new.items entries.new.items }
+    ensures { GivesWay endpoint now places.old entries.old.items places.new entries.new.items }
 {
     if oldest(entries.as_slice(), Stage::Free).is_some() {
         return;
