@@ -1,35 +1,32 @@
 -- An idle socket stays as it is.
-use Rattle.std.proofs.Common.{◌≡◌, ℕ, ◌+◌, ◌-◌, ◌==◌, min, ◌&&◌, Bool, true, false, if◌then◌else◌, List, [], ◌∷◌, Option, Some, None, is_some, is_none}
+use Rattle.std.proofs.Common.{◌≡◌, ℕ, ◌-◌, ◌==◌, min, ◌&&◌, Bool, true, false, if◌then◌else◌, List, [], ◌∷◌, Option, Some, None, is_some, is_none}
 use Rattle.std.proofs.Common.{refl, sym, ap, ◌∙◌, arith}
-use Rattle.net_base.specs.Ring.{Ring}
 use Rattle.net_containers.specs.Packets.{first}
 use Rattle.socket_base.specs.Context.{ContextValue}
-use Rattle.socket_base.specs.Offers.{Offered, IsBefore}
+use Rattle.socket_base.specs.Offers.{Offered}
 use Rattle.socket_base.specs.Packet.{PacketValue}
 use Rattle.socket_base.specs.declared.offer.Offer.TheVariants as Answer
 use Rattle.socket_base.specs.declared.poll_at.PollAt.{PollAt}
 use Rattle.socket_base.specs.declared.poll_at.PollAt.TheVariants as At
-use Rattle.tcp_model.specs.AddressPair.{AddressPair}
 use Rattle.tcp_model.specs.EndpointPair.{EndpointPair}
 use Rattle.tcp_model.specs.OpenOffer.{OpenOffer}
 use Rattle.tcp_model.specs.declared.block.Block.{Block}
 use Rattle.tcp_model.specs.declared.block.CongestionControl.{CongestionControl}
 use Rattle.tcp_model.specs.declared.block.CongestionControl.TheVariants as Congestion
-use Rattle.tcp_model.specs.Due.{any, wishes, moments, earliest, at_moment, poll_open, poll_between, poll_with, poll_of}
+use Rattle.tcp_model.specs.Due.{any, moments, earliest, at_moment, poll_between, poll_with, poll_of}
 use Rattle.tcp_model.specs.Offers.{offer_of}
-use Rattle.tcp_model.specs.Rules.{congestion_limit, congestion_room, ready, next_place, text_of_size, sends_choice, size_limit, has_text, resends_beside}
+use Rattle.tcp_model.specs.Rules.{congestion_limit, congestion_room, ready, next_place, text_of_size, sends_choice, size_limit, resends_beside}
 use Rattle.tcp_model.specs.Rules.{owes_syn, updates_window}
 use Rattle.tcp_model.specs.Probing.{is_probe_unset}
 use Rattle.tcp_model.specs.States.{is_closed}
 use Rattle.tcp_model.specs.Timeout.{is_timeout_unset}
 use Rattle.tcp_model.specs.Value.{TcpValue, queued_in, free_in, room_of}
 use Rattle.tcp_model.proofs.Waits.{silence}
-use Rattle.sockets.specs.Idle.{waits_for_arrival, some_ip_mtu, is_idle_connection, is_idle_port, is_idle, IsOfPorts}
+use Rattle.sockets.specs.Idle.{waits_for_arrival, some_ip_mtu, is_idle_connection, is_idle, IsOfPorts}
 use Rattle.sockets.specs.Offers.{OffersFirst}
 use Rattle.sockets.specs.SocketValue as Datagrams
 use Rattle.sockets.specs.SocketValue.{SocketValue}
 use Rattle.sockets.specs.Udp as Udps
-use Rattle.sockets.specs.Udp.{UdpValue}
 use Rattle.sockets.specs.Socket as Sockets
 use Rattle.sockets.specs.declared.socket.Socket.{Socket}
 use Rattle.sockets.specs.declared.socket.Socket.TheVariants as Kind

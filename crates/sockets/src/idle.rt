@@ -9,6 +9,9 @@ use ip_wire::IpAddress;
 use net_base::{ChecksumCapabilities, Instant, Rand};
 use socket_base::{Context, PollAt};
 
+/// When a connection with nothing queued wants to be polled is the same at each IP MTU.
+const SOME_IP_MTU: usize = 1500;
+
 impl Idle for Socket {
     ghost use Rattle.sockets.specs.Idle.{is_idle};
 
@@ -49,7 +52,7 @@ fn waits_for_arrival(at: PollAt) -> bool
     }
 }
 
-/// A link on which there is nobody. When a connection with nothing queued wants to be polled is the same on each.
+/// A link with nobody on it, for a connection whose answer doesn't depend on the link.
 #[derive(Drop)]
 struct SomeLink {
     words: Rand,
@@ -100,7 +103,7 @@ impl Context for SomeLink {
     }
 
     fn ip_mtu(&self) -> usize {
-        1500
+        SOME_IP_MTU
     }
 
     fn checksum_caps(&self) -> ChecksumCapabilities {
