@@ -1,6 +1,7 @@
 pub mod Connections
 pub mod Clients
 pub mod AnyKind
+pub mod AtRest
 pub mod Messages
 pub mod OfferLaws
 pub mod Protocols

@@ -5,6 +5,7 @@ pub mod Socket
 pub mod SocketValue
 pub mod Offers
 pub mod Dispatch
+pub mod Idle
 pub mod Held
 pub mod Lends
 pub mod Header

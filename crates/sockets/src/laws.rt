@@ -1,9 +1,11 @@
 //! Laws of sockets of any kind, and those of each kind.
-ghost use Rattle.std.specs.Prelude.{◌≡◌, ◌↔◌, ℤ, false, IsSome, IsTrue};
+ghost use Rattle.std.specs.Prelude.{◌≡◌, ◌↔◌, ℤ, false, true, IsSome, IsTrue};
 ghost use Rattle.socket_base.specs.Context.{ContextValue};
 ghost use Rattle.socket_base.specs.Offers.{IsBefore};
 ghost use Rattle.socket_base.specs.declared.offer.Offer as Answer;
 ghost use Rattle.socket_base.specs.declared.offer.Offer.TheVariants as Offer;
+ghost use Rattle.socket_base.specs.declared.poll_at.PollAt.TheVariants as At;
+ghost use Rattle.sockets.specs.Idle.{is_idle, IsOfPorts};
 ghost use Rattle.sockets.specs.Offers.{HasPacket, changed_by};
 ghost use Rattle.sockets.specs.Socket.{Offers, offered_by, settled, poll_of, IsSameButForPlaces, IsOfDatagrams};
 ghost use Rattle.sockets.specs.declared.error.BindError.{BindError};
@@ -25,6 +27,15 @@ pub fn silence()
         → IsBefore cx.moment (poll_of cx s)
         → Offers cx s answer s'
         → (answer ≡ Offer.Silent false) × (s' ≡ settled false s) }
+{}
+
+/// Law: an idle socket that is asked for a packet, at whatever moment, has none and stays as it is; nothing but an arrival makes it want
+/// to be polled; and it is a UDP or a TCP socket.
+#[tactic(auto, using(crate::proofs::AtRest::stays, crate::proofs::AtRest::waits_at, crate::proofs::AtRest::of_ports))]
+pub fn idle_is_at_rest()
+    ensures offers { (cx : ContextValue) (s : Socket) → is_idle s ≡ true → Offers cx s (Offer.Silent false) s }
+    ensures instant { (cx : ContextValue) (s : Socket) → is_idle s ≡ true → poll_of cx s ≡ At.Ingress }
+    ensures kinds { (s : Socket) → is_idle s ≡ true → IsOfPorts s }
 {}
 
 /// Law: an offer that is settled as not sent doesn't change when the socket wants to be polled.

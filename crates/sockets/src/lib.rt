@@ -12,6 +12,7 @@ pub mod dns;
 mod error;
 mod header;
 pub mod icmp;
+mod idle;
 pub mod laws;
 mod queues;
 pub mod raw;
