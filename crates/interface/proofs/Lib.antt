@@ -1,4 +1,5 @@
 pub mod Waiting
+pub mod AtRest
 pub mod Known
 pub mod Due
 pub mod QuietTurn

@@ -63,7 +63,7 @@ fn some_wait(places: &Places<Socket>) -> bool
 {
     let mut from = 0;
     while let Some(at) = places.next_busy(from) {
-        if is_marked(&places.as_slice()[at]) {
+        if is_marked(places.place(at)) {
             return true;
         }
         from = at + 1;

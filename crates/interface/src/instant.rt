@@ -47,7 +47,7 @@ fn soonest_of_busy(inner: &InterfaceInner, places: &Places<Socket>) -> Option<In
     let mut best = None;
     let mut from = 0;
     while let Some(at) = places.next_busy(from) {
-        best = earlier(best, place_instant(inner, &places.as_slice()[at]));
+        best = earlier(best, place_instant(inner, places.place(at)));
         from = at + 1;
     }
     best

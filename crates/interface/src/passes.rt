@@ -25,9 +25,10 @@ pub fn pass<D: Device>(
     let mut changed = false;
     let mut from = 0;
     while let Some(at) = places.next_busy(from) {
-        match take_place(turn, inner, fragmenter, device, places.place_mut(at)) {
-            Turned::Next(true) => changed = true,
-            Turned::Next(false) => places.let_rest(at),
+        let turned = take_place(turn, inner, fragmenter, device, places.place_mut(at));
+        places.let_rest(at);
+        match turned {
+            Turned::Next(more) => changed = either(changed, more),
             Turned::Stop(more) => return either(changed, more),
         }
         from = at + 1;

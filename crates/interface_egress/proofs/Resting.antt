@@ -1,5 +1,5 @@
 -- Places at rest, by the marks that are kept of them.
-use Rattle.std.proofs.Common.{◌≡◌, ◌≢◌, ◌⊎◌, inl, inr, ℕ, zero, suc, ◌<◌, ◌≤◌, max, nat_lt, if◌then◌else◌, Bool, true, false, List, [], ◌∷◌, ◌++◌, length, take, drop, Option, Some, None, refl, sym, ap, ◌∙◌, subst, arith}
+use Rattle.std.proofs.Common.{◌≡◌, ◌≢◌, ◌⊎◌, inl, inr, ℕ, zero, suc, ◌+◌, ◌^◌, ◌<◌, ◌≤◌, max, nat_lt, if◌then◌else◌, Bool, true, false, List, [], ◌∷◌, ◌++◌, length, take, drop, Option, Some, None, refl, sym, ap, ◌∙◌, subst, arith}
 use Rattle.std.proofs.lemmas.Bool.Decides.{leb_tells}
 use Rattle.std.specs.Prelude.{slice_get, slice_set}
 use Rattle.agenda.specs.Marks.{IsNext, IsOn}
@@ -92,3 +92,9 @@ module _ {T : Type 0} (idle : T → Bool) (marks : List Bool) (ps : List (Socket
     by : (slice_get marks i ≡ Some false) ⊎ (i ≡ at) → is_at_rest idle place ≡ true
     by (inl was) = rests.0 i place was got
     by (inr same) = sym (ap (is_some_at_rest idle) (sym (ap (slice_get ps) same) ∙ got)) ∙ is
+
+-- the number of a place behind it fits
+pub next_fits : {T : Type 0} (idle : T → Bool) (ps : List (SocketStorage T)) (from n : ℕ) (next : Option ℕ) → IsNextBusy idle from ps next
+    → length ps ≤ n → n < 2 ^ 64 → (at : ℕ) → next ≡ Some at → at + 1 < 2 ^ 64
+next_fits idle ps from n None is few fits at same = absurd (cc)
+next_fits idle ps from n (Some x) is few fits at same = let here : x ≡ at = cc in omega (arith, is.1, few, fits, here)

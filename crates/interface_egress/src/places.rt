@@ -1,5 +1,6 @@
 //! The places of a set, and which of them have something to do.
-ghost use Rattle.std.specs.Prelude.{◌≡◌, ◌<◌, ◌++◌, ◌∷◌, [], length, slice_set, slice_get, Some, MatchResult};
+ghost use Rattle.std.specs.Prelude.{◌≡◌, ◌+◌, ◌<◌, ◌^◌, ◌++◌, ◌∷◌, [], length, slice_set, slice_get, Some, MatchResult};
+ghost use Rattle.std.specs.Option.{ForSome};
 ghost use Rattle.std.specs.Borrow.{Array, Lends, sem};
 ghost use Rattle.interface_egress.specs.AtRest.{IsNextBusy, first_of, is_some_at_rest, with_first};
 ghost use Rattle.interface_egress.specs.contracts.places.Places.{the_row};
@@ -68,6 +69,14 @@ impl<T: Idle> Places<T> {
         self.storage.as_slice()
     }
 
+    /// The place of this number.
+    pub fn place(&self, at: usize) -> &SocketStorage<T>
+        requires { at < length self.now }
+        ensures { slice_get self.now at ≡ Some result.now }
+    {
+        &self.storage[at]
+    }
+
     /// Lends a place, which is on the agenda from now on.
     pub fn place_mut(&mut self, at: usize) -> &mut SocketStorage<T>
         requires { at < length self.old }
@@ -89,7 +98,8 @@ impl<T: Idle> Places<T> {
 
     /// The first place from this one on that isn't known to be at rest.
     pub fn next_busy(&self, from: usize) -> Option<usize>
-        ensures { IsNextBusy T.idle from self.now result }
+        ensures next { IsNextBusy T.idle from self.now result }
+        ensures fits { ForSome result (λ at. at + 1 < 2 ^ 64) }
     {
         first_of(
             self.agenda.next(from),
