@@ -8,6 +8,7 @@ use crate::remote::{end_by, remote_of};
 use crate::turn::is_known;
 use interface_egress::{Fragmenter, InterfaceInner, Item, Places, SocketStorage};
 use interface_ingress::{Context, PollAt, Socket};
+use interface_ingress::socket_laws::idle_is_at_rest;
 use interface_tables::Look;
 use ip_wire::IpAddress;
 use net_base::Instant;
@@ -44,6 +45,7 @@ fn soonest_of_busy(inner: &InterfaceInner, places: &Places<Socket>) -> Option<In
     requires { some_count inner.now.paths inner.now.moment ≡ false }
     ensures { result ≡ soonest inner.now places.now }
 {
+    idle_is_at_rest();
     let mut best = None;
     let mut from = 0;
     while let Some(at) = places.next_busy(from) {

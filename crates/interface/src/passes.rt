@@ -6,6 +6,7 @@ ghost use Rattle.interface.specs.Pass.{Pass, passed};
 use crate::turn::{Turned, take_place};
 use interface_egress::{Fragmenter, InterfaceInner, Places};
 use interface_ingress::Socket;
+use interface_ingress::socket_laws::idle_is_at_rest;
 use ip_wire::IpAddress;
 use net_base::Device;
 
@@ -22,6 +23,7 @@ pub fn pass<D: Device>(
         (passed (sender device.new inner.new fragmenter.new) places.new result) }
     ensures capabilities { D.described device.new ≡ D.described device.old }
 {
+    idle_is_at_rest();
     let mut changed = false;
     let mut from = 0;
     while let Some(at) = places.next_busy(from) {
