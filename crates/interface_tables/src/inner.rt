@@ -9,6 +9,7 @@ ghost use Rattle.ip_wire.specs.AddressTests.{is_loopback};
 ghost use Rattle.interface_tables.specs.declared.route.Route.{Route};
 ghost use Rattle.interface_tables.specs.Source.{first_v4, first_v6, source_v4, source_v6};
 ghost use Rattle.interface_tables.specs.Neighbor as Neighbors;
+ghost use Rattle.interface_tables.specs.PathMtu.{some_count};
 ghost use Rattle.interface_tables.specs.Inner.{is_own, is_address_of, is_in_own_network, is_this, is_broadcast_of, is_local_broadcast, is_all_systems};
 ghost use Rattle.interface_tables.specs.Inner.{is_all_nodes, solicits, solicits_block, is_own_solicited_node, is_probed, is_member_of, is_loopback_in};
 ghost use Rattle.interface_tables.specs.Inner.{is_for_us, is_loopback_of, is_foreign_loopback, may_come_from, next_hop, group_station, link_by, link_address};
