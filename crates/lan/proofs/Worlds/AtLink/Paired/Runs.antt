@@ -61,6 +61,22 @@ pub steps_append : (p q r : PairValue) (events more : List PairEvent) → Steps 
 steps_append p q r [] more first second = subst (λ (x : PairValue). Steps x more r) first second
 steps_append p q r (event ∷ events) more first second = (first.0, steps_append (happens p event).pair q r events more first.1 second)
 
+-- the pair behind these events
+abbrev pub after_events : PairValue → List PairEvent → PairValue
+after_events p [] = p
+after_events p (event ∷ events) = after_events (happens p event).pair events
+
+steps_lead : (p next : PairValue) (events : List PairEvent) → Steps p events next → next ≡ after_events p events
+steps_lead p next [] steps = steps
+steps_lead p next (event ∷ events) steps = steps_lead (happens p event).pair next events steps.1
+
+-- the pair shows each net on the way
+abbrev pub ShowsAlong : (Side → Seat) → (Side → ℤ) → Net → PairValue → List Happening → Type 0
+ShowsAlong seats clocks net p [] = Shows seats clocks net p
+ShowsAlong seats clocks net p (x ∷ moves) =
+    Shows seats clocks net p
+    × ShowsAlong seats (clocks_after seats clocks x.step) (after net x.step) (after_events p (events_of_one seats clocks x)) moves
+
 -- SEEN FROM ONE SIDE
 
 from_side : (starts : Side → ℕ → ℕ) (places : Places) (net : Net) (side : Side) → Kept starts places net →
@@ -402,6 +418,19 @@ module _ (starts : Side → ℕ → ℕ) (places : Places) (seats : Side → Sea
         shows = rest.shows;
       }
 
+  run_shows : (net : Net) (moves : List Happening) (clocks : Side → ℤ) (p : PairValue) → Kept starts places net → IsRun places.names net (steps_of moves)
+      → AreHosted seats clocks net (steps_of moves) → ArePartners (run net (steps_of moves)).history A (seats A).place (seats B).place → AreNumbered seats net moves
+      → Shows seats clocks net p → ShowsAlong seats clocks net p moves
+  run_shows net [] clocks p k is hosted partners numbered sh = sh
+  run_shows net (x ∷ moves) clocks p k is hosted partners numbered sh =
+      let one = step_goes net x.step (steps_of moves) clocks p k is hosted partners sh x.number numbered.0 in (
+        sh,
+        run_shows (after net x.step) moves (clocks_after seats clocks x.step) (after_events p (events_of_one seats clocks x))
+            (step_by starts places net x.step.side x.step.move k is.0) is.1 hosted.2 partners numbered.1
+            (subst (λ (q : PairValue). Shows seats (clocks_after seats clocks x.step) (after net x.step) q)
+            (steps_lead p one.next (events_of_one seats clocks x) one.steps) one.shows),
+      )
+
   run_numbers : (net : Net) (steps : List Step) (clocks : Side → ℤ) (p : PairValue) → Kept starts places net → IsRun places.names net steps
       → AreHosted seats clocks net steps → ArePartners (run net steps).history A (seats A).place (seats B).place → Shows seats clocks net p
       → HaveNumbers seats net steps
@@ -436,6 +465,16 @@ pub partners_go_on_by : (starts : Side → ℕ → ℕ) (names : List ℕ → Bo
 partners_go_on_by starts names first before moves seats clocks p fresh was is hosted keys partners numbered sh =
     let places = places_of names first in
     run_goes starts places seats keys (run first before) moves clocks p (kept_run starts places first before (fresh_kept starts names first fresh) was) is hosted
+    partners numbered sh
+
+pub partners_show_along : (starts : Side → ℕ → ℕ) (names : List ℕ → Bool) (first : Net) (before : List Step) (moves : List Happening) (seats : Side → Seat)
+    (clocks : Side → ℤ) (p : PairValue) → IsFreshNet starts first → IsRun names first before → IsRun names (run first before) (steps_of moves)
+    → AreHosted seats clocks (run first before) (steps_of moves) → HaveKeys seats
+    → ArePartners (run (run first before) (steps_of moves)).history A (seats A).place (seats B).place → AreNumbered seats (run first before) moves
+    → Shows seats clocks (run first before) p → ShowsAlong seats clocks (run first before) p moves
+partners_show_along starts names first before moves seats clocks p fresh was is hosted keys partners numbered sh =
+    let places = places_of names first in
+    run_shows starts places seats keys (run first before) moves clocks p (kept_run starts places first before (fresh_kept starts names first fresh) was) is hosted
     partners numbered sh
 
 -- with whatever numbers

@@ -74,11 +74,11 @@ below_is : (j n : ℕ) → j < n → nat_lt j n ≡ true
 below_is j n less = grind (arith, nat_tests)
 
 -- what a socket sent, as its host made it
-sent_same : (o : Option Opening) (made : List Made) (sent : List SentSegment) → HasSent o made sent → sent_by o made ≡ map made_by sent
+pub sent_same : (o : Option Opening) (made : List Made) (sent : List SentSegment) → HasSent o made sent → sent_by o made ≡ map made_by sent
 sent_same None made sent has = sym (ap (map made_by) has)
 sent_same (Some o) made sent has = has
 
-get_mapped : {X Y : Type 0} (f : X → Y) (xs : List X) (j : ℕ) (x : X) → slice_get xs j ≡ Some x → slice_get (map f xs) j ≡ Some (f x)
+pub get_mapped : {X Y : Type 0} (f : X → Y) (xs : List X) (j : ℕ) (x : X) → slice_get xs j ≡ Some x → slice_get (map f xs) j ≡ Some (f x)
 get_mapped f [] zero x e = absurd (cc)
 get_mapped f [] (suc j) x e = absurd (cc)
 get_mapped {X = X} f (y ∷ ys) zero x e = let same : y ≡ x = cc in ap (λ (z : X). Some (f z)) same
