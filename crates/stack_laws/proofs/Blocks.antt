@@ -14,10 +14,14 @@ use Rattle.tcp_progress.specs.Pair.{mtu_of, next_sent, socket_of}
 use Rattle.tcp_progress.specs.Readers.{IsReadBy, Reads, ReadsWithin}
 use Rattle.tcp_progress.specs.Rounds.{takes}
 use Rattle.lan.proofs.Worlds.AtLink.Paired.Runs.{after_events}
-use Rattle.stack_laws.specs.Progress.Moving.{all_at}
 
 abbrev pub Course : Type 0
 Course = List (ℤ × PairEvent)
+
+-- these events, all at one moment
+abbrev pub all_at : ℤ → List PairEvent → Course
+all_at moment [] = []
+all_at moment (event ∷ events) = (moment, event) ∷ all_at moment events
 
 -- This event leaves both sockets, and what they sent, as they are. Nobody is asked, and nobody reads.
 pub record IsQuiet (p : PairValue) (event : PairEvent) : Type 0 where
@@ -139,7 +143,7 @@ heard_at t last side k rest p [] upto (inr on) = on
 heard_at t last side k rest p (event ∷ []) upto so = (upto, so)
 heard_at t last side k rest p (event ∷ then ∷ events) upto so = (upto, inr (heard_at t last side k rest (takes p event) (then ∷ events) upto so))
 
-no_more : (k n m : ℕ) → m ≡ n → n ≤ k → k < m → ⊥
+pub no_more : (k n m : ℕ) → m ≡ n → n ≤ k → k < m → ⊥
 no_more k n m same old new = omega (arith, same, old, new)
 
 pub delivers_at : (t : ℤ) (delay : ℕ) (rest : Course) (p : PairValue) (events : List PairEvent) → AreQuiet p events

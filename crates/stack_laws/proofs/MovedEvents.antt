@@ -45,7 +45,7 @@ use Rattle.stack_laws.specs.Progress.Moving.{IsAtMoment, IsHeardAt, IsHeardBy, I
 
 -- A CLOCK THAT GOES ON
 
-clock_socket : (p : PairValue) (side d : Pairs.Side) (m : ℤ) → socket_of (takes p (Ev.Clock side m)) d ≡ socket_of p d
+pub clock_socket : (p : PairValue) (side d : Pairs.Side) (m : ℤ) → socket_of (takes p (Ev.Clock side m)) d ≡ socket_of p d
 clock_socket p Of.A Of.A m = refl
 clock_socket p Of.A Of.B m = refl
 clock_socket p Of.B Of.A m = refl
@@ -63,7 +63,7 @@ clock_sent p Of.A Of.B m = refl
 clock_sent p Of.B Of.A m = refl
 clock_sent p Of.B Of.B m = refl
 
-clock_quiet : (p : PairValue) (side : Pairs.Side) (m : ℤ) → IsQuiet p (Ev.Clock side m)
+pub clock_quiet : (p : PairValue) (side : Pairs.Side) (m : ℤ) → IsQuiet p (Ev.Clock side m)
 clock_quiet p side m = record {
   socket = λ d. clock_socket p side d m;
   mtu = λ d. clock_mtu p side d m;

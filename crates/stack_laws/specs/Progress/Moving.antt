@@ -1,17 +1,16 @@
 -- Moves of two hosts, each at a moment of one clock, and when they serve two sockets in time.
-use Rattle.std.specs.Prelude.{◌≡◌, ◌⊎◌, ℕ, suc, ◌+◌, ◌-◌, ◌*◌, ◌<◌, ◌≤◌, max, ℤ, pos, ◌+ℤ◌, ◌≤ℤ◌, ◌<ℤ◌, true, false, List, [], ◌∷◌, ◌++◌, length}
+use Rattle.std.specs.Prelude.{◌≡◌, ◌⊎◌, ℕ, suc, ◌+◌, ◌-◌, ◌*◌, ◌<◌, ◌≤◌, max, ℤ, pos, ◌+ℤ◌, ◌≤ℤ◌, ◌<ℤ◌, true, false, List, [], ◌∷◌, length}
 use Rattle.std.specs.Prelude.{Option, Some}
 use Rattle.ip_wire.specs.TcpHeader.{TcpHeader}
+use Rattle.net_base.specs.Time.{IsMoment}
 use Rattle.socket_base.specs.Offers.{IsBefore}
 use Rattle.tcp_control.specs.Offsets.{past_by}
 use Rattle.tcp_model.specs.Due.{poll_of}
 use Rattle.tcp_model.specs.Segments.{segment_len}
 use Rattle.tcp_model.specs.Value.{TcpValue, free_in, room_of}
 use Rattle.tcp_tie.specs.Pair.Values.{PairValue}
-use Rattle.tcp_tie.specs.declared.pair.event.PairEvent.{PairEvent}
 use Rattle.tcp_progress.specs.Arrivals.{is_synchronized}
 use Rattle.tcp_progress.specs.Clocks.{comes_stale}
-use Rattle.tcp_progress.specs.Course.{end_of}
 use Rattle.tcp_progress.specs.Exchange.{IsOpen}
 use Rattle.tcp_progress.specs.Onward.{HasRisen}
 use Rattle.tcp_progress.specs.Pair.{HasStream, left_in}
@@ -19,7 +18,7 @@ use Rattle.tcp_progress.specs.Readers.{whole_span}
 use Rattle.tcp_progress.specs.Spans.{IsThroughAmong, most_reached, reached_in}
 use Rattle.lan.specs.declared.at_link.history.event.Side.{Side}
 use Rattle.lan.specs.Worlds.AtLink.Call as Call
-use Rattle.lan.specs.Worlds.AtLink.Happening.{AreNumbered, GoesOnBy, Happening, HaveNumbers, events_of_moves, events_of_one, sent_in, steps_of}
+use Rattle.lan.specs.Worlds.AtLink.Happening.{AreNumbered, GoesOnBy, Happening, HaveNumbers, events_of_moves, sent_in, steps_of}
 use Rattle.lan.specs.Worlds.AtLink.Kinds.{other}
 use Rattle.lan.specs.Worlds.AtLink.Moves.{Move, Step, after, run}
 use Rattle.lan.specs.Worlds.AtLink.Moves.Move.{Invokes, Offers, Takes}
@@ -34,14 +33,10 @@ abbrev pub moves_of : List (ℤ × Happening) → List Happening
 moves_of [] = []
 moves_of (x ∷ more) = x.1 ∷ moves_of more
 
-abbrev pub all_at : ℤ → List PairEvent → List (ℤ × PairEvent)
-all_at moment [] = []
-all_at moment (event ∷ events) = (moment, event) ∷ all_at moment events
-
--- the events of the moves, each at the moment of its move
-abbrev pub course_of : (Side → Seat) → (Side → ℤ) → List (ℤ × Happening) → List (ℤ × PairEvent)
-course_of seats clocks [] = []
-course_of seats clocks (x ∷ more) = all_at x.0 (events_of_one seats clocks x.1) ++ course_of seats (clocks_after seats clocks x.1.step) more
+-- what the clock shows in the end
+abbrev pub end_in : ℤ → List (ℤ × Happening) → ℤ
+end_in now [] = now
+end_in now (x ∷ more) = end_in x.0 more
 
 -- The socket at a place is asked, and a segment comes to it, at the moment that the one clock shows. It is called at whatever moment: its host shows
 -- the last at which it was polled.
@@ -51,9 +46,9 @@ IsAtMoment now last place (Offers at cx v from sent) = at ≡ place → cx.momen
 IsAtMoment now last place (Takes at cx v ip header bytes) = at ≡ place → cx.moment ≡ now
 IsAtMoment now last place move = Unit {0}
 
--- the one clock never goes back
+-- the one clock never goes back, and shows a moment in the end
 abbrev pub AreAtMoments : (Side → Seat) → (Side → ℤ) → ℤ → List (ℤ × Happening) → Type 0
-AreAtMoments seats clocks now [] = Unit {0}
+AreAtMoments seats clocks now [] = IsMoment now
 AreAtMoments seats clocks now (x ∷ more) =
     (now ≤ℤ x.0) × IsAtMoment x.0 (clocks x.1.step.side) (seats x.1.step.side).place x.1.step.move
     × AreAtMoments seats (clocks_after seats clocks x.1.step) x.0 more
@@ -185,11 +180,10 @@ pub record GoOnByMoves (seats : Side → Seat) (clocks : Side → ℤ) (net : Ne
   pub on : GoesOnBy seats (clocks_in seats clocks (steps_of (moves_of moves))) (run net (steps_of (moves_of moves))) p
       (events_of_moves seats clocks (moves_of moves))
   pub rises : (side : Side) (read wait delay : ℕ) (now : ℤ) → MoveInTime read wait delay now seats clocks net side moves
-      → 1 ≤ left_in p (side_in side) → (now +ℤ pos (whole_span read wait delay p (side_in side))) <ℤ end_of now (course_of seats clocks moves)
+      → 1 ≤ left_in p (side_in side) → (now +ℤ pos (whole_span read wait delay p (side_in side))) <ℤ end_in now moves
       → HasRisen p on.next (side_in side) ⊎ HasRisen p on.next (side_in (other side))
   pub through : (side : Side) (read wait delay : ℕ) (now : ℤ) → MoveInTime read wait delay now seats clocks net side moves
-      → (now +ℤ pos (suc (most_reached on.next - reached_in p) * (2 * whole_span read wait delay p (side_in side)))) <ℤ
-      end_of now (course_of seats clocks moves)
+      → (now +ℤ pos (suc (most_reached on.next - reached_in p) * (2 * whole_span read wait delay p (side_in side)))) <ℤ end_in now moves
       → IsThroughAmong p (side_in side) (events_of_moves seats clocks (moves_of moves))
 
 -- Plain moves lead from one net to another. Whatever moments and numbers are given to them, the pair goes on by them; and some numbers fit.
