@@ -31,7 +31,7 @@ use Rattle.stack_laws.proofs.Blocks.{AskedThen, Course, OfLast, all_at, asked_at
 use Rattle.stack_laws.proofs.Blocks.{no_more, taken_at, upon, wants_or_not}
 use Rattle.stack_laws.proofs.MovedEvents.{clock_quiet, move_asks, move_at, move_hears, move_quiet, move_reads, move_taken, next_same}
 use Rattle.stack_laws.specs.Progress.Moving.{AreAsked, AreAtMoments, AreHeard, AreLetGo, AsksIn, HearsIn, IsAskedIn, IsAtMoment, IsHeardAt, IsHeardIn, IsReadAt}
-use Rattle.stack_laws.specs.Progress.Moving.{IsReadIn, IsReadInTime, IsSentAt, IsTcp, SocketIs, WantsIn, end_in, moves_of}
+use Rattle.stack_laws.specs.Progress.Moving.{IsReadIn, IsReadInTime, IsAskedAt, IsTcp, SocketIs, WantsIn, end_in, moves_of}
 
 abbrev pub Moves : Type 0
 Moves = List (ℤ × Happening)
@@ -123,7 +123,7 @@ module _ (seats : Side → Seat) (who : Pairs.Side) where
 
     asks_last : (side : Side) → AsksIn seats side x.step → OfLast (λ q e. Asks (side_in side) e) p those
     asks_last side asks =
-        own side (λ place. IsSentAt place x.step.move) (λ s. OfLast (λ q e. Asks (side_in s) e) p those) asks.0 asks.1
+        own side (λ place. IsAskedAt place x.step.move) (λ s. OfLast (λ q e. Asks (side_in s) e) p those) asks.0 asks.1
         (λ is. move_asks p (seats x.step.side).place (clocks x.step.side) x.step.side x.number x.step.move is)
 
     reads_last : (side : Side) → (x.step.side ≡ side) × IsReadAt (seats side).place x.step.move → OfLast (λ q e. Reads (side_in side) e) p those

@@ -9,6 +9,7 @@ use Rattle.ip_wire.specs.IpRepr.{IpRepr}
 use Rattle.ip_wire.specs.TcpHeader.{TcpHeader}
 use Rattle.sockets.specs.Context.{ContextValue}
 use Rattle.tcp_control.specs.Offsets.{past_by}
+use Rattle.tcp_model.specs.Offers.{offer_of}
 use Rattle.tcp_model.specs.Segments.{segment_len}
 use Rattle.tcp_model.specs.Value.{TcpValue, free_in}
 use Rattle.tcp_tie.specs.Host.{Made, made_of}
@@ -28,7 +29,7 @@ use Rattle.tcp_progress.specs.Rounds.{takes}
 use Rattle.lan.specs.declared.at_link.history.event.Side.{Side}
 use Rattle.lan.specs.Worlds.AtLink.Call as Call
 use Rattle.lan.specs.Worlds.AtLink.Call.{SocketCall}
-use Rattle.lan.specs.Worlds.AtLink.Happening.{IsNumbered, called_by, clock_to, events_of_move, if_here, sent_in}
+use Rattle.lan.specs.Worlds.AtLink.Happening.{IsNumbered, called_by, clock_to, events_of_move, goes, if_here, sent_in}
 use Rattle.lan.specs.Worlds.AtLink.History.{opening}
 use Rattle.lan.specs.Worlds.AtLink.Kinds.{other}
 use Rattle.lan.specs.Worlds.AtLink.Moves.{May, Move}
@@ -41,7 +42,7 @@ use Rattle.lan.proofs.Worlds.AtLink.Places.{some_is}
 use Rattle.lan.proofs.Worlds.AtLink.Paired.Parts.{back_in}
 use Rattle.lan.proofs.Worlds.AtLink.Paired.Wires.{get_mapped, sent_same}
 use Rattle.stack_laws.proofs.Blocks.{AllAre, AreQuiet, IsQuiet, OfLast}
-use Rattle.stack_laws.specs.Progress.Moving.{IsAtMoment, IsHeardAt, IsHeardBy, IsLetGo, IsReadAt, IsSentAt}
+use Rattle.stack_laws.specs.Progress.Moving.{IsAtMoment, IsHeardAt, IsHeardBy, IsLetGo, IsReadAt, IsAskedAt}
 
 -- A CLOCK THAT GOES ON
 
@@ -118,7 +119,7 @@ move_quiet p place last side number (Invokes at cx old entry call new) =
     here_quiet p at place (clock_to (side_in side) last cx.moment ++ called_by (side_in side) call)
     (led_quiet p (side_in side) cx.moment (int_le cx.moment last) (called_by (side_in side) call) (called_short (side_in side) call))
 move_quiet p place last side number (Passes entry) = tt
-move_quiet p place last side number (Offers at cx v from sent) = here_quiet p at place (Ev.Offer (side_in side) cx.moment sent ∷ []) tt
+move_quiet p place last side number (Offers at cx v from sent) = here_quiet p at place (Ev.Offer (side_in side) cx.moment (goes (offer_of cx v).socket.offered sent) ∷ []) tt
 move_quiet p place last side number (Gives at cx v answer v' sent) = tt
 move_quiet p place last side number (Takes at cx v ip header bytes) =
     here_quiet p at place (clock_to (side_in side) last cx.moment ++ Ev.Deliver (side_in (other side)) number ∷ [])
@@ -177,7 +178,7 @@ move_at now last place side number (Invokes at cx old entry call new) is =
     (called_all (IsAt now) (side_in side) call (λ _. tt) (λ _ _. tt) (λ _. tt) (λ _. tt) tt tt (λ _. tt)))
 move_at now last place side number (Passes entry) is = tt
 move_at now last place side number (Offers at cx v from sent) is =
-    all_here (IsAt now) at place (Ev.Offer (side_in side) cx.moment sent ∷ []) (λ same. (is same, tt))
+    all_here (IsAt now) at place (Ev.Offer (side_in side) cx.moment (goes (offer_of cx v).socket.offered sent) ∷ []) (λ same. (is same, tt))
 move_at now last place side number (Gives at cx v answer v' sent) is = tt
 move_at now last place side number (Takes at cx v ip header bytes) is =
     all_here (IsAt now) at place (clock_to (side_in side) last cx.moment ++ Ev.Deliver (side_in (other side)) number ∷ [])
@@ -201,7 +202,7 @@ move_taken last place side number (Invokes at cx old entry call new) is =
     (called_all IsTaken (side_in side) call (λ _. tt) (λ _ _. tt) (λ _. tt) (λ _. tt) tt tt (λ _. tt)))
 move_taken last place side number (Passes entry) is = tt
 move_taken last place side number (Offers at cx v from sent) is =
-    all_here IsTaken at place (Ev.Offer (side_in side) cx.moment sent ∷ []) (λ same. (is same, tt))
+    all_here IsTaken at place (Ev.Offer (side_in side) cx.moment (goes (offer_of cx v).socket.offered sent) ∷ []) (λ same. (is same, tt))
 move_taken last place side number (Gives at cx v answer v' sent) is = tt
 move_taken last place side number (Takes at cx v ip header bytes) is =
     all_here IsTaken at place (clock_to (side_in side) last cx.moment ++ Ev.Deliver (side_in (other side)) number ∷ [])
@@ -223,10 +224,11 @@ last_led : (IsSo : PairValue → PairEvent → Type 0) (p : PairValue) (side : P
 last_led IsSo p side m event true now later = now
 last_led IsSo p side m event false now later = later
 
-pub move_asks : (p : PairValue) (place : ℕ) (last : ℤ) (side : Side) (number : ℕ) (move : Move) → IsSentAt place move
+pub move_asks : (p : PairValue) (place : ℕ) (last : ℤ) (side : Side) (number : ℕ) (move : Move) → IsAskedAt place move
     → OfLast (λ q e. Asks (side_in side) e) p (events_of_move place last side number move)
-move_asks p place last side number (Offers at cx v from true) same =
-    last_here (λ q e. Asks (side_in side) e) p at place (Ev.Offer (side_in side) cx.moment true ∷ []) same refl
+move_asks p place last side number (Offers at cx v from sent) is =
+    last_here (λ q e. Asks (side_in side) e) p at place (Ev.Offer (side_in side) cx.moment (goes (offer_of cx v).socket.offered sent) ∷ []) is.0
+    (subst (λ (b : Bool). Asks (side_in side) (Ev.Offer (side_in side) cx.moment b)) (sym is.1) refl)
 move_asks p place last side number move is = absurd is
 
 pub move_reads : (p : PairValue) (place : ℕ) (last : ℤ) (side : Side) (number : ℕ) (move : Move) → IsReadAt place move

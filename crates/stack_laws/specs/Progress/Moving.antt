@@ -6,6 +6,7 @@ use Rattle.net_base.specs.Time.{IsMoment}
 use Rattle.socket_base.specs.Offers.{IsBefore}
 use Rattle.tcp_control.specs.Offsets.{past_by}
 use Rattle.tcp_model.specs.Due.{poll_of}
+use Rattle.tcp_model.specs.Offers.{offer_of}
 use Rattle.tcp_model.specs.Segments.{segment_len}
 use Rattle.tcp_model.specs.Value.{TcpValue, free_in, room_of}
 use Rattle.tcp_tie.specs.Pair.Values.{PairValue}
@@ -18,7 +19,7 @@ use Rattle.tcp_progress.specs.Readers.{whole_span}
 use Rattle.tcp_progress.specs.Spans.{IsThroughAmong, most_reached, reached_in}
 use Rattle.lan.specs.declared.at_link.history.event.Side.{Side}
 use Rattle.lan.specs.Worlds.AtLink.Call as Call
-use Rattle.lan.specs.Worlds.AtLink.Happening.{AreNumbered, GoesOnBy, Happening, HaveNumbers, events_of_moves, sent_in, steps_of}
+use Rattle.lan.specs.Worlds.AtLink.Happening.{AreNumbered, GoesOnBy, Happening, HaveNumbers, events_of_moves, goes, sent_in, steps_of}
 use Rattle.lan.specs.Worlds.AtLink.Kinds.{other}
 use Rattle.lan.specs.Worlds.AtLink.Moves.{Move, Step, after, run}
 use Rattle.lan.specs.Worlds.AtLink.Moves.Move.{Invokes, Offers, Takes}
@@ -69,13 +70,14 @@ SocketIs seats net side IsSo = IsTcp (socket_at (party net side) (seats side).pl
 abbrev pub WantsIn : (Side → Seat) → ℤ → Net → Side → Type 0
 WantsIn seats moment net side = SocketIs seats net side (λ v. IsBefore moment (poll_of (seats side).host.ip_mtu v) → ⊥)
 
-abbrev pub IsSentAt : ℕ → Move → Type 0
-IsSentAt place (Offers at cx v from true) = at ≡ place
-IsSentAt place move = ⊥
+-- the socket at a place is asked, and offers nothing, or what it offers goes
+abbrev pub IsAskedAt : ℕ → Move → Type 0
+IsAskedAt place (Offers at cx v from sent) = (at ≡ place) × (goes (offer_of cx v).socket.offered sent ≡ true)
+IsAskedAt place move = ⊥
 
 -- with this step the socket of a side is asked, and what it offers goes
 abbrev pub AsksIn : (Side → Seat) → Side → Step → Type 0
-AsksIn seats side step = (step.side ≡ side) × IsSentAt (seats side).place step.move
+AsksIn seats side step = (step.side ≡ side) × IsAskedAt (seats side).place step.move
 
 -- It is asked before the clock passes the second moment, unless it doesn't want to be at the first one any more, or the moves end before.
 abbrev pub IsAskedIn : (Side → Seat) → ℤ → ℤ → Side → Net → List (ℤ × Happening) → Type 0
@@ -94,7 +96,7 @@ AreAsked seats wait now net (x ∷ more) =
 
 -- what the socket at a place offers goes
 abbrev pub IsLetGo : ℕ → Move → Type 0
-IsLetGo place (Offers at cx v from sent) = at ≡ place → sent ≡ true
+IsLetGo place (Offers at cx v from sent) = at ≡ place → goes (offer_of cx v).socket.offered sent ≡ true
 IsLetGo place move = Unit {0}
 
 abbrev pub AreLetGo : (Side → Seat) → List (ℤ × Happening) → Type 0

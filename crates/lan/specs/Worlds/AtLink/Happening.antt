@@ -1,6 +1,8 @@
 -- Which events of a pair of sockets the moves of two hosts are.
-use Rattle.std.specs.Prelude.{◌≡◌, ℕ, ◌==◌, if◌then◌else◌, ℤ, int_le, List, [], ◌∷◌, ◌++◌, Option, Some, None, slice_get}
+use Rattle.std.specs.Prelude.{◌≡◌, ℕ, ◌==◌, ℤ, int_le, Bool, true, if◌then◌else◌, List, [], ◌∷◌, ◌++◌, Option, Some, None, slice_get}
 use Rattle.ip_wire.specs.Ip.{source_of, destination_of}
+use Rattle.tcp_model.specs.Offers.{offer_of}
+use Rattle.tcp_model.specs.OpenOffer.{OpenOffer}
 use Rattle.tcp_tie.specs.Host.{Made, made_of}
 use Rattle.tcp_tie.specs.Pair.Steps.{Steps}
 use Rattle.tcp_tie.specs.Pair.Values.{PairValue}
@@ -63,12 +65,18 @@ clock_to side last moment = if int_le moment last then [] else Of.Clock side mom
 abbrev pub if_here : ℕ → ℕ → List PairEvent → List PairEvent
 if_here at place events = if at == place then events else []
 
+-- whether an offer goes: one of nothing counts as one that does, whatever its host says
+abbrev pub goes : Option OpenOffer → Bool → Bool
+goes None sent = true
+goes (Some o) sent = sent
+
 -- An offer of the socket at this place is an offer; a call of it, and a segment that comes to it, are a call and a delivery, before which the clock
 -- of its host goes on from where the socket was shown it last.
 abbrev pub events_of_move : ℕ → ℤ → Side → ℕ → Move → List PairEvent
 events_of_move place last side number (Invokes at cx old entry call new) =
     if_here at place (clock_to (side_in side) last cx.moment ++ called_by (side_in side) call)
-events_of_move place last side number (Offers at cx v from sent) = if_here at place (Of.Offer (side_in side) cx.moment sent ∷ [])
+events_of_move place last side number (Offers at cx v from sent) =
+    if_here at place (Of.Offer (side_in side) cx.moment (goes (offer_of cx v).socket.offered sent) ∷ [])
 events_of_move place last side number (Takes at cx v ip header bytes) =
     if_here at place (clock_to (side_in side) last cx.moment ++ Of.Deliver (side_in (other side)) number ∷ [])
 events_of_move place last side number move = []

@@ -1,5 +1,5 @@
 -- Each step of a plain run is none, one or two events of the pair.
-use Rattle.std.proofs.Common.{◌≡◌, ◌≢◌, ◌⊎◌, inl, inr, ℕ, ◌==◌, ℤ, Bool, true, false, if◌then◌else◌, List, [], ◌∷◌, ◌++◌, Some, None, refl, sym, ap, ◌∙◌}
+use Rattle.std.proofs.Common.{◌≡◌, ◌≢◌, ◌⊎◌, inl, inr, ℕ, ◌==◌, ℤ, Bool, true, false, if◌then◌else◌, List, [], ◌∷◌, ◌++◌, Option, Some, None, refl, sym, ap, ◌∙◌}
 use Rattle.std.proofs.Common.{subst, eq-eqb}
 use Rattle.std.proofs.lemmas.Bool.Decides.{eqb_tells}
 use Rattle.std.specs.Prelude.{slice_get}
@@ -14,14 +14,17 @@ use Rattle.tcp_tie.specs.Pair.Steps.{Steps, happens}
 use Rattle.tcp_tie.specs.Pair.Values.{PairValue}
 use Rattle.tcp_tie.specs.declared.pair.event.PairEvent.{PairEvent}
 use Rattle.tcp_tie.specs.declared.pair.event.PairEvent.TheVariants.{Deliver, Offer}
-use Rattle.tcp_tie.specs.Host.{made_of}
-use Rattle.tcp_model.specs.Value.{TcpValue}
+use Rattle.tcp_tie.specs.Host.{and_offer, made_of}
+use Rattle.tcp_model.specs.Offers.{offer_of}
+use Rattle.tcp_model.specs.OpenOffer.{OpenOffer}
+use Rattle.tcp_model.specs.Settled.{sent_off, settled}
+use Rattle.tcp_model.specs.Value.{TcpValue, unoffered}
 use Rattle.lan.specs.declared.at_link.history.event.Side.{Side}
 use Rattle.lan.specs.declared.at_link.history.event.Side.TheVariants.{A, B}
 use Rattle.lan.specs.Worlds.AtLink.Call.{SocketCall}
 use Rattle.lan.specs.Worlds.AtLink.Kinds.{kind_of, other}
 use Rattle.lan.specs.Worlds.AtLink.History.{Entry, opening}
-use Rattle.lan.specs.Worlds.AtLink.Moves.{IsNoCall, IsRun, May, Move, Step, after, history_after, party_after, run}
+use Rattle.lan.specs.Worlds.AtLink.Moves.{IsNoCall, IsRun, May, Move, Step, after, history_after, offered_segments, party_after, run, with_socket}
 use Rattle.lan.specs.Worlds.AtLink.Moves.Move.{Invokes, Passes, Offers, Gives, Takes, Receives, Resets, Changes}
 use Rattle.lan.specs.Worlds.AtLink.PacketsSafe.{IsFreshNet}
 use Rattle.lan.specs.Worlds.AtLink.Parties.{Net, Party, Socket, party, places_of, socket_at}
@@ -29,7 +32,7 @@ use Rattle.lan.specs.Worlds.AtLink.Parties.Socket.{Tcp, Udp, Icmp, Raw}
 use Rattle.lan.specs.Worlds.AtLink.Partners.{ArePartners}
 use Rattle.lan.specs.Worlds.AtLink.Tables.{AreAllowed, Places}
 use Rattle.lan.specs.Worlds.AtLink.Happening.{AreNumbered, GoesOnBy, Happening, HaveNumbers, IsNumbered, called_by, clock_to, events_of_move, events_of_moves}
-use Rattle.lan.specs.Worlds.AtLink.Happening.{events_of_one, if_here, sent_in, steps_of}
+use Rattle.lan.specs.Worlds.AtLink.Happening.{goes as goes_off, events_of_one, if_here, sent_in, steps_of}
 use Rattle.lan.specs.Worlds.AtLink.Paired.{AreHosted, GoesOn, HasSent, HaveKeys, IsOf, IsOfSocket, IsPlain, IsShown, Seat, Shows, clock_after, clocks_after, clocks_in}
 use Rattle.lan.specs.Worlds.AtLink.Paired.{if_at, shown_to, side_in, told}
 use Rattle.lan.proofs.Worlds.AtLink.CallLemmas.{call_at_other_place, call_at_other_side, same_side_other, same_side_refl}
@@ -206,23 +209,36 @@ module _ (starts : Side → ℕ → ℕ) (places : Places) (seats : Side → Sea
 
   -- OFFERS
 
+  -- of nothing, it leaves the same behind whether or not it goes
+  abbrev let_go_by : TcpValue → IpAddress → Bool → Party
+  let_go_by w from sent = record (with_socket P here (Tcp (settled sent w))) { segments = offered_segments sent P from w }
+
+  let_go : (w : TcpValue) (from : IpAddress) (o : Option OpenOffer) → w.offered ≡ o → (sent : Bool) → let_go_by w from sent ≡ let_go_by w from (goes_off o sent)
+  let_go w from (Some o) e sent = refl
+  let_go w from None e true = refl
+  let_go w from None e false =
+      λ i. record (with_socket P here (Tcp (sent_off (sym e i) (unoffered w)))) { segments = and_offer P.segments from (sym e i) w.queued.queue }
+
   offer_here : (cx : ContextValue) (v : TcpValue) (from : IpAddress) (sent : Bool) → MayFrom places h side P Q (Offers here cx v from sent)
       → IsPlain here net side (Offers here cx v from sent) → IsShown (seats side) (clocks side) (shown_to here (Offers here cx v from sent))
       → Goes (Offers here cx v from sent)
   offer_here cx v from sent may plain shown =
       let move : Move = Offers here cx v from sent in
       let now = own_clock move ∙ ap (clock_after (clocks side)) (shown_here cx) in
-      own_events move (Offer (side_in side) cx.moment sent ∷ [])
+      let so : Bool = goes_off (offer_of cx v).socket.offered sent in
+      own_events move (Offer (side_in side) cx.moment so ∷ [])
       (record {
         next = _;
         steps = (
-          offer_allowed starts places seats net (next move) side clocks (clocks' move) p k sh v may.0 (theirs net side move) (far_clock move) refl cx from sent
-              (is_of cx shown) now (plain refl) (mine net side move),
+          offer_allowed starts places seats net (next move) side clocks (clocks' move) p k sh v may.0 (theirs net side move) (far_clock move) refl cx from so
+              (is_of cx shown) now (plain refl)
+              (mine net side move ∙ let_go (offer_of cx v).socket from (offer_of cx v).socket.offered refl sent),
           refl,
         );
         shows =
-            offer_shows starts places seats net (next move) side clocks (clocks' move) p k sh v may.0 (theirs net side move) (far_clock move) refl cx from sent
-            (is_of cx shown) now (plain refl) (mine net side move);
+            offer_shows starts places seats net (next move) side clocks (clocks' move) p k sh v may.0 (theirs net side move) (far_clock move) refl cx from so
+            (is_of cx shown) now (plain refl)
+            (mine net side move ∙ let_go (offer_of cx v).socket from (offer_of cx v).socket.offered refl sent);
       })
 
   offer_there : (at : ℕ) (cx : ContextValue) (v : TcpValue) (from : IpAddress) (sent : Bool) → MayFrom places h side P Q (Offers at cx v from sent)
