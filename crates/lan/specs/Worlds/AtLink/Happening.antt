@@ -106,7 +106,7 @@ IsNumbered place sent number (Takes at cx v ip header bytes) =
     at ≡ place → slice_get sent number ≡ Some (made_of (source_of ip) (destination_of ip) header bytes)
 IsNumbered place sent number move = Unit {0}
 
--- Each segment that comes to one of the two has a number of its own. Where equal ones were sent it may have the number of either.
+-- Each segment that comes to one of the two has the number of an equal one that the other sent; where several are, of whichever.
 abbrev pub AreNumbered : (Side → Seat) → Net → List Happening → Type 0
 AreNumbered seats net [] = Unit {0}
 AreNumbered seats net (x ∷ more) =
