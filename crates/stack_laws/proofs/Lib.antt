@@ -9,3 +9,7 @@ pub mod Polls
 pub mod Runs
 pub mod Partnered
 pub mod StillPartners
+pub mod Blocks
+pub mod MovedEvents
+pub mod Moved
+pub mod MovedOn

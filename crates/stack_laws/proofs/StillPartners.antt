@@ -19,6 +19,7 @@ use Rattle.lan.proofs.Worlds.AtLink.PartnerLemmas.{opening_stays}
 use Rattle.lan.proofs.Worlds.Moves.Calls.{names}
 use Rattle.lan.proofs.Worlds.Moves.Worlds.{fresh_net}
 use Rattle.lan.proofs.Worlds.StillRuns.{still_hosts_move_plainly}
+use Rattle.stack_laws.proofs.MovedOn.{by_steps}
 use Rattle.stack_laws.proofs.Partnered.{goes_on, reached}
 use Rattle.stack_laws.specs.Progress.Partners.{GoOnBetween, HoldText}
 
@@ -57,6 +58,9 @@ go_on starts past more hosts places news fresh typed still new keys text partner
         of_these = moves.of_these;
         clocks_then = clocks_in seats (clocks_in seats at_zero moves.before) moves.steps;
         goes_on = goes_on (first_port starts) names net moves.before moves.steps seats (clocks_in seats at_zero moves.before) shown.pair (fresh_net starts fresh)
+            moves.may shown.reached shown.shows moves.may_on (moves.hosted_on places) keys
+            (subst Paired (sym moves.of_these.history) (partners_stay past more A (places A) (places B) partners));
+        by_steps = by_steps (first_port starts) names net moves.before moves.steps seats (clocks_in seats at_zero moves.before) shown.pair (fresh_net starts fresh)
             moves.may shown.reached shown.shows moves.may_on (moves.hosted_on places) keys
             (subst Paired (sym moves.of_these.history) (partners_stay past more A (places A) (places B) partners));
       },

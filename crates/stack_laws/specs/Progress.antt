@@ -11,3 +11,4 @@ pub mod Delivered
 pub mod Inbox
 pub mod Exchanged
 pub mod Partners
+pub mod Moving

@@ -9,6 +9,7 @@ pub mod Calls
 pub mod Parties
 pub mod Moves
 pub mod Paired
+pub mod Happening
 pub mod PacketsSafe
 pub mod Examples
 pub mod Station

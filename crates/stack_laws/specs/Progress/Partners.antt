@@ -19,6 +19,7 @@ use Rattle.lan.specs.Worlds.AtLink.Runs.{Starts}
 use Rattle.lan.specs.Worlds.AtLink.Station.{Stations}
 use Rattle.lan.specs.Worlds.Moves.Follows.{IsNetOf}
 use Rattle.lan.specs.Worlds.Still.{StillRun}
+use Rattle.stack_laws.specs.Progress.Moving.{GoOnBySteps}
 
 -- a packet of either host holds text
 abbrev pub HoldText : (Side → Seat) → Type 0
@@ -50,7 +51,8 @@ pub record GoesOnInTime (seats : Side → Seat) (clocks : Side → ℤ) (net : N
       → (now +ℤ pos (suc (most_reached on.next - reached_in p) * (2 * whole_span read wait delay p side))) <ℤ end_of now course
       → IsThroughAmong p side on.events
 
--- A pair that events led to shows the sockets of two partners at the hosts between, with this past, and goes on to one that shows them at these hosts.
+-- A pair that events led to shows the sockets of two partners at the hosts between, with this past, and goes on to one that shows them at these hosts,
+-- by the events of moves that lead there.
 pub record GoOnBetween (starts : Starts) (past : List Entry) (between : Stations) (history : List Entry) (hosts : Stations) (seats : Side → Seat) : Type 0 where
   pub was_still : StillRun starts past between
   pub net : Net
@@ -61,3 +63,4 @@ pub record GoOnBetween (starts : Starts) (past : List Entry) (between : Stations
   pub of_these : IsNetOf next hosts history
   pub clocks_then : Side → ℤ
   pub goes_on : GoesOnInTime seats clocks_then next reached.pair
+  pub by_steps : GoOnBySteps seats clocks net next reached.pair

@@ -36,7 +36,8 @@ use Rattle.lan.specs.Worlds.AtLink.Moves.{DoneBy, with_socket}
 use Rattle.lan.specs.Worlds.AtLink.Parties.{Net, Party, party, socket_at}
 use Rattle.lan.specs.Worlds.AtLink.Parties.Socket.{Tcp}
 use Rattle.lan.specs.Worlds.AtLink.Tables.{IsAllowed, Places, AreAllowed, kinds, record_at, table_of}
-use Rattle.lan.specs.Worlds.AtLink.Paired.{GoesOn, HasSent, IsOfSocket, Seat, Shows, from_port, made_by, side_in, told, way_by}
+use Rattle.lan.specs.Worlds.AtLink.Happening.{GoesOnBy, called_by, setting_in}
+use Rattle.lan.specs.Worlds.AtLink.Paired.{HasSent, IsOfSocket, Seat, Shows, from_port, made_by, side_in, told, way_by}
 use Rattle.lan.proofs.Worlds.AtLink.CallLemmas.{call_at_other_side}
 use Rattle.lan.proofs.Worlds.AtLink.CallSteps.{told_after, told_with}
 use Rattle.lan.proofs.Worlds.AtLink.Exchange.{same_tcp}
@@ -47,7 +48,7 @@ use Rattle.lan.proofs.Worlds.AtLink.Places.{some_is}
 use Rattle.lan.proofs.Worlds.AtLink.Speaking.{same_opening}
 use Rattle.lan.proofs.Worlds.AtLink.TableLemmas.{table_says}
 use Rattle.lan.proofs.Worlds.AtLink.Paired.Elsewhere.{of_socket_stays}
-use Rattle.lan.proofs.Worlds.AtLink.Paired.Pasts.{close_told, connect_told, listen_told, plain, recv_says, recv_told, send_told, setting_in, setting_same}
+use Rattle.lan.proofs.Worlds.AtLink.Paired.Pasts.{close_told, connect_told, listen_told, plain, recv_says, recv_told, send_told, setting_same}
 use Rattle.lan.proofs.Worlds.AtLink.Paired.Shown.{Far, Near, shows_event, shows_still}
 use Rattle.lan.proofs.Worlds.AtLink.Paired.Wires.{socket_set}
 use Rattle.lan.proofs.Worlds.AtLink.Paired.Words.{connects_same}
@@ -159,9 +160,8 @@ module _ (starts : Side → ℕ → ℕ) (places : Places) (seats : Side → Sea
     by_event : (ev : PairEvent) → side_of ev ≡ side_in side → refusal p ev ≡ None → (s : PairSide) → (acting p ev).side ≡ s → s.socket ≡ new → s.host ≡ own.host
         → s.moment ≡ own.moment → s.sent ≡ own.sent
         → adds ev (acting p ev).answer (at p.sides (side_of ev)).socket.block.state (at (pasts p.history) (side_of ev)) ≡ told (e ∷ h) side here
-        → GoesOn seats clocks net' p
+        → GoesOnBy seats clocks net' p (ev ∷ [])
     by_event ev of allowed_now s s_is socket host moment sent is_past = record {
-      events = ev ∷ [];
       next = (happens p ev).pair;
       steps = (allowed_now, refl);
       shows = shows_event seats net net' side clocks clocks p sh far ev of
@@ -170,9 +170,8 @@ module _ (starts : Side → ℕ → ℕ) (places : Places) (seats : Side → Sea
           (ap (λ (x : PairSide). x.moment) s_is ∙ moment) (ap (λ (x : PairSide). x.sent) s_is ∙ sent) is_past);
     }
 
-    still : new ≡ v → told (e ∷ h) side here ≡ told h side here → GoesOn seats clocks net' p
+    still : new ≡ v → told (e ∷ h) side here ≡ told h side here → GoesOnBy seats clocks net' p []
     still same past = record {
-      events = [];
       next = p;
       steps = refl;
       shows = shows_still seats net net' side clocks clocks p sh far
@@ -190,7 +189,7 @@ module _ (starts : Side → ℕ → ℕ) (places : Places) (seats : Side → Sea
   -- EACH CALL
 
   listens : (port : ℕ) → kind_of e.event ≡ calls side here (Call.Listen port) → e.answer ≡ done_or listen_fault (listen_answer v (at_port port)) → e.found ≡ None →
-      new ≡ listen_after v (at_port port) → GoesOn seats clocks net' p
+      new ≡ listen_after v (at_port port) → GoesOnBy seats clocks net' p (called_by (side_in side) (Call.Listen port))
   listens port kind answered found becomes =
       let w = taken (Call.Listen port) kind in
       let may = may_open places h side here (record { local = port; remote = None }) w.place w.own in
@@ -220,7 +219,7 @@ module _ (starts : Side → ℕ → ℕ) (places : Places) (seats : Side → Sea
 
     connects : (remote : IpEndpoint) (port : ℕ) → kind_of e.event ≡ calls side here (Call.Connect remote port) →
         e.answer ≡ done_or connect_fault (connect_answer cx v remote (at_port port)) → e.found ≡ None → new ≡ connect_after cx v remote (at_port port) →
-        GoesOn seats clocks net' p
+        GoesOnBy seats clocks net' p (called_by (side_in side) (Call.Connect remote port))
     connects remote port kind answered found becomes =
         let w = taken (Call.Connect remote port) kind in
         let may = may_open places h side here (record { local = port; remote = Some remote.port }) w.place w.own in
@@ -236,7 +235,7 @@ module _ (starts : Side → ℕ → ℕ) (places : Places) (seats : Side → Sea
         ∙ sym (told_is (Call.Connect remote port) kind (done_or connect_fault (connect_answer cx v remote (at_port port))) None answered found))
 
   sends : (bytes : List ℕ) → kind_of e.event ≡ calls side here (Call.Send bytes) → e.answer ≡ count_or write_fault (send_answer v (length bytes)) → e.found ≡ None →
-      new ≡ send_after v bytes → GoesOn seats clocks net' p
+      new ≡ send_after v bytes → GoesOnBy seats clocks net' p (called_by (side_in side) (Call.Send bytes))
   sends bytes kind answered found becomes =
       by_event (Call.Send bytes) kind (Ev.Send (side_in side) bytes) refl few (record own { socket = send_after own.socket bytes }) refl
       (ap (λ (x : TcpValue). send_after x bytes) socket_is ∙ sym becomes) refl refl refl
@@ -257,7 +256,7 @@ module _ (starts : Side → ℕ → ℕ) (places : Places) (seats : Side → Sea
           ∙ ap (λ (t : Bool). if_so t Why.TooManyBytes) passed
 
   receives : (limit : ℕ) → kind_of e.event ≡ calls side here (Call.Recv limit) → e.answer ≡ bytes_or v (recv_answer v limit) → e.found ≡ None →
-      new ≡ read_by v (recv_answer v limit) → GoesOn seats clocks net' p
+      new ≡ read_by v (recv_answer v limit) → GoesOnBy seats clocks net' p (called_by (side_in side) (Call.Recv limit))
   receives limit kind answered found becomes =
       by_event (Call.Recv limit) kind (Ev.Recv (side_in side) limit) refl refl
       (record own { socket = read_by own.socket (recv_answer own.socket limit) }) (read_side own (recv_answer own.socket limit))
@@ -267,32 +266,36 @@ module _ (starts : Side → ℕ → ℕ) (places : Places) (seats : Side → Sea
       ∙ recv_told h side here v limit (recv_answer v limit)
       ∙ sym (told_is (Call.Recv limit) kind (bytes_or v (recv_answer v limit)) None answered found))
 
-  closes_it : kind_of e.event ≡ calls side here Call.Close → e.answer ≡ To.Done → e.found ≡ Some v.block.state → new ≡ close_after v → GoesOn seats clocks net' p
+  closes_it : kind_of e.event ≡ calls side here Call.Close → e.answer ≡ To.Done → e.found ≡ Some v.block.state → new ≡ close_after v →
+      GoesOnBy seats clocks net' p (called_by (side_in side) Call.Close)
   closes_it kind answered found becomes =
       by_event Call.Close kind (Ev.Close (side_in side)) refl refl (record own { socket = close_after own.socket }) refl (ap close_after socket_is ∙ sym becomes) refl refl refl
       ((λ i. closed_by (closes_in (socket_is i).block.state) (sh.past side i)) ∙ close_told h side here v.block.state
       ∙ sym (told_is Call.Close kind To.Done (Some v.block.state) answered found))
 
-  aborts : kind_of e.event ≡ calls side here Call.Abort → e.answer ≡ To.Done → e.found ≡ None → new ≡ abort_after v → GoesOn seats clocks net' p
+  aborts : kind_of e.event ≡ calls side here Call.Abort → e.answer ≡ To.Done → e.found ≡ None → new ≡ abort_after v →
+      GoesOnBy seats clocks net' p (called_by (side_in side) Call.Abort)
   aborts kind answered found becomes =
       by_event Call.Abort kind (Ev.Abort (side_in side)) refl refl (record own { socket = abort_after own.socket }) refl (ap abort_after socket_is ∙ sym becomes) refl refl refl
       (sh.past side ∙ sym (plain h side here Call.Abort To.Done None refl refl refl refl) ∙ sym (told_is Call.Abort kind To.Done None answered found))
 
   sets : (setting : TcpSetting) → kind_of e.event ≡ calls side here (Call.Set setting) → e.answer ≡ To.Done → e.found ≡ None → new ≡ setting_after v setting →
-      GoesOn seats clocks net' p
+      GoesOnBy seats clocks net' p (called_by (side_in side) (Call.Set setting))
   sets setting kind answered found becomes =
       by_event (Call.Set setting) kind (Ev.TcpSetting (side_in side) (setting_in setting)) refl refl (record own { socket = set_by (setting_in setting) own.socket }) refl
       (ap (set_by (setting_in setting)) socket_is ∙ setting_same v setting ∙ sym becomes) refl refl refl
       (sh.past side ∙ sym (plain h side here (Call.Set setting) To.Done None refl refl refl refl)
       ∙ sym (told_is (Call.Set setting) kind To.Done None answered found))
 
-  asks : kind_of e.event ≡ calls side here Call.State → e.answer ≡ To.State v.block.state → e.found ≡ None → new ≡ v → GoesOn seats clocks net' p
+  asks : kind_of e.event ≡ calls side here Call.State → e.answer ≡ To.State v.block.state → e.found ≡ None → new ≡ v →
+      GoesOnBy seats clocks net' p (called_by (side_in side) Call.State)
   asks kind answered found becomes =
       still Call.State kind becomes
       (told_is Call.State kind (To.State v.block.state) None answered found ∙ plain h side here Call.State (To.State v.block.state) None refl refl refl refl)
 
   pub called : (cx : ContextValue) (key : List ℕ) → (seats side).host.isn_key ≡ Some key → cx ≡ context_on (seats side).host cx.moment cx.random →
-      own.moment ≡ cx.moment → (call : SocketCall) → kind_of e.event ≡ calls side here call → DoneBy (tcp_does cx v call) e.answer e.found new → GoesOn seats clocks net' p
+      own.moment ≡ cx.moment → (call : SocketCall) → kind_of e.event ≡ calls side here call → DoneBy (tcp_does cx v call) e.answer e.found new →
+      GoesOnBy seats clocks net' p (called_by (side_in side) call)
   called cx key keyed of now (Call.Listen port) kind done = listens port kind done.0 done.1 done.2
   called cx key keyed of now (Call.Connect remote port) kind done = connects cx key keyed of now remote port kind done.0 done.1 done.2
   called cx key keyed of now (Call.Send bytes) kind done = sends bytes kind done.0 done.1 done.2

@@ -8,8 +8,6 @@ use Rattle.tcp_tie.specs.Pair.Steps.{connect_says, limit_of, listen_says, recv_f
 use Rattle.tcp_tie.specs.Tie.{Past}
 use Rattle.tcp_tie.specs.declared.pair.event.PairAnswer.{PairAnswer}
 use Rattle.tcp_tie.specs.declared.pair.event.PairAnswer.TheVariants as Says
-use Rattle.tcp_tie.specs.declared.pair.event.TcpSetting.{TcpSetting as Set}
-use Rattle.tcp_tie.specs.declared.pair.event.TcpSetting.TheVariants as Sets
 use Rattle.tcp_model.specs.ConnectError.{ConnectError}
 use Rattle.tcp_model.specs.ConnectError.TheVariants as Connect
 use Rattle.tcp_model.specs.ListenError.{ListenError}
@@ -32,6 +30,7 @@ use Rattle.lan.specs.Worlds.AtLink.Call as Call
 use Rattle.lan.specs.Worlds.AtLink.Call.{SocketCall}
 use Rattle.lan.specs.Worlds.AtLink.Calls.{bytes_or, connect_fault, count_or, done_or, hops_or_none, listen_fault, setting_after, write_fault}
 use Rattle.lan.specs.Worlds.AtLink.History.{Entry, bytes_read, bytes_written, closes, first_of, is_closed_by, opening, opening_by, read, written}
+use Rattle.lan.specs.Worlds.AtLink.Happening.{setting_in}
 use Rattle.lan.specs.Worlds.AtLink.Paired.{told, way_by}
 use Rattle.lan.proofs.Worlds.AtLink.CallSteps.{or_true, told_parts, told_plain, told_with}
 use Rattle.lan.proofs.Worlds.AtLink.HostSteps.{or_false, past}
@@ -118,16 +117,6 @@ module _ (h : List Entry) (side : Side) (i : ℕ) where
       by false c e = ap (λ (b : Bool). past (way_by (opening h side i)) (written h side i) (read h side i) b) (e ∙ sym (or_false c))
 
 -- SETTINGS
-
-abbrev pub setting_in : TcpSetting → Set
-setting_in (Changed.Timeout duration) = Sets.Timeout duration
-setting_in (Changed.AckDelay duration) = Sets.AckDelay duration
-setting_in (Changed.KeepAlive interval) = Sets.KeepAlive interval
-setting_in (Changed.NagleEnabled enabled) = Sets.NagleEnabled enabled
-setting_in (Changed.HopLimit hops) = Sets.HopLimit hops
-setting_in (Changed.CongestionControl control) = Sets.CongestionControl control
-setting_in (Changed.TsvalGenerator generator) = Sets.TsvalGenerator generator
-setting_in (Changed.PauseSynack paused) = Sets.PauseSynack paused
 
 hops_same : (hops : Option ℕ) → limit_of hops ≡ hops_or_none hops
 hops_same None = refl

@@ -1,8 +1,10 @@
 -- Each step of a plain run is none, one or two events of the pair.
-use Rattle.std.proofs.Common.{◌≡◌, ◌≢◌, ◌⊎◌, inl, inr, ℕ, ◌==◌, ℤ, Bool, true, false, if◌then◌else◌, List, [], ◌∷◌, ◌++◌, Some, None, refl, sym, ap, ◌∙◌}
+use Rattle.std.proofs.Common.{◌≡◌, ◌≢◌, ◌⊎◌, inl, inr, ℕ, ◌==◌, ℤ, Bool, true, false, if◌then◌else◌, List, [], ◌∷◌, ◌++◌, Option, Some, None, refl, sym, ap, ◌∙◌}
 use Rattle.std.proofs.Common.{subst, eq-eqb}
 use Rattle.std.proofs.lemmas.Bool.Decides.{eqb_tells}
+use Rattle.std.specs.Prelude.{slice_get}
 use Rattle.std.specs.List.{AllByRecursion}
+use Rattle.ip_wire.specs.Ip.{source_of, destination_of}
 use Rattle.ip_wire.specs.IpAddress.{IpAddress}
 use Rattle.ip_wire.specs.IpRepr.{IpRepr}
 use Rattle.ip_wire.specs.TcpHeader.{TcpHeader}
@@ -11,19 +13,26 @@ use Rattle.tcp_tie.specs.Pair.Sides.{at}
 use Rattle.tcp_tie.specs.Pair.Steps.{Steps, happens}
 use Rattle.tcp_tie.specs.Pair.Values.{PairValue}
 use Rattle.tcp_tie.specs.declared.pair.event.PairEvent.{PairEvent}
-use Rattle.tcp_model.specs.Value.{TcpValue}
+use Rattle.tcp_tie.specs.declared.pair.event.PairEvent.TheVariants.{Deliver, Offer}
+use Rattle.tcp_tie.specs.Host.{and_offer, made_of}
+use Rattle.tcp_model.specs.Offers.{offer_of}
+use Rattle.tcp_model.specs.OpenOffer.{OpenOffer}
+use Rattle.tcp_model.specs.Settled.{sent_off, settled}
+use Rattle.tcp_model.specs.Value.{TcpValue, unoffered}
 use Rattle.lan.specs.declared.at_link.history.event.Side.{Side}
 use Rattle.lan.specs.declared.at_link.history.event.Side.TheVariants.{A, B}
 use Rattle.lan.specs.Worlds.AtLink.Call.{SocketCall}
 use Rattle.lan.specs.Worlds.AtLink.Kinds.{kind_of, other}
 use Rattle.lan.specs.Worlds.AtLink.History.{Entry, opening}
-use Rattle.lan.specs.Worlds.AtLink.Moves.{IsNoCall, IsRun, May, Move, Step, after, history_after, party_after, run}
+use Rattle.lan.specs.Worlds.AtLink.Moves.{IsNoCall, IsRun, May, Move, Step, after, history_after, offered_segments, party_after, run, with_socket}
 use Rattle.lan.specs.Worlds.AtLink.Moves.Move.{Invokes, Passes, Offers, Gives, Takes, Receives, Resets, Changes}
 use Rattle.lan.specs.Worlds.AtLink.PacketsSafe.{IsFreshNet}
 use Rattle.lan.specs.Worlds.AtLink.Parties.{Net, Party, Socket, party, places_of, socket_at}
 use Rattle.lan.specs.Worlds.AtLink.Parties.Socket.{Tcp, Udp, Icmp, Raw}
 use Rattle.lan.specs.Worlds.AtLink.Partners.{ArePartners}
 use Rattle.lan.specs.Worlds.AtLink.Tables.{AreAllowed, Places}
+use Rattle.lan.specs.Worlds.AtLink.Happening.{AreNumbered, GoesOnBy, Happening, HaveNumbers, IsNumbered, called_by, clock_to, events_of_move, events_of_moves}
+use Rattle.lan.specs.Worlds.AtLink.Happening.{goes as goes_off, events_of_one, if_here, sent_in, steps_of}
 use Rattle.lan.specs.Worlds.AtLink.Paired.{AreHosted, GoesOn, HasSent, HaveKeys, IsOf, IsOfSocket, IsPlain, IsShown, Seat, Shows, clock_after, clocks_after, clocks_in}
 use Rattle.lan.specs.Worlds.AtLink.Paired.{if_at, shown_to, side_in, told}
 use Rattle.lan.proofs.Worlds.AtLink.CallLemmas.{call_at_other_place, call_at_other_side, same_side_other, same_side_refl}
@@ -35,8 +44,8 @@ use Rattle.lan.proofs.Worlds.AtLink.Runs.{Kept, MayFrom, fresh_kept, kept_run, m
 use Rattle.lan.proofs.Worlds.Moves.Nets.{mine, step_of, theirs}
 use Rattle.lan.proofs.Worlds.AtLink.Paired.Calls.{called}
 use Rattle.lan.proofs.Worlds.AtLink.Paired.Elsewhere.{answers_more, left, more_elsewhere, more_of_socket, of_socket_stays, offers_more, socket_stays}
-use Rattle.lan.proofs.Worlds.AtLink.Paired.Shown.{clock_allowed, clock_event, clock_shows}
-use Rattle.lan.proofs.Worlds.AtLink.Paired.Wires.{comes_allowed, comes_shows, offer_allowed, offer_shows, was_opened}
+use Rattle.lan.proofs.Worlds.AtLink.Paired.Shown.{clock_event, clock_shows, goes_clocked}
+use Rattle.lan.proofs.Worlds.AtLink.Paired.Wires.{comes_allowed, comes_shows, fits, found_at, offer_allowed, offer_shows, was_opened}
 
 -- OPENINGS STAY
 
@@ -55,6 +64,22 @@ pub steps_append : (p q r : PairValue) (events more : List PairEvent) → Steps 
 steps_append p q r [] more first second = subst (λ (x : PairValue). Steps x more r) first second
 steps_append p q r (event ∷ events) more first second = (first.0, steps_append (happens p event).pair q r events more first.1 second)
 
+-- the pair behind these events
+abbrev pub after_events : PairValue → List PairEvent → PairValue
+after_events p [] = p
+after_events p (event ∷ events) = after_events (happens p event).pair events
+
+steps_lead : (p next : PairValue) (events : List PairEvent) → Steps p events next → next ≡ after_events p events
+steps_lead p next [] steps = steps
+steps_lead p next (event ∷ events) steps = steps_lead (happens p event).pair next events steps.1
+
+-- the pair shows each net on the way
+abbrev pub ShowsAlong : (Side → Seat) → (Side → ℤ) → Net → PairValue → List Happening → Type 0
+ShowsAlong seats clocks net p [] = Shows seats clocks net p
+ShowsAlong seats clocks net p (x ∷ moves) =
+    Shows seats clocks net p
+    × ShowsAlong seats (clocks_after seats clocks x.step) (after net x.step) (after_events p (events_of_one seats clocks x)) moves
+
 -- SEEN FROM ONE SIDE
 
 from_side : (starts : Side → ℕ → ℕ) (places : Places) (net : Net) (side : Side) → Kept starts places net →
@@ -70,7 +95,7 @@ from_may starts places net B move k may = may_b starts places net move k may
 module _ (starts : Side → ℕ → ℕ) (places : Places) (seats : Side → Seat) (net : Net) (side : Side) (clocks : Side → ℤ) (p : PairValue)
     (k : KeptFrom starts places net.history side (party net side) (party net (other side))) (sh : Shows seats clocks net p) (keys : HaveKeys seats)
     (later : List Entry) (stay : Stay net.history later) (all_allowed : AreAllowed places later)
-    (partners : ArePartners later side (seats side).place (seats (other side)).place) where
+    (partners : ArePartners later side (seats side).place (seats (other side)).place) (number : ℕ) where
   abbrev here : ℕ
   here = (seats side).place
 
@@ -89,8 +114,12 @@ module _ (starts : Side → ℕ → ℕ) (places : Places) (seats : Side → Sea
   abbrev clocks' : Move → Side → ℤ
   clocks' move = clocks_after seats clocks (step_of side move)
 
+  -- by the events of the move
   abbrev Goes : Move → Type 0
-  Goes move = GoesOn seats (clocks' move) (next move) p
+  Goes move = GoesOnBy seats (clocks' move) (next move) p (events_of_move here (clocks side) side number move)
+
+  abbrev Numbered : Move → Type 0
+  Numbered move = IsNumbered here (sent_in seats net (other side)) number move
 
   -- CLOCKS
 
@@ -110,16 +139,30 @@ module _ (starts : Side → ℕ → ℕ) (places : Places) (seats : Side → Sea
   is_of : (cx : ContextValue) → IsShown (seats side) (clocks side) (if_at here here cx) → IsOf (seats side) (clocks side) cx
   is_of cx shown = subst (IsShown (seats side) (clocks side)) (shown_here cx) shown
 
+  -- EVENTS
+
+  events_here : (events : List PairEvent) → if_here here here events ≡ events
+  events_here events = ap (λ (t : Bool). if t then events else []) (eq-eqb here here refl)
+
+  events_there : (at : ℕ) (events : List PairEvent) → (at == here) ≡ false → if_here at here events ≡ []
+  events_there at events apart = ap (λ (t : Bool). if t then events else []) apart
+
+  own_events : (move : Move) (events : List PairEvent) → GoesOnBy seats (clocks' move) (next move) p events
+      → GoesOnBy seats (clocks' move) (next move) p (if_here here here events)
+  own_events move events on = subst (GoesOnBy seats (clocks' move) (next move) p) (sym (events_here events)) on
+
+  none_of : (events : List PairEvent) → events ≡ [] → Steps p events p
+  none_of events none = subst (λ (xs : List PairEvent). Steps p xs p) (sym none) refl
+
   -- ELSEWHERE
 
   -- a socket of another place moves, or none, and the history stays
   elsewhere : (move : Move) → history_after h move ≡ h → shown_to here move ≡ None → socket_at (party_after P move) here ≡ socket_at P here →
       HasSent (opening h side here) (party_after P move).segments (at p.sides (side_in side)).sent
-      → AllByRecursion (IsOfSocket h side) (party_after P move).segments → Goes move
-  elsewhere move same shown socket sent made = record {
-    events = [];
+      → AllByRecursion (IsOfSocket h side) (party_after P move).segments → events_of_move here (clocks side) side number move ≡ [] → Goes move
+  elsewhere move same shown socket sent made none = record {
     next = p;
-    steps = refl;
+    steps = none_of (events_of_move here (clocks side) side number move) none;
     shows =
         left seats net (next move) side clocks (clocks' move) p sh (λ s i o e. ap (λ (x : List Entry). opening x s i) same ∙ e)
         (ap (λ (x : List Entry). opening x side here) same) (told_same side here) (ap (λ (x : List Entry). opening x (other side) (seats (other side)).place) same)
@@ -137,11 +180,11 @@ module _ (starts : Side → ℕ → ℕ) (places : Places) (seats : Side → Sea
   besides : (move : Move) (e : Entry) → history_after h move ≡ e ∷ h → shown_to here move ≡ None → socket_at (party_after P move) here ≡ socket_at P here →
       (party_after P move).segments ≡ P.segments → opening (e ∷ h) side here ≡ opening h side here → told (e ∷ h) side here ≡ told h side here
       → opening (e ∷ h) (other side) (seats (other side)).place ≡ opening h (other side) (seats (other side)).place
-      → told (e ∷ h) (other side) (seats (other side)).place ≡ told h (other side) (seats (other side)).place → Goes move
-  besides move e grown shown socket segments opened past far_opened far_past = record {
-    events = [];
+      → told (e ∷ h) (other side) (seats (other side)).place ≡ told h (other side) (seats (other side)).place
+      → events_of_move here (clocks side) side number move ≡ [] → Goes move
+  besides move e grown shown socket segments opened past far_opened far_past none = record {
     next = p;
-    steps = refl;
+    steps = none_of (events_of_move here (clocks side) side number move) none;
     shows =
         left seats net (next move) side clocks (clocks' move) p sh
         (λ s i o is. ap (λ (x : List Entry). opening x s i) grown ∙ opening_stays h e s i o is)
@@ -166,24 +209,37 @@ module _ (starts : Side → ℕ → ℕ) (places : Places) (seats : Side → Sea
 
   -- OFFERS
 
+  -- of nothing, it leaves the same behind whether or not it goes
+  abbrev let_go_by : TcpValue → IpAddress → Bool → Party
+  let_go_by w from sent = record (with_socket P here (Tcp (settled sent w))) { segments = offered_segments sent P from w }
+
+  let_go : (w : TcpValue) (from : IpAddress) (o : Option OpenOffer) → w.offered ≡ o → (sent : Bool) → let_go_by w from sent ≡ let_go_by w from (goes_off o sent)
+  let_go w from (Some o) e sent = refl
+  let_go w from None e true = refl
+  let_go w from None e false =
+      λ i. record (with_socket P here (Tcp (sent_off (sym e i) (unoffered w)))) { segments = and_offer P.segments from (sym e i) w.queued.queue }
+
   offer_here : (cx : ContextValue) (v : TcpValue) (from : IpAddress) (sent : Bool) → MayFrom places h side P Q (Offers here cx v from sent)
       → IsPlain here net side (Offers here cx v from sent) → IsShown (seats side) (clocks side) (shown_to here (Offers here cx v from sent))
       → Goes (Offers here cx v from sent)
   offer_here cx v from sent may plain shown =
       let move : Move = Offers here cx v from sent in
       let now = own_clock move ∙ ap (clock_after (clocks side)) (shown_here cx) in
-      record {
-        events = _ ∷ [];
+      let so : Bool = goes_off (offer_of cx v).socket.offered sent in
+      own_events move (Offer (side_in side) cx.moment so ∷ [])
+      (record {
         next = _;
         steps = (
-          offer_allowed starts places seats net (next move) side clocks (clocks' move) p k sh v may.0 (theirs net side move) (far_clock move) refl cx from sent
-              (is_of cx shown) now (plain refl) (mine net side move),
+          offer_allowed starts places seats net (next move) side clocks (clocks' move) p k sh v may.0 (theirs net side move) (far_clock move) refl cx from so
+              (is_of cx shown) now (plain refl)
+              (mine net side move ∙ let_go (offer_of cx v).socket from (offer_of cx v).socket.offered refl sent),
           refl,
         );
         shows =
-            offer_shows starts places seats net (next move) side clocks (clocks' move) p k sh v may.0 (theirs net side move) (far_clock move) refl cx from sent
-            (is_of cx shown) now (plain refl) (mine net side move);
-      }
+            offer_shows starts places seats net (next move) side clocks (clocks' move) p k sh v may.0 (theirs net side move) (far_clock move) refl cx from so
+            (is_of cx shown) now (plain refl)
+            (mine net side move ∙ let_go (offer_of cx v).socket from (offer_of cx v).socket.offered refl sent);
+      })
 
   offer_there : (at : ℕ) (cx : ContextValue) (v : TcpValue) (from : IpAddress) (sent : Bool) → MayFrom places h side P Q (Offers at cx v from sent)
       → (at == here) ≡ false → here ≢ at → Goes (Offers at cx v from sent)
@@ -192,14 +248,41 @@ module _ (starts : Side → ℕ → ℕ) (places : Places) (seats : Side → Sea
       let more = offers_more starts places h side P Q k at v may.0 cx from sent in
       elsewhere move refl (shown_there at cx other_place) (socket_stays P here at _ apart)
       (more_elsewhere places h side here at P.segments (party_after P move).segments (opening h side here) _ k.allowed refl apart more (sh.sent side))
-      (more_of_socket h side at P.segments (party_after P move).segments more (sh.made side))
+      (more_of_socket h side at P.segments (party_after P move).segments more (sh.made side)) (events_there at _ other_place)
 
   -- ARRIVALS
 
   arrival_here : (cx : ContextValue) (v : TcpValue) (ip : IpRepr) (header : TcpHeader) (bytes : List ℕ) → MayFrom places h side P Q (Takes here cx v ip header bytes)
       → IsPlain here net side (Takes here cx v ip header bytes) → IsShown (seats side) (clocks side) (shown_to here (Takes here cx v ip header bytes))
-      → Goes (Takes here cx v ip header bytes)
-  arrival_here cx v ip header bytes may plain shown =
+      → Numbered (Takes here cx v ip header bytes) → Goes (Takes here cx v ip header bytes)
+  arrival_here cx v ip header bytes may plain shown numbered =
+      let move : Move = Takes here cx v ip header bytes in
+      let now = own_clock move ∙ ap (clock_after (clocks side)) (shown_here cx) in
+      let of = is_of cx shown in
+      own_events move (clock_to (side_in side) (clocks side) cx.moment ++ Deliver (side_in (other side)) number ∷ [])
+      (goes_clocked seats net side clocks (clocks' move) p sh cx of now (far_clock move) (next move) (Deliver (side_in (other side)) number ∷ [])
+      (λ p1 sh1.
+      let o = was_opened starts places seats net (next move) side (clocks' move) (clocks' move) p1 k sh1 v may.0 (theirs net side move) refl refl cx ip header bytes
+      (keys side).0 (keys side).1 of.host (sh1.clock side ∙ now) refl may.1 (plain refl) later stay all_allowed partners (mine net side move) in
+      let f = found_at starts places seats net (next move) side (clocks' move) (clocks' move) p1 k sh1 v may.0 (theirs net side move) refl refl cx ip header bytes
+      (keys side).0 (keys side).1 of.host (sh1.clock side ∙ now) refl may.1 (plain refl) later stay all_allowed partners (mine net side move) number (numbered refl) in
+      record {
+        next = _;
+        steps = (
+          comes_allowed starts places seats net (next move) side (clocks' move) (clocks' move) p1 k sh1 v may.0 (theirs net side move) refl refl cx ip header bytes
+              (keys side).0 (keys side).1 of.host (sh1.clock side ∙ now) refl may.1 (plain refl) later stay all_allowed partners (mine net side move) number f o.0 o.1,
+          refl,
+        );
+        shows =
+            comes_shows starts places seats net (next move) side (clocks' move) (clocks' move) p1 k sh1 v may.0 (theirs net side move) refl refl cx ip header bytes
+            (keys side).0 (keys side).1 of.host (sh1.clock side ∙ now) refl may.1 (plain refl) later stay all_allowed partners (mine net side move) number f o.0 o.1;
+      }))
+
+  -- a number fits
+  arrival_number : (cx : ContextValue) (v : TcpValue) (ip : IpRepr) (header : TcpHeader) (bytes : List ℕ) → MayFrom places h side P Q (Takes here cx v ip header bytes)
+      → IsPlain here net side (Takes here cx v ip header bytes) → IsShown (seats side) (clocks side) (shown_to here (Takes here cx v ip header bytes))
+      → (n : ℕ) × (slice_get (sent_in seats net (other side)) n ≡ Some (made_of (source_of ip) (destination_of ip) header bytes))
+  arrival_number cx v ip header bytes may plain shown =
       let move : Move = Takes here cx v ip header bytes in
       let now = own_clock move ∙ ap (clock_after (clocks side)) (shown_here cx) in
       let of = is_of cx shown in
@@ -207,21 +290,8 @@ module _ (starts : Side → ℕ → ℕ) (places : Places) (seats : Side → Sea
       let sh1 : Shows seats (clocks' move) net p1 = clock_shows seats net side clocks (clocks' move) p sh cx of now (far_clock move) in
       let o = was_opened starts places seats net (next move) side (clocks' move) (clocks' move) p1 k sh1 v may.0 (theirs net side move) refl refl cx ip header bytes
       (keys side).0 (keys side).1 of.host (sh1.clock side ∙ now) refl may.1 (plain refl) later stay all_allowed partners (mine net side move) in
-      record {
-        events = clock_event seats net side clocks (clocks' move) p sh cx of now (far_clock move) ∷ _ ∷ [];
-        next = _;
-        steps = (
-          clock_allowed seats net side clocks (clocks' move) p sh cx of now (far_clock move),
-          (
-            comes_allowed starts places seats net (next move) side (clocks' move) (clocks' move) p1 k sh1 v may.0 (theirs net side move) refl refl cx ip header bytes
-                (keys side).0 (keys side).1 of.host (sh1.clock side ∙ now) refl may.1 (plain refl) later stay all_allowed partners (mine net side move) o.0 o.1,
-            refl,
-          ),
-        );
-        shows =
-            comes_shows starts places seats net (next move) side (clocks' move) (clocks' move) p1 k sh1 v may.0 (theirs net side move) refl refl cx ip header bytes
-            (keys side).0 (keys side).1 of.host (sh1.clock side ∙ now) refl may.1 (plain refl) later stay all_allowed partners (mine net side move) o.0 o.1;
-      }
+      fits starts places seats net (next move) side (clocks' move) (clocks' move) p1 k sh1 v may.0 (theirs net side move) refl refl cx ip header bytes
+      (keys side).0 (keys side).1 of.host (sh1.clock side ∙ now) refl may.1 (plain refl) later stay all_allowed partners (mine net side move) o.0 o.1
 
   arrival_there : (at : ℕ) (cx : ContextValue) (v : TcpValue) (ip : IpRepr) (header : TcpHeader) (bytes : List ℕ)
       → MayFrom places h side P Q (Takes at cx v ip header bytes) → (at == here) ≡ false → here ≢ at → Goes (Takes at cx v ip header bytes)
@@ -230,7 +300,7 @@ module _ (starts : Side → ℕ → ℕ) (places : Places) (seats : Side → Sea
       let more = answers_more starts places h side P Q k at v may.0 cx ip header bytes may.1 may.2 in
       elsewhere move refl (shown_there at cx other_place) (socket_stays P here at _ apart)
       (more_elsewhere places h side here at P.segments (party_after P move).segments (opening h side here) _ k.allowed refl apart more (sh.sent side))
-      (more_of_socket h side at P.segments (party_after P move).segments more (sh.made side))
+      (more_of_socket h side at P.segments (party_after P move).segments more (sh.made side)) (events_there at _ other_place)
 
   -- CALLS
 
@@ -240,16 +310,11 @@ module _ (starts : Side → ℕ → ℕ) (places : Places) (seats : Side → Sea
       let move : Move = Invokes here cx (Tcp v) entry call (Tcp new) in
       let now = own_clock move ∙ ap (clock_after (clocks side)) (shown_here cx) in
       let of = is_of cx shown in
-      let p1 : PairValue = (happens p (clock_event seats net side clocks (clocks' move) p sh cx of now (far_clock move))).pair in
-      let sh1 : Shows seats (clocks' move) net p1 = clock_shows seats net side clocks (clocks' move) p sh cx of now (far_clock move) in
-      let goes = called starts places seats net (next move) side (clocks' move) p1 k sh1 v new entry may.0 (may.2, k.allowed) (theirs net side move) refl
-      (mine net side move) cx (keys side).0 (keys side).1 of.host (sh1.clock side ∙ now) call may.1 may.3 in
-      record {
-        events = clock_event seats net side clocks (clocks' move) p sh cx of now (far_clock move) ∷ goes.events;
-        next = goes.next;
-        steps = (clock_allowed seats net side clocks (clocks' move) p sh cx of now (far_clock move), goes.steps);
-        shows = goes.shows;
-      }
+      own_events move (clock_to (side_in side) (clocks side) cx.moment ++ called_by (side_in side) call)
+      (goes_clocked seats net side clocks (clocks' move) p sh cx of now (far_clock move) (next move) (called_by (side_in side) call)
+      (λ p1 sh1.
+      called starts places seats net (next move) side (clocks' move) p1 k sh1 v new entry may.0 (may.2, k.allowed) (theirs net side move) refl (mine net side move) cx
+      (keys side).0 (keys side).1 of.host (sh1.clock side ∙ now) call may.1 may.3))
   call_here cx (Udp v) new entry call may shown = absurd (no_udp here (Udp v) (λ w e. absurd (cc)) may.0 refl)
   call_here cx Icmp new entry call may shown = absurd (no_udp here Icmp (λ w e. absurd (cc)) may.0 refl)
   call_here cx Raw new entry call may shown = absurd (no_udp here Raw (λ w e. absurd (cc)) may.0 refl)
@@ -262,14 +327,14 @@ module _ (starts : Side → ℕ → ℕ) (places : Places) (seats : Side → Sea
       let far_none = call_at_other_side entry side at (seats (other side)).place call may.1 in
       besides (Invokes at cx old entry call new) entry refl (shown_there at cx other_place) (socket_stays P here at new apart) refl
       (opening_left h entry side here mine_none) (told_left h entry side here mine_none) (opening_left h entry (other side) (seats (other side)).place far_none)
-      (told_left h entry (other side) (seats (other side)).place far_none)
+      (told_left h entry (other side) (seats (other side)).place far_none) (events_there at _ other_place)
 
   passes : (entry : Entry) → IsNoCall (kind_of entry.event) → Goes (Passes entry)
   passes entry none =
       let mine_none = no_call (kind_of entry.event) side here none in
       let far_none = no_call (kind_of entry.event) (other side) (seats (other side)).place none in
       besides (Passes entry) entry refl refl refl refl (opening_left h entry side here mine_none) (told_left h entry side here mine_none)
-      (opening_left h entry (other side) (seats (other side)).place far_none) (told_left h entry (other side) (seats (other side)).place far_none)
+      (opening_left h entry (other side) (seats (other side)).place far_none) (told_left h entry (other side) (seats (other side)).place far_none) refl
 
   -- EACH MOVE
 
@@ -280,31 +345,52 @@ module _ (starts : Side → ℕ → ℕ) (places : Places) (seats : Side → Sea
     by (inl same) = subst X (sym same.1) own
     by (inr apart) = there apart.0 (λ same. apart.1 (sym same))
 
-  goes : (move : Move) → MayFrom places h side P Q move → IsPlain here net side move → IsShown (seats side) (clocks side) (shown_to here move) → Goes move
-  goes (Invokes at cx old entry call new) may plain shown =
+  goes : (move : Move) → MayFrom places h side P Q move → IsPlain here net side move → IsShown (seats side) (clocks side) (shown_to here move) → Numbered move →
+      Goes move
+  goes (Invokes at cx old entry call new) may plain shown numbered =
       by_place at
       (λ i. MayFrom places h side P Q (Invokes i cx old entry call new) → IsShown (seats side) (clocks side) (shown_to here (Invokes i cx old entry call new)) →
       Goes (Invokes i cx old entry call new))
       (λ m s. call_here cx old new entry call m s) (λ off apart m s. call_there at cx old new entry call m off apart) may shown
-  goes (Passes entry) may plain shown = passes entry may
-  goes (Offers at cx v from sent) may plain shown =
+  goes (Passes entry) may plain shown numbered = passes entry may
+  goes (Offers at cx v from sent) may plain shown numbered =
       by_place at
       (λ i. MayFrom places h side P Q (Offers i cx v from sent) → IsPlain here net side (Offers i cx v from sent)
       → IsShown (seats side) (clocks side) (shown_to here (Offers i cx v from sent)) → Goes (Offers i cx v from sent))
       (λ m own s. offer_here cx v from sent m own s) (λ off apart m own s. offer_there at cx v from sent m off apart) may plain shown
-  goes (Gives at cx v answer v' sent) may plain shown =
+  goes (Gives at cx v answer v' sent) may plain shown numbered =
       let apart = no_udp at (Udp v) (λ w e. absurd (cc)) may.0 in
-      elsewhere (Gives at cx v answer v' sent) refl refl (socket_stays P here at _ apart) (sh.sent side) (sh.made side)
-  goes (Takes at cx v ip header bytes) may plain shown =
+      elsewhere (Gives at cx v answer v' sent) refl refl (socket_stays P here at _ apart) (sh.sent side) (sh.made side) refl
+  goes (Takes at cx v ip header bytes) may plain shown numbered =
       by_place at
       (λ i. MayFrom places h side P Q (Takes i cx v ip header bytes) → IsPlain here net side (Takes i cx v ip header bytes)
-      → IsShown (seats side) (clocks side) (shown_to here (Takes i cx v ip header bytes)) → Goes (Takes i cx v ip header bytes))
-      (λ m own s. arrival_here cx v ip header bytes m own s) (λ off apart m own s. arrival_there at cx v ip header bytes m off apart) may plain shown
-  goes (Receives at cx v ip udp bytes) may plain shown =
+      → IsShown (seats side) (clocks side) (shown_to here (Takes i cx v ip header bytes)) → Numbered (Takes i cx v ip header bytes)
+      → Goes (Takes i cx v ip header bytes))
+      (λ m own s n. arrival_here cx v ip header bytes m own s n) (λ off apart m own s n. arrival_there at cx v ip header bytes m off apart) may plain shown numbered
+  goes (Receives at cx v ip udp bytes) may plain shown numbered =
       let apart = no_udp at (Udp v) (λ w e. absurd (cc)) may.0 in
-      elsewhere (Receives at cx v ip udp bytes) refl refl (socket_stays P here at _ apart) (sh.sent side) (sh.made side)
-  goes (Resets x) may plain shown = absurd plain
-  goes (Changes at old new) may plain shown = absurd plain
+      elsewhere (Receives at cx v ip udp bytes) refl refl (socket_stays P here at _ apart) (sh.sent side) (sh.made side) refl
+  goes (Resets x) may plain shown numbered = absurd plain
+  goes (Changes at old new) may plain shown numbered = absurd plain
+
+  -- a number that fits a move
+  abbrev HasNumber : Move → Type 0
+  HasNumber move = (n : ℕ) × IsNumbered here (sent_in seats net (other side)) n move
+
+  has_number : (move : Move) → MayFrom places h side P Q move → IsPlain here net side move → IsShown (seats side) (clocks side) (shown_to here move) → HasNumber move
+  has_number (Takes at cx v ip header bytes) may plain shown =
+      by_place at
+      (λ i. MayFrom places h side P Q (Takes i cx v ip header bytes) → IsPlain here net side (Takes i cx v ip header bytes)
+      → IsShown (seats side) (clocks side) (shown_to here (Takes i cx v ip header bytes)) → HasNumber (Takes i cx v ip header bytes))
+      (λ m own s. let n = arrival_number cx v ip header bytes m own s in (n.0, λ same. n.1))
+      (λ off apart m own s. (0, λ same. absurd (apart (sym same)))) may plain shown
+  has_number (Invokes at cx old entry call new) may plain shown = (0, tt)
+  has_number (Passes entry) may plain shown = (0, tt)
+  has_number (Offers at cx v from sent) may plain shown = (0, tt)
+  has_number (Gives at cx v answer v' sent) may plain shown = (0, tt)
+  has_number (Receives at cx v ip udp bytes) may plain shown = (0, tt)
+  has_number (Resets x) may plain shown = (0, tt)
+  has_number (Changes at old new) may plain shown = (0, tt)
 
 -- RUNS
 
@@ -313,26 +399,105 @@ turned : (history : List Entry) (seats : Side → Seat) (side : Side) → ArePar
 turned history seats A a = a
 turned history seats B a = partners_turned history A (seats A).place (seats B).place a
 
-run_goes : (starts : Side → ℕ → ℕ) (places : Places) (seats : Side → Seat) (keys : HaveKeys seats) (net : Net) (steps : List Step) (clocks : Side → ℤ) (p : PairValue)
-    → Kept starts places net → IsRun places.names net steps → AreHosted seats clocks net steps → ArePartners (run net steps).history A (seats A).place (seats B).place
-    → Shows seats clocks net p → GoesOn seats (clocks_in seats clocks steps) (run net steps) p
-run_goes starts places seats keys net [] clocks p k is hosted partners sh = record { events = []; next = p; steps = refl; shows = sh }
-run_goes starts places seats keys net (step ∷ steps) clocks p k is hosted partners sh =
-    let side = step.side in
-    let last = kept_run starts places net (step ∷ steps) k is in
-    let stay = run_stays net (step ∷ steps) in
-    let one =
-    goes starts places seats net side clocks p (from_side starts places net side k) sh keys (run net (step ∷ steps)).history stay last.allowed
-    (turned (run net (step ∷ steps)).history seats side partners) step.move (from_may starts places net side step.move k is.0) hosted.0 hosted.1 in
-    let rest =
-    run_goes starts places seats keys (after net step) steps (clocks_after seats clocks step) one.next (step_by starts places net side step.move k is.0) is.1 hosted.2
-    partners one.shows in
-    record {
-      events = one.events ++ rest.events;
-      next = rest.next;
-      steps = steps_append p one.next rest.next one.events rest.events one.steps rest.steps;
-      shows = rest.shows;
-    }
+module _ (starts : Side → ℕ → ℕ) (places : Places) (seats : Side → Seat) (keys : HaveKeys seats) where
+  -- what one step of a run needs
+  module _ (net : Net) (step : Step) (steps : List Step) (clocks : Side → ℤ) (p : PairValue) (k : Kept starts places net) (is : IsRun places.names net (step ∷ steps))
+      (hosted : AreHosted seats clocks net (step ∷ steps)) (partners : ArePartners (run net (step ∷ steps)).history A (seats A).place (seats B).place)
+      (sh : Shows seats clocks net p) where
+    step_goes : (number : ℕ) → IsNumbered (seats step.side).place (sent_in seats net (other step.side)) number step.move
+        → GoesOnBy seats (clocks_after seats clocks step) (after net step) p (events_of_one seats clocks (record { step = step; number = number }))
+    step_goes number numbered =
+        let last = kept_run starts places net (step ∷ steps) k is in
+        goes starts places seats net step.side clocks p (from_side starts places net step.side k) sh keys (run net (step ∷ steps)).history (run_stays net (step ∷ steps))
+        last.allowed (turned (run net (step ∷ steps)).history seats step.side partners) number step.move (from_may starts places net step.side step.move k is.0)
+        hosted.0 hosted.1 numbered
+
+    step_number : (n : ℕ) × IsNumbered (seats step.side).place (sent_in seats net (other step.side)) n step.move
+    step_number =
+        let last = kept_run starts places net (step ∷ steps) k is in
+        has_number starts places seats net step.side clocks p (from_side starts places net step.side k) sh keys (run net (step ∷ steps)).history
+        (run_stays net (step ∷ steps)) last.allowed (turned (run net (step ∷ steps)).history seats step.side partners) 0 step.move
+        (from_may starts places net step.side step.move k is.0) hosted.0 hosted.1
+
+  run_goes : (net : Net) (moves : List Happening) (clocks : Side → ℤ) (p : PairValue) → Kept starts places net → IsRun places.names net (steps_of moves)
+      → AreHosted seats clocks net (steps_of moves) → ArePartners (run net (steps_of moves)).history A (seats A).place (seats B).place → AreNumbered seats net moves
+      → Shows seats clocks net p → GoesOnBy seats (clocks_in seats clocks (steps_of moves)) (run net (steps_of moves)) p (events_of_moves seats clocks moves)
+  run_goes net [] clocks p k is hosted partners numbered sh = record { next = p; steps = refl; shows = sh }
+  run_goes net (x ∷ moves) clocks p k is hosted partners numbered sh =
+      let one = step_goes net x.step (steps_of moves) clocks p k is hosted partners sh x.number numbered.0 in
+      let rest =
+      run_goes (after net x.step) moves (clocks_after seats clocks x.step) one.next (step_by starts places net x.step.side x.step.move k is.0) is.1 hosted.2
+      partners numbered.1 one.shows in
+      record {
+        next = rest.next;
+        steps = steps_append p one.next rest.next (events_of_one seats clocks x) (events_of_moves seats (clocks_after seats clocks x.step) moves) one.steps rest.steps;
+        shows = rest.shows;
+      }
+
+  run_shows : (net : Net) (moves : List Happening) (clocks : Side → ℤ) (p : PairValue) → Kept starts places net → IsRun places.names net (steps_of moves)
+      → AreHosted seats clocks net (steps_of moves) → ArePartners (run net (steps_of moves)).history A (seats A).place (seats B).place → AreNumbered seats net moves
+      → Shows seats clocks net p → ShowsAlong seats clocks net p moves
+  run_shows net [] clocks p k is hosted partners numbered sh = sh
+  run_shows net (x ∷ moves) clocks p k is hosted partners numbered sh =
+      let one = step_goes net x.step (steps_of moves) clocks p k is hosted partners sh x.number numbered.0 in (
+        sh,
+        run_shows (after net x.step) moves (clocks_after seats clocks x.step) (after_events p (events_of_one seats clocks x))
+            (step_by starts places net x.step.side x.step.move k is.0) is.1 hosted.2 partners numbered.1
+            (subst (λ (q : PairValue). Shows seats (clocks_after seats clocks x.step) (after net x.step) q)
+            (steps_lead p one.next (events_of_one seats clocks x) one.steps) one.shows),
+      )
+
+  run_numbers : (net : Net) (steps : List Step) (clocks : Side → ℤ) (p : PairValue) → Kept starts places net → IsRun places.names net steps
+      → AreHosted seats clocks net steps → ArePartners (run net steps).history A (seats A).place (seats B).place → Shows seats clocks net p
+      → HaveNumbers seats net steps
+  run_numbers net [] clocks p k is hosted partners sh = record { moves = []; are_these = refl; numbered = tt }
+  run_numbers net (step ∷ steps) clocks p k is hosted partners sh =
+      let n = step_number net step steps clocks p k is hosted partners sh in
+      let one = step_goes net step steps clocks p k is hosted partners sh n.0 n.1 in
+      let rest =
+      run_numbers (after net step) steps (clocks_after seats clocks step) one.next (step_by starts places net step.side step.move k is.0) is.1 hosted.2 partners
+      one.shows in
+      record {
+        moves = record { step = step; number = n.0 } ∷ rest.moves;
+        are_these = ap (λ (xs : List Step). step ∷ xs) rest.are_these;
+        numbered = (n.1, rest.numbered);
+      }
+
+pub partners_have_numbers : (starts : Side → ℕ → ℕ) (names : List ℕ → Bool) (first : Net) (before steps : List Step) (seats : Side → Seat) (clocks : Side → ℤ)
+    (p : PairValue) → IsFreshNet starts first → IsRun names first before → IsRun names (run first before) steps → AreHosted seats clocks (run first before) steps
+    → HaveKeys seats → ArePartners (run (run first before) steps).history A (seats A).place (seats B).place → Shows seats clocks (run first before) p
+    → HaveNumbers seats (run first before) steps
+partners_have_numbers starts names first before steps seats clocks p fresh was is hosted keys partners sh =
+    let places = places_of names first in
+    run_numbers starts places seats keys (run first before) steps clocks p (kept_run starts places first before (fresh_kept starts names first fresh) was) is hosted
+    partners sh
+
+pub partners_go_on_by : (starts : Side → ℕ → ℕ) (names : List ℕ → Bool) (first : Net) (before : List Step) (moves : List Happening) (seats : Side → Seat)
+    (clocks : Side → ℤ) (p : PairValue) → IsFreshNet starts first → IsRun names first before → IsRun names (run first before) (steps_of moves)
+    → AreHosted seats clocks (run first before) (steps_of moves) → HaveKeys seats
+    → ArePartners (run (run first before) (steps_of moves)).history A (seats A).place (seats B).place → AreNumbered seats (run first before) moves
+    → Shows seats clocks (run first before) p
+    → GoesOnBy seats (clocks_in seats clocks (steps_of moves)) (run (run first before) (steps_of moves)) p (events_of_moves seats clocks moves)
+partners_go_on_by starts names first before moves seats clocks p fresh was is hosted keys partners numbered sh =
+    let places = places_of names first in
+    run_goes starts places seats keys (run first before) moves clocks p (kept_run starts places first before (fresh_kept starts names first fresh) was) is hosted
+    partners numbered sh
+
+pub partners_show_along : (starts : Side → ℕ → ℕ) (names : List ℕ → Bool) (first : Net) (before : List Step) (moves : List Happening) (seats : Side → Seat)
+    (clocks : Side → ℤ) (p : PairValue) → IsFreshNet starts first → IsRun names first before → IsRun names (run first before) (steps_of moves)
+    → AreHosted seats clocks (run first before) (steps_of moves) → HaveKeys seats
+    → ArePartners (run (run first before) (steps_of moves)).history A (seats A).place (seats B).place → AreNumbered seats (run first before) moves
+    → Shows seats clocks (run first before) p → ShowsAlong seats clocks (run first before) p moves
+partners_show_along starts names first before moves seats clocks p fresh was is hosted keys partners numbered sh =
+    let places = places_of names first in
+    run_shows starts places seats keys (run first before) moves clocks p (kept_run starts places first before (fresh_kept starts names first fresh) was) is hosted
+    partners numbered sh
+
+-- with whatever numbers
+whatever : (seats : Side → Seat) (net : Net) (clocks : Side → ℤ) (p : PairValue) (moves : List Happening)
+    → GoesOnBy seats (clocks_in seats clocks (steps_of moves)) (run net (steps_of moves)) p (events_of_moves seats clocks moves)
+    → GoesOn seats (clocks_in seats clocks (steps_of moves)) (run net (steps_of moves)) p
+whatever seats net clocks p moves on = record { events = events_of_moves seats clocks moves; next = on.next; steps = on.steps; shows = on.shows }
 
 pub partners_go_on : (starts : Side → ℕ → ℕ) (names : List ℕ → Bool) (first : Net) (before steps : List Step) (seats : Side → Seat) (clocks : Side → ℤ) (p : PairValue)
     → IsFreshNet starts first → IsRun names first before → IsRun names (run first before) steps → AreHosted seats clocks (run first before) steps → HaveKeys seats
@@ -340,5 +505,11 @@ pub partners_go_on : (starts : Side → ℕ → ℕ) (names : List ℕ → Bool)
     → GoesOn seats (clocks_in seats clocks steps) (run (run first before) steps) p
 partners_go_on starts names first before steps seats clocks p fresh was is hosted keys partners sh =
     let places = places_of names first in
-    run_goes starts places seats keys (run first before) steps clocks p (kept_run starts places first before (fresh_kept starts names first fresh) was) is hosted partners
-    sh
+    let net : Net = run first before in
+    let k = kept_run starts places first before (fresh_kept starts names first fresh) was in
+    let n = run_numbers starts places seats keys net steps clocks p k is hosted partners sh in
+    subst (λ (xs : List Step). GoesOn seats (clocks_in seats clocks xs) (run net xs) p) n.are_these
+    (whatever seats net clocks p n.moves
+    (run_goes starts places seats keys net n.moves clocks p k (subst (λ (xs : List Step). IsRun names net xs) (sym n.are_these) is)
+    (subst (λ (xs : List Step). AreHosted seats clocks net xs) (sym n.are_these) hosted)
+    (subst (λ (xs : List Step). ArePartners (run net xs).history A (seats A).place (seats B).place) (sym n.are_these) partners) n.numbered sh))

@@ -1,5 +1,5 @@
 -- A pair shows a net after a step of one host.
-use Rattle.std.proofs.Common.{◌≡◌, ℤ, Bool, true, false, Some, None, refl, sym, ap, ◌∙◌, subst, arith}
+use Rattle.std.proofs.Common.{◌≡◌, ℤ, Bool, true, false, if◌then◌else◌, List, [], ◌∷◌, ◌++◌, Some, None, refl, sym, ap, ◌∙◌, subst, arith}
 use Rattle.std.proofs.lemmas.Int.{ints}
 use Rattle.std.specs.Prelude.{◌≤ℤ◌, pos, int_le, not, ◌&&◌}
 use Rattle.std.specs.List.{AllByRecursion}
@@ -18,12 +18,16 @@ use Rattle.lan.specs.Worlds.AtLink.Kinds.{other}
 use Rattle.lan.specs.Worlds.AtLink.History.{opening}
 use Rattle.lan.specs.Worlds.AtLink.Parties.{Net, Party, party, socket_at}
 use Rattle.lan.specs.Worlds.AtLink.Parties.Socket.{Tcp}
+use Rattle.lan.specs.Worlds.AtLink.Happening.{GoesOnBy, clock_to}
 use Rattle.lan.specs.Worlds.AtLink.Paired.{HasSent, IsOf, IsOfSocket, Seat, Shows, side_in, told}
 use Rattle.lan.proofs.Worlds.Moves.Nets.{either_side}
 use Rattle.lan.proofs.Worlds.AtLink.Paired.Parts.{at_put, at_put_other, put_same}
 
 no_le : (a b : ℤ) → int_le a b ≡ false → a ≤ℤ b → ⊥
 no_le a b so is = first_of (omega (arith, ints), grind (arith, ints))
+
+no_later : (last moment : ℤ) → last ≤ℤ moment → int_le moment last ≡ true → last ≡ moment
+no_later last moment is e = first_of (omega (arith, ints), grind (arith, ints))
 
 -- a moment that isn't before the last one
 pub may_be : (last moment : ℤ) → IsMoment moment → last ≤ℤ moment → may_come last moment ≡ true
@@ -137,3 +141,27 @@ module _ (seats : Side → Seat) (net : Net) (side : Side) (clocks clocks' : Sid
         sent = sh.sent side;
         made = sh.made side;
       })
+
+  -- where it shows the moment already
+  pub same_clock : clocks side ≡ cx.moment → Shows seats clocks' net p
+  same_clock is = record {
+    socket = sh.socket;
+    host = sh.host;
+    clock = either_side side (λ d. (at p.sides (side_in d)).moment ≡ clocks' d) (sh.clock side ∙ is ∙ sym now) (sh.clock (other side) ∙ sym rest);
+    past = sh.past;
+    sent = sh.sent;
+    made = sh.made;
+  }
+
+  -- the clock goes on to the moment of a move, or shows it already, and further events follow
+  pub goes_clocked : (net' : Net) (events : List PairEvent) → ((p1 : PairValue) → Shows seats clocks' net p1 → GoesOnBy seats clocks' net' p1 events)
+      → GoesOnBy seats clocks' net' p (clock_to (side_in side) (clocks side) cx.moment ++ events)
+  goes_clocked net' events onward = by (int_le cx.moment (clocks side)) refl where
+    still : int_le cx.moment (clocks side) ≡ true → clocks side ≡ cx.moment
+    still e = no_later (clocks side) cx.moment of.later e
+
+    by : (t : Bool) → int_le cx.moment (clocks side) ≡ t → GoesOnBy seats clocks' net' p ((if t then [] else clock_event ∷ []) ++ events)
+    by true e = onward p (same_clock (still e))
+    by false e =
+        let goes = onward (happens p clock_event).pair clock_shows in
+        record { next = goes.next; steps = (clock_allowed, goes.steps); shows = goes.shows }

@@ -42,6 +42,7 @@ use Rattle.lan.specs.Worlds.AtLink.Parties.{Net, Party, Socket, party, socket_at
 use Rattle.lan.specs.Worlds.AtLink.Parties.Socket.{Tcp}
 use Rattle.lan.specs.Worlds.AtLink.Partners.{ArePartners}
 use Rattle.lan.specs.Worlds.AtLink.Tables.{Places, AreAllowed}
+use Rattle.lan.specs.Worlds.AtLink.Happening.{sent_by, sent_in}
 use Rattle.lan.specs.Worlds.AtLink.Paired.{HasSent, IsOf, IsOfSocket, Seat, Shows, from_port, made_by, side_in, told}
 use Rattle.lan.proofs.Worlds.AtLink.Exchange.{same_tcp}
 use Rattle.lan.proofs.Worlds.AtLink.HostSteps.{Stay, speaks_stay}
@@ -71,6 +72,17 @@ all_get P (y ∷ ys) (suc k) x all e = all_get P ys k x all.1 e
 
 below_is : (j n : ℕ) → j < n → nat_lt j n ≡ true
 below_is j n less = grind (arith, nat_tests)
+
+-- what a socket sent, as its host made it
+pub sent_same : (o : Option Opening) (made : List Made) (sent : List SentSegment) → HasSent o made sent → sent_by o made ≡ map made_by sent
+sent_same None made sent has = sym (ap (map made_by) has)
+sent_same (Some o) made sent has = has
+
+pub get_mapped : {X Y : Type 0} (f : X → Y) (xs : List X) (j : ℕ) (x : X) → slice_get xs j ≡ Some x → slice_get (map f xs) j ≡ Some (f x)
+get_mapped f [] zero x e = absurd (cc)
+get_mapped f [] (suc j) x e = absurd (cc)
+get_mapped {X = X} f (y ∷ ys) zero x e = let same : y ≡ x = cc in ap (λ (z : X). Some (f z)) same
+get_mapped f (y ∷ ys) (suc j) x e = get_mapped f ys j x e
 
 -- one segment more of the socket, from its port, joins those of the pair
 sent_more : (o : Opening) (made : List Made) (sent : List SentSegment) (x : SentSegment) → x.segment.src_port ≡ o.local → from_port o.local made ≡ map made_by sent
@@ -226,24 +238,47 @@ module _ (starts : Side → ℕ → ℕ) (places : Places) (seats : Side → Sea
         by (inl same) = ap (λ (i : ℕ). opening net.history (other side) i) (sym same) ∙ of_x.opened
         by (inr apart) = absurd (apart.local (of_x.from ∙ ap (λ (h : TcpHeader). h.src_port) (sym header_is) ∙ sym port))
 
-    pub record Found : Type 0 where
-      pub number : ℕ
+    -- the segment of this number, in the pair
+    pub record Found (number : ℕ) : Type 0 where
       pub segment : SentSegment
       pub there : slice_get theirs.sent number ≡ Some segment
       pub found : made_by segment ≡ x
 
-    pub found_by : opening net.history (other side) (seats (other side)).place ≡ Some of_x.by → Found
+    found_by : opening net.history (other side) (seats (other side)).place ≡ Some of_x.by → (number : ℕ) × Found number
     found_by opened =
         let has : from_port of_x.by.local (party net (other side)).segments ≡ map made_by theirs.sent =
         subst (λ o. HasSent o (party net (other side)).segments theirs.sent) opened (sh.sent (other side)) in
         let got = from_get of_x.by.local (party net (other side)).segments comes.among.0 x comes.among.1 (sym of_x.from) in
         let one = map_get made_by theirs.sent got.0 x (ap (λ (xs : List Made). slice_get xs got.0) (sym has) ∙ got.1) in
-        record { number = got.0; segment = one.0; there = one.1; found = one.2 }
+        (got.0, record { segment = one.0; there = one.1; found = one.2 })
 
-    module _ (o : Opening) (opened : opening net.history side here ≡ Some o) where
-      abbrev f : Found
-      f = found_by (from_partner o opened)
+    -- what came
+    abbrev came : Made
+    came = made_of (source_of ip) (destination_of ip) header bytes
 
+    came_is : came ≡ x
+    came_is = ap (λ (w : TcpHeader). made_of (source_of ip) (destination_of ip) w bytes) header_is
+
+    sent_there : sent_in seats net (other side) ≡ map made_by theirs.sent
+    sent_there =
+        sent_same (opening net.history (other side) (seats (other side)).place) (party net (other side)).segments theirs.sent (sh.sent (other side))
+
+    -- a number that fits is that of a segment in the pair
+    pub found_at : (number : ℕ) → slice_get (sent_in seats net (other side)) number ≡ Some came → Found number
+    found_at number is =
+        let one = map_get made_by theirs.sent number came (ap (λ (xs : List Made). slice_get xs number) (sym sent_there) ∙ is) in
+        record { segment = one.0; there = one.1; found = one.2 ∙ came_is }
+
+    -- one fits
+    pub fits : (o : Opening) → opening net.history side here ≡ Some o → (number : ℕ) × (slice_get (sent_in seats net (other side)) number ≡ Some came)
+    fits o opened =
+        let f = found_by (from_partner o opened) in (
+          f.0,
+          ap (λ (xs : List Made). slice_get xs f.0) sent_there ∙ get_mapped made_by theirs.sent f.0 f.1.segment f.1.there
+              ∙ ap (λ (m : Made). Some m) (f.1.found ∙ sym came_is),
+        )
+
+    module _ (number : ℕ) (f : Found number) (o : Opening) (opened : opening net.history side here ≡ Some o) where
       abbrev y : SentSegment
       y = f.segment
 
@@ -260,10 +295,10 @@ module _ (starts : Side → ℕ → ℕ) (places : Places) (seats : Side → Sea
       destination_is = ap (λ (m : Made). m.to) f.found
 
       abbrev pub comes_event : PairEvent
-      comes_event = Deliver (side_in (other side)) f.number
+      comes_event = Deliver (side_in (other side)) number
 
       pub comes_allowed : refusal p comes_event ≡ None
-      comes_allowed = ap (λ (t : Bool). if_so (not t) Why.NoSegment) (below_is f.number (length theirs.sent) (get_below theirs.sent f.number y f.there))
+      comes_allowed = ap (λ (t : Bool). if_so (not t) Why.NoSegment) (below_is number (length theirs.sent) (get_below theirs.sent number y f.there))
 
       takes_it : accepts own.socket.block y.header y.segment ≡ true
       takes_it =
@@ -283,7 +318,7 @@ module _ (starts : Side → ℕ → ℕ) (places : Places) (seats : Side → Sea
       abbrev taken : PairSide
       taken = record own { socket = arrived.socket; sent = and_reply own.sent arrived.answer }
 
-      handed_so : handed (side_in side) own (slice_get theirs.sent f.number) ≡ taken
+      handed_so : handed (side_in side) own (slice_get theirs.sent number) ≡ taken
       handed_so =
           ap (handed (side_in side) own) f.there
           ∙ (λ i. if takes_it i then taken_at own (arrives_so i) else own)
@@ -291,8 +326,8 @@ module _ (starts : Side → ℕ → ℕ) (places : Places) (seats : Side → Sea
 
       acting_is : (acting p comes_event).side ≡ taken
       acting_is =
-          (λ i. handed (back_in side i) (at p.sides (back_in side i)) (slice_get (at p.sides (Sides.other (back_in side i))).sent f.number))
-          ∙ ap (λ (d : Pairs.Side). handed (side_in side) own (slice_get (at p.sides d).sent f.number)) (sym (other_in side))
+          (λ i. handed (back_in side i) (at p.sides (back_in side i)) (slice_get (at p.sides (Sides.other (back_in side i))).sent number))
+          ∙ ap (λ (d : Pairs.Side). handed (side_in side) own (slice_get (at p.sides d).sent number)) (sym (other_in side))
           ∙ handed_so
 
       answered : (answer : Option Reply) → arrived.answer ≡ answer

@@ -1,0 +1,213 @@
+-- Events that happen at one moment, of which all but the last let both sockets be, in a course.
+use Rattle.std.proofs.Common.{◌≡◌, ◌⊎◌, inl, inr, ℕ, ◌+◌, ◌<◌, ◌≤◌, ℤ, pos, ◌+ℤ◌, ◌≤ℤ◌, ◌<ℤ◌, int_lt, Bool, true, false, List, [], ◌∷◌, ◌++◌, refl, sym, subst, arith}
+use Rattle.std.proofs.lemmas.Int.{ints}
+use Rattle.socket_base.specs.Offers.{IsBefore}
+use Rattle.tcp_control.specs.PollAt.{PollAt}
+use Rattle.tcp_control.specs.PollAt.TheVariants as When
+use Rattle.tcp_model.specs.Due.{poll_of}
+use Rattle.tcp_model.specs.Value.{TcpValue, free_in}
+use Rattle.tcp_tie.specs.Pair.Values.{PairValue}
+use Rattle.tcp_tie.specs.declared.pair.event.PairEvent.{PairEvent}
+use Rattle.tcp_tie.specs.declared.pair.event.Side.{Side}
+use Rattle.tcp_progress.specs.Course.{AreTaken, Asks, AsksWithin, DeliversWithin, IsAskedBy, IsAt, IsClocked, IsHeardBy, IsHeardWith, IsTaken, Wants, events_of}
+use Rattle.tcp_progress.specs.Pair.{mtu_of, next_sent, socket_of}
+use Rattle.tcp_progress.specs.Readers.{IsReadBy, Reads, ReadsWithin}
+use Rattle.tcp_progress.specs.Rounds.{takes}
+use Rattle.lan.proofs.Worlds.AtLink.Paired.Runs.{after_events}
+
+abbrev pub Course : Type 0
+Course = List (ℤ × PairEvent)
+
+-- these events, all at one moment
+abbrev pub all_at : ℤ → List PairEvent → Course
+all_at moment [] = []
+all_at moment (event ∷ events) = (moment, event) ∷ all_at moment events
+
+-- This event leaves both sockets, and what they sent, as they are. Nobody is asked, and nobody reads.
+pub record IsQuiet (p : PairValue) (event : PairEvent) : Type 0 where
+  pub socket : (d : Side) → socket_of (takes p event) d ≡ socket_of p d
+  pub mtu : (d : Side) → mtu_of (takes p event) d ≡ mtu_of p d
+  pub sent : (d : Side) → next_sent (takes p event) d ≡ next_sent p d
+  pub asks : (d : Side) → Asks d event → ⊥
+  pub reads : (d : Side) → Reads d event → ⊥
+
+-- each but the last is so
+abbrev pub AreQuiet : PairValue → List PairEvent → Type 0
+AreQuiet p [] = Unit {0}
+AreQuiet p (event ∷ []) = Unit {0}
+AreQuiet p (event ∷ then ∷ events) = IsQuiet p event × AreQuiet (takes p event) (then ∷ events)
+
+-- this holds of the last one, and of the pair before it
+abbrev pub OfLast : (PairValue → PairEvent → Type 0) → PairValue → List PairEvent → Type 0
+OfLast IsSo p [] = ⊥
+OfLast IsSo p (event ∷ []) = IsSo p event
+OfLast IsSo p (event ∷ then ∷ events) = OfLast IsSo (takes p event) (then ∷ events)
+
+abbrev pub AllAre : (PairEvent → Type 0) → List PairEvent → Type 0
+AllAre IsSo [] = Unit {0}
+AllAre IsSo (event ∷ events) = IsSo event × AllAre IsSo events
+
+-- when the clock stands behind them
+abbrev pub upon : ℤ → ℤ → List PairEvent → ℤ
+upon since t [] = since
+upon since t (event ∷ events) = t
+
+-- WHETHER A SIDE WANTS TO BE ASKED
+
+decided : (moment : ℤ) (at : PollAt) → IsBefore moment at ⊎ (IsBefore moment at → ⊥)
+decided moment When.Now = inr (λ never. never)
+decided moment When.Ingress = inl tt
+decided moment (When.Time due) = by (int_lt moment due) refl where
+  before : int_lt moment due ≡ true → moment <ℤ due
+  before e = first_of (omega (arith, ints), grind (arith, ints))
+
+  not_before : int_lt moment due ≡ false → moment <ℤ due → ⊥
+  not_before e is = first_of (omega (arith, ints), grind (arith, ints))
+
+  by : (t : Bool) → int_lt moment due ≡ t → IsBefore moment (When.Time due) ⊎ (IsBefore moment (When.Time due) → ⊥)
+  by true e = inl (before e)
+  by false e = inr (λ is. not_before e is)
+
+pub wants_or_not : (moment : ℤ) (p : PairValue) (side : Side) → Wants moment p side ⊎ (Wants moment p side → ⊥)
+wants_or_not moment p side = by (decided moment (poll_of (mtu_of p side) (socket_of p side))) where
+  by : IsBefore moment (poll_of (mtu_of p side) (socket_of p side)) ⊎ (IsBefore moment (poll_of (mtu_of p side) (socket_of p side)) → ⊥)
+      → Wants moment p side ⊎ (Wants moment p side → ⊥)
+  by (inl before) = inr (λ wants. wants before)
+  by (inr not) = inl not
+
+-- a quiet event changes nothing of it
+abbrev Before : ℤ → ℕ → TcpValue → Type 0
+Before moment mtu v = IsBefore moment (poll_of mtu v) → ⊥
+
+wants_on : (moment : ℤ) (p : PairValue) (event : PairEvent) (side : Side) → IsQuiet p event → Wants moment p side → Wants moment (takes p event) side
+wants_on moment p event side quiet wants =
+    subst (λ (v : TcpValue). Before moment (mtu_of (takes p event) side) v) (sym (quiet.socket side))
+    (subst (λ (n : ℕ). Before moment n (socket_of p side)) (sym (quiet.mtu side)) wants)
+
+wants_back : (moment : ℤ) (p : PairValue) (event : PairEvent) (side : Side) → IsQuiet p event → Wants moment (takes p event) side → Wants moment p side
+wants_back moment p event side quiet wants =
+    subst (λ (v : TcpValue). Before moment (mtu_of p side) v) (quiet.socket side)
+    (subst (λ (n : ℕ). Before moment n (socket_of (takes p event) side)) (quiet.mtu side) wants)
+
+-- ASKED
+
+-- how it goes on for a side that wants to be asked
+abbrev pub AskedThen : ℤ → ℤ → Side → PairValue → List PairEvent → Course → Type 0
+AskedThen due last side p events rest =
+    OfLast (λ q e. Asks side e) p events
+    ⊎ ((Wants due (after_events p events) side → ⊥) ⊎ IsAskedBy due last side (after_events p events) rest)
+
+pub asked_at : (t due last : ℤ) (side : Side) (rest : Course) (p : PairValue) (events : List PairEvent) → AreQuiet p events → Wants due p side → t ≤ℤ last
+    → AskedThen due last side p events rest → IsAskedBy due last side p (all_at t events ++ rest)
+asked_at t due last side rest p [] quiet wants upto (inl never) = absurd never
+asked_at t due last side rest p [] quiet wants upto (inr (inl not)) = absurd (not wants)
+asked_at t due last side rest p [] quiet wants upto (inr (inr on)) = on
+asked_at t due last side rest p (event ∷ []) quiet wants upto so = (upto, so)
+asked_at t due last side rest p (event ∷ then ∷ events) quiet wants upto so =
+    (upto, inr (inr (asked_at t due last side rest (takes p event) (then ∷ events) quiet.1 (wants_on due p event side quiet.0 wants) upto so)))
+
+-- so it is for each side from a moment on
+abbrev pub Asked : ℕ → ℤ → PairValue → Course → Type 0
+Asked wait since p course = (side : Side) (due : ℤ) → since ≤ℤ due → Wants due p side → IsAskedBy due (due +ℤ pos wait) side p course
+
+same_time : (t : ℤ) → t ≤ℤ t
+same_time t = first_of (omega (arith, ints), grind (arith, ints))
+
+upto : (a b c : ℤ) → a ≤ℤ b → b ≤ℤ c → a ≤ℤ c
+upto a b c e f = grind arith
+
+pub asks_at : (t : ℤ) (wait : ℕ) (rest : Course) (p : PairValue) (events : List PairEvent) (since : ℤ) → AreQuiet p events → since ≤ℤ t
+    → Asked wait since p (all_at t events ++ rest) → AsksWithin wait (upon since t events) (after_events p events) rest
+    → AsksWithin wait since p (all_at t events ++ rest)
+asks_at t wait rest p [] since quiet later asked more = more
+asks_at t wait rest p (event ∷ []) since quiet later asked more = (asked, more)
+asks_at t wait rest p (event ∷ then ∷ events) since quiet later asked more =
+    (asked, asks_at t wait rest (takes p event) (then ∷ events) t quiet.1 (same_time t) onward more)
+  where
+    onward : Asked wait t (takes p event) (all_at t (then ∷ events) ++ rest)
+    onward side due from wants = by (asked side due (upto since t due later from) (wants_back due p event side quiet.0 wants)).1 where
+      by : Asks side event ⊎ ((Wants due (takes p event) side → ⊥)
+          ⊎ IsAskedBy due (due +ℤ pos wait) side (takes p event) (all_at t (then ∷ events) ++ rest))
+          → IsAskedBy due (due +ℤ pos wait) side (takes p event) (all_at t (then ∷ events) ++ rest)
+      by (inl asks) = absurd (quiet.0.asks side asks)
+      by (inr (inl not)) = absurd (not wants)
+      by (inr (inr on)) = on
+
+-- HEARD
+
+pub heard_at : (t last : ℤ) (side : Side) (k : ℕ) (rest : Course) (p : PairValue) (events : List PairEvent) → t ≤ℤ last
+    → OfLast (λ q e. IsHeardWith q side k e) p events ⊎ IsHeardBy last side k (after_events p events) rest
+    → IsHeardBy last side k p (all_at t events ++ rest)
+heard_at t last side k rest p [] upto (inl never) = absurd never
+heard_at t last side k rest p [] upto (inr on) = on
+heard_at t last side k rest p (event ∷ []) upto so = (upto, so)
+heard_at t last side k rest p (event ∷ then ∷ events) upto so = (upto, inr (heard_at t last side k rest (takes p event) (then ∷ events) upto so))
+
+pub no_more : (k n m : ℕ) → m ≡ n → n ≤ k → k < m → ⊥
+no_more k n m same old new = omega (arith, same, old, new)
+
+pub delivers_at : (t : ℤ) (delay : ℕ) (rest : Course) (p : PairValue) (events : List PairEvent) → AreQuiet p events
+    → ((side : Side) (k : ℕ) → next_sent p side ≤ k → k < next_sent (after_events p events) side
+    → IsHeardBy (t +ℤ pos delay) side k (after_events p events) rest)
+    → DeliversWithin delay (after_events p events) rest → DeliversWithin delay p (all_at t events ++ rest)
+delivers_at t delay rest p [] quiet new more = more
+delivers_at t delay rest p (event ∷ []) quiet new more = (new, more)
+delivers_at t delay rest p (event ∷ then ∷ events) quiet new more = (
+  (λ side k old sent. absurd (no_more k (next_sent p side) (next_sent (takes p event) side) (quiet.0.sent side) old sent)),
+  delivers_at t delay rest (takes p event) (then ∷ events) quiet.1
+      (λ side k old sent. new side k (subst (λ (n : ℕ). n ≤ k) (quiet.0.sent side) old) sent) more,
+)
+
+-- READ
+
+pub read_at : (t last : ℤ) (side : Side) (rest : Course) (p : PairValue) (events : List PairEvent) → t ≤ℤ last
+    → OfLast (λ q e. Reads side e) p events ⊎ IsReadBy last side rest → IsReadBy last side (all_at t events ++ rest)
+read_at t last side rest p [] upto (inl never) = absurd never
+read_at t last side rest p [] upto (inr on) = on
+read_at t last side rest p (event ∷ []) upto so = (upto, so)
+read_at t last side rest p (event ∷ then ∷ events) upto so = (upto, inr (read_at t last side rest (takes p event) (then ∷ events) upto so))
+
+read_later : (last more : ℤ) (side : Side) (course : Course) → last ≤ℤ more → IsReadBy last side course → IsReadBy more side course
+read_later last more side [] later is = tt
+read_later last more side (x ∷ course) later is = (upto x.0 last more is.0 later, by (λ on. read_later last more side course later on) is.1) where
+  by : (IsReadBy last side course → IsReadBy more side course) → Reads side x.1 ⊎ IsReadBy last side course → Reads side x.1 ⊎ IsReadBy more side course
+  by further (inl reads) = inl reads
+  by further (inr on) = inr (further on)
+
+abbrev pub Read : ℕ → ℤ → PairValue → Side → Course → Type 0
+Read read since p side course = free_in (socket_of p side) ≡ 0 → IsReadBy (since +ℤ pos read) side course
+
+more_time : (a b : ℤ) (n : ℕ) → a ≤ℤ b → (a +ℤ pos n) ≤ℤ (b +ℤ pos n)
+more_time a b n e = first_of (omega (arith, ints), grind (arith, ints))
+
+pub reads_at : (t : ℤ) (read : ℕ) (side : Side) (rest : Course) (p : PairValue) (events : List PairEvent) (since : ℤ) → AreQuiet p events → since ≤ℤ t
+    → Read read since p side (all_at t events ++ rest) → ReadsWithin read (upon since t events) (after_events p events) side rest
+    → ReadsWithin read since p side (all_at t events ++ rest)
+reads_at t read side rest p [] since quiet later reads more = more
+reads_at t read side rest p (event ∷ []) since quiet later reads more = (reads, more)
+reads_at t read side rest p (event ∷ then ∷ events) since quiet later reads more =
+    (reads, reads_at t read side rest (takes p event) (then ∷ events) t quiet.1 (same_time t) onward more)
+  where
+    onward : Read read t (takes p event) side (all_at t (then ∷ events) ++ rest)
+    onward full = by (reads (subst (λ (v : TcpValue). free_in v ≡ 0) (quiet.0.socket side) full)).1 where
+      by : Reads side event ⊎ IsReadBy (since +ℤ pos read) side (all_at t (then ∷ events) ++ rest)
+          → IsReadBy (t +ℤ pos read) side (all_at t (then ∷ events) ++ rest)
+      by (inl is) = absurd (quiet.0.reads side is)
+      by (inr on) = read_later (since +ℤ pos read) (t +ℤ pos read) side (all_at t (then ∷ events) ++ rest) (more_time since t read later) on
+
+-- MOMENTS, AND WHAT GOES
+
+pub clocked_at : (t : ℤ) (rest : Course) (events : List PairEvent) (since : ℤ) → AllAre (IsAt t) events → since ≤ℤ t → IsClocked (upon since t events) rest
+    → IsClocked since (all_at t events ++ rest)
+clocked_at t rest [] since at later more = more
+clocked_at t rest (event ∷ []) since at later more = (later, (at.0, more))
+clocked_at t rest (event ∷ then ∷ events) since at later more =
+    (later, (at.0, clocked_at t rest (then ∷ events) t at.1 (same_time t) more))
+
+pub taken_at : (t : ℤ) (rest : Course) (events : List PairEvent) → AllAre IsTaken events → AreTaken rest → AreTaken (all_at t events ++ rest)
+taken_at t rest [] taken more = more
+taken_at t rest (event ∷ events) taken more = (taken.0, taken_at t rest events taken.1 more)
+
+pub events_at : (t : ℤ) (rest : Course) (events more : List PairEvent) → events_of rest ≡ more → events_of (all_at t events ++ rest) ≡ events ++ more
+events_at t rest [] more e = e
+events_at t rest (event ∷ events) more e = (λ i. event ∷ events_at t rest events more e i)

@@ -1,0 +1,302 @@
+-- What a move says of its events.
+use Rattle.std.proofs.Common.{◌≡◌, ◌≢◌, ◌⊎◌, inl, inr, ℕ, ◌==◌, ◌<◌, max, ℤ, int_le, Bool, true, false, if◌then◌else◌, List, [], ◌∷◌, ◌++◌, length}
+use Rattle.std.proofs.Common.{map, Some, slice_get, refl, sym, ap, ◌∙◌, subst, eq-eqb, arith}
+use Rattle.std.proofs.lemmas.Bool.Decides.{eqb_tells}
+use Rattle.std.proofs.lemmas.Int.{ints}
+use Rattle.std.proofs.lemmas.List.{length-map}
+use Rattle.ip_wire.specs.Ip.{source_of, destination_of}
+use Rattle.ip_wire.specs.IpRepr.{IpRepr}
+use Rattle.ip_wire.specs.TcpHeader.{TcpHeader}
+use Rattle.sockets.specs.Context.{ContextValue}
+use Rattle.tcp_control.specs.Offsets.{past_by}
+use Rattle.tcp_model.specs.Offers.{offer_of}
+use Rattle.tcp_model.specs.Segments.{segment_len}
+use Rattle.tcp_model.specs.Value.{TcpValue, free_in}
+use Rattle.tcp_tie.specs.Host.{Made, made_of}
+use Rattle.tcp_tie.specs.Pair.Sides.{at}
+use Rattle.tcp_tie.specs.Pair.Sides as Sides
+use Rattle.tcp_tie.specs.Pair.Values.{PairValue}
+use Rattle.tcp_tie.specs.declared.pair.event.PairEvent.{PairEvent}
+use Rattle.tcp_tie.specs.declared.pair.event.PairEvent.TheVariants as Ev
+use Rattle.tcp_tie.specs.declared.pair.event.SentSegment.{SentSegment}
+use Rattle.tcp_tie.specs.declared.pair.event.Side as Pairs
+use Rattle.tcp_tie.specs.declared.pair.event.Side.TheVariants as Of
+use Rattle.tcp_progress.specs.Clocks.{comes_stale}
+use Rattle.tcp_progress.specs.Course.{Asks, IsAt, IsHeard, IsHeardWith, IsTaken}
+use Rattle.tcp_progress.specs.Pair.{mtu_of, next_sent, socket_of}
+use Rattle.tcp_progress.specs.Readers.{Reads}
+use Rattle.tcp_progress.specs.Rounds.{takes}
+use Rattle.lan.specs.declared.at_link.history.event.Side.{Side}
+use Rattle.lan.specs.Worlds.AtLink.Call as Call
+use Rattle.lan.specs.Worlds.AtLink.Call.{SocketCall}
+use Rattle.lan.specs.Worlds.AtLink.Happening.{IsNumbered, called_by, clock_to, events_of_move, goes, if_here, sent_in}
+use Rattle.lan.specs.Worlds.AtLink.History.{opening}
+use Rattle.lan.specs.Worlds.AtLink.Kinds.{other}
+use Rattle.lan.specs.Worlds.AtLink.Moves.{May, Move}
+use Rattle.lan.specs.Worlds.AtLink.Moves.Move.{Invokes, Passes, Offers, Gives, Takes, Receives, Resets, Changes}
+use Rattle.lan.specs.Worlds.AtLink.Paired.{Seat, Shows, made_by, side_in}
+use Rattle.lan.specs.Worlds.AtLink.Parties.{Net, party, socket_at}
+use Rattle.lan.specs.Worlds.AtLink.Parties.Socket.{Tcp}
+use Rattle.lan.proofs.Worlds.AtLink.Exchange.{same_tcp}
+use Rattle.lan.proofs.Worlds.AtLink.Places.{some_is}
+use Rattle.lan.proofs.Worlds.AtLink.Paired.Parts.{back_in}
+use Rattle.lan.proofs.Worlds.AtLink.Paired.Wires.{get_mapped, sent_same}
+use Rattle.stack_laws.proofs.Blocks.{AllAre, AreQuiet, IsQuiet, OfLast}
+use Rattle.stack_laws.specs.Progress.Moving.{IsAtMoment, IsHeardAt, IsHeardBy, IsLetGo, IsReadAt, IsAskedAt}
+
+-- A CLOCK THAT GOES ON
+
+pub clock_socket : (p : PairValue) (side d : Pairs.Side) (m : ℤ) → socket_of (takes p (Ev.Clock side m)) d ≡ socket_of p d
+clock_socket p Of.A Of.A m = refl
+clock_socket p Of.A Of.B m = refl
+clock_socket p Of.B Of.A m = refl
+clock_socket p Of.B Of.B m = refl
+
+clock_mtu : (p : PairValue) (side d : Pairs.Side) (m : ℤ) → mtu_of (takes p (Ev.Clock side m)) d ≡ mtu_of p d
+clock_mtu p Of.A Of.A m = refl
+clock_mtu p Of.A Of.B m = refl
+clock_mtu p Of.B Of.A m = refl
+clock_mtu p Of.B Of.B m = refl
+
+clock_sent : (p : PairValue) (side d : Pairs.Side) (m : ℤ) → (at (takes p (Ev.Clock side m)).sides d).sent ≡ (at p.sides d).sent
+clock_sent p Of.A Of.A m = refl
+clock_sent p Of.A Of.B m = refl
+clock_sent p Of.B Of.A m = refl
+clock_sent p Of.B Of.B m = refl
+
+pub clock_quiet : (p : PairValue) (side : Pairs.Side) (m : ℤ) → IsQuiet p (Ev.Clock side m)
+clock_quiet p side m = record {
+  socket = λ d. clock_socket p side d m;
+  mtu = λ d. clock_mtu p side d m;
+  sent = λ d. ap (λ (xs : List SentSegment). length xs) (clock_sent p side d m);
+  asks = λ d never. never;
+  reads = λ d never. never;
+}
+
+-- THE EVENTS OF A MOVE
+
+-- one event, or none
+abbrev IsShort : List PairEvent → Type 0
+IsShort events = (events ≡ []) ⊎ ((event : PairEvent) × (events ≡ event ∷ []))
+
+called_short : (side : Pairs.Side) (call : SocketCall) → IsShort (called_by side call)
+called_short side (Call.Listen port) = inr (_, refl)
+called_short side (Call.Connect remote port) = inr (_, refl)
+called_short side (Call.Send bytes) = inr (_, refl)
+called_short side (Call.Recv limit) = inr (_, refl)
+called_short side Call.Close = inr (_, refl)
+called_short side Call.Abort = inr (_, refl)
+called_short side (Call.Set setting) = inr (_, refl)
+called_short side Call.State = inl refl
+called_short side (Call.Bind port) = inl refl
+called_short side (Call.Ident ident) = inl refl
+called_short side (Call.SendTo remote bytes) = inl refl
+called_short side (Call.SendIcmp remote bytes) = inl refl
+called_short side (Call.SendRaw bytes) = inl refl
+called_short side (Call.RecvFrom limit) = inl refl
+
+led_quiet : (p : PairValue) (side : Pairs.Side) (m : ℤ) (t : Bool) (events : List PairEvent) → IsShort events
+    → AreQuiet p ((if t then [] else Ev.Clock side m ∷ []) ++ events)
+led_quiet p side m t events (inl none) =
+    subst (λ (xs : List PairEvent). AreQuiet p ((if t then [] else Ev.Clock side m ∷ []) ++ xs)) (sym none) (by t) where
+      by : (u : Bool) → AreQuiet p ((if u then [] else Ev.Clock side m ∷ []) ++ [])
+      by true = tt
+      by false = tt
+led_quiet p side m t events (inr one) =
+    subst (λ (xs : List PairEvent). AreQuiet p ((if t then [] else Ev.Clock side m ∷ []) ++ xs)) (sym one.1) (by t) where
+      by : (u : Bool) → AreQuiet p ((if u then [] else Ev.Clock side m ∷ []) ++ one.0 ∷ [])
+      by true = tt
+      by false = (clock_quiet p side m, tt)
+
+here_quiet : (p : PairValue) (at place : ℕ) (events : List PairEvent) → AreQuiet p events → AreQuiet p (if_here at place events)
+here_quiet p at place events quiet = by (at == place) where
+  by : (t : Bool) → AreQuiet p (if t then events else [])
+  by true = quiet
+  by false = tt
+
+pub move_quiet : (p : PairValue) (place : ℕ) (last : ℤ) (side : Side) (number : ℕ) (move : Move) → AreQuiet p (events_of_move place last side number move)
+move_quiet p place last side number (Invokes at cx old entry call new) =
+    here_quiet p at place (clock_to (side_in side) last cx.moment ++ called_by (side_in side) call)
+    (led_quiet p (side_in side) cx.moment (int_le cx.moment last) (called_by (side_in side) call) (called_short (side_in side) call))
+move_quiet p place last side number (Passes entry) = tt
+move_quiet p place last side number (Offers at cx v from sent) = here_quiet p at place (Ev.Offer (side_in side) cx.moment (goes (offer_of cx v).socket.offered sent) ∷ []) tt
+move_quiet p place last side number (Gives at cx v answer v' sent) = tt
+move_quiet p place last side number (Takes at cx v ip header bytes) =
+    here_quiet p at place (clock_to (side_in side) last cx.moment ++ Ev.Deliver (side_in (other side)) number ∷ [])
+    (led_quiet p (side_in side) cx.moment (int_le cx.moment last) (Ev.Deliver (side_in (other side)) number ∷ []) (inr (_, refl)))
+move_quiet p place last side number (Receives at cx v ip udp bytes) = tt
+move_quiet p place last side number (Resets x) = tt
+move_quiet p place last side number (Changes at old new) = tt
+
+-- MOMENTS
+
+all_append : (IsSo : PairEvent → Type 0) (xs ys : List PairEvent) → AllAre IsSo xs → AllAre IsSo ys → AllAre IsSo (xs ++ ys)
+all_append IsSo [] ys some more = more
+all_append IsSo (x ∷ xs) ys some more = (some.0, all_append IsSo xs ys some.1 more)
+
+all_here : (IsSo : PairEvent → Type 0) (at place : ℕ) (events : List PairEvent) → (at ≡ place → AllAre IsSo events) → AllAre IsSo (if_here at place events)
+all_here IsSo at place events all = by (eqb_tells at place) where
+  by : (((at == place) ≡ true) × (at ≡ place)) ⊎ (((at == place) ≡ false) × (at ≢ place)) → AllAre IsSo (if_here at place events)
+  by (inl same) = subst (λ (t : Bool). AllAre IsSo (if t then events else [])) (sym same.0) (all same.1)
+  by (inr apart) = subst (λ (t : Bool). AllAre IsSo (if t then events else [])) (sym apart.0) tt
+
+no_later : (m last : ℤ) → m ≡ last → int_le m last ≡ false → ⊥
+no_later m last same e = first_of (omega (arith, ints, same), grind (arith, ints))
+
+clock_at : (now last m : ℤ) (side : Pairs.Side) → (m ≡ last) ⊎ (m ≡ now) → AllAre (IsAt now) (clock_to side last m)
+clock_at now last m side is = by (int_le m last) refl is where
+  by : (t : Bool) → int_le m last ≡ t → (m ≡ last) ⊎ (m ≡ now) → AllAre (IsAt now) (if t then [] else Ev.Clock side m ∷ [])
+  by true e is = tt
+  by false e (inl same) = absurd (no_later m last same e)
+  by false e (inr now_is) = (now_is, tt)
+
+-- a call has no moment, and isn't an offer
+called_all : (IsSo : PairEvent → Type 0) (side : Pairs.Side) (call : SocketCall) → ((endpoint : _) → IsSo (Ev.Listen side endpoint))
+    → ((remote local : _) → IsSo (Ev.Connect side remote local)) → ((bytes : _) → IsSo (Ev.Send side bytes)) → ((n : _) → IsSo (Ev.Recv side n))
+    → IsSo (Ev.Close side) → IsSo (Ev.Abort side) → ((setting : _) → IsSo (Ev.TcpSetting side setting)) → AllAre IsSo (called_by side call)
+called_all IsSo side (Call.Listen port) listen connect send recv close abort set = (listen _, tt)
+called_all IsSo side (Call.Connect remote port) listen connect send recv close abort set = (connect _ _, tt)
+called_all IsSo side (Call.Send bytes) listen connect send recv close abort set = (send _, tt)
+called_all IsSo side (Call.Recv limit) listen connect send recv close abort set = (recv _, tt)
+called_all IsSo side Call.Close listen connect send recv close abort set = (close, tt)
+called_all IsSo side Call.Abort listen connect send recv close abort set = (abort, tt)
+called_all IsSo side (Call.Set setting) listen connect send recv close abort set = (set _, tt)
+called_all IsSo side Call.State listen connect send recv close abort set = tt
+called_all IsSo side (Call.Bind port) listen connect send recv close abort set = tt
+called_all IsSo side (Call.Ident ident) listen connect send recv close abort set = tt
+called_all IsSo side (Call.SendTo remote bytes) listen connect send recv close abort set = tt
+called_all IsSo side (Call.SendIcmp remote bytes) listen connect send recv close abort set = tt
+called_all IsSo side (Call.SendRaw bytes) listen connect send recv close abort set = tt
+called_all IsSo side (Call.RecvFrom limit) listen connect send recv close abort set = tt
+
+pub move_at : (now last : ℤ) (place : ℕ) (side : Side) (number : ℕ) (move : Move) → IsAtMoment now last place move
+    → AllAre (IsAt now) (events_of_move place last side number move)
+move_at now last place side number (Invokes at cx old entry call new) is =
+    all_here (IsAt now) at place (clock_to (side_in side) last cx.moment ++ called_by (side_in side) call)
+    (λ same.
+    all_append (IsAt now) (clock_to (side_in side) last cx.moment) (called_by (side_in side) call) (clock_at now last cx.moment (side_in side) (is same))
+    (called_all (IsAt now) (side_in side) call (λ _. tt) (λ _ _. tt) (λ _. tt) (λ _. tt) tt tt (λ _. tt)))
+move_at now last place side number (Passes entry) is = tt
+move_at now last place side number (Offers at cx v from sent) is =
+    all_here (IsAt now) at place (Ev.Offer (side_in side) cx.moment (goes (offer_of cx v).socket.offered sent) ∷ []) (λ same. (is same, tt))
+move_at now last place side number (Gives at cx v answer v' sent) is = tt
+move_at now last place side number (Takes at cx v ip header bytes) is =
+    all_here (IsAt now) at place (clock_to (side_in side) last cx.moment ++ Ev.Deliver (side_in (other side)) number ∷ [])
+    (λ same.
+    all_append (IsAt now) (clock_to (side_in side) last cx.moment) (Ev.Deliver (side_in (other side)) number ∷ [])
+    (clock_at now last cx.moment (side_in side) (inr (is same))) (tt, tt))
+move_at now last place side number (Receives at cx v ip udp bytes) is = tt
+move_at now last place side number (Resets x) is = tt
+move_at now last place side number (Changes at old new) is = tt
+
+clock_taken : (t : Bool) (side : Pairs.Side) (m : ℤ) → AllAre IsTaken (if t then [] else Ev.Clock side m ∷ [])
+clock_taken true side m = tt
+clock_taken false side m = (tt, tt)
+
+pub move_taken : (last : ℤ) (place : ℕ) (side : Side) (number : ℕ) (move : Move) → IsLetGo place move
+    → AllAre IsTaken (events_of_move place last side number move)
+move_taken last place side number (Invokes at cx old entry call new) is =
+    all_here IsTaken at place (clock_to (side_in side) last cx.moment ++ called_by (side_in side) call)
+    (λ same.
+    all_append IsTaken (clock_to (side_in side) last cx.moment) (called_by (side_in side) call) (clock_taken (int_le cx.moment last) (side_in side) cx.moment)
+    (called_all IsTaken (side_in side) call (λ _. tt) (λ _ _. tt) (λ _. tt) (λ _. tt) tt tt (λ _. tt)))
+move_taken last place side number (Passes entry) is = tt
+move_taken last place side number (Offers at cx v from sent) is =
+    all_here IsTaken at place (Ev.Offer (side_in side) cx.moment (goes (offer_of cx v).socket.offered sent) ∷ []) (λ same. (is same, tt))
+move_taken last place side number (Gives at cx v answer v' sent) is = tt
+move_taken last place side number (Takes at cx v ip header bytes) is =
+    all_here IsTaken at place (clock_to (side_in side) last cx.moment ++ Ev.Deliver (side_in (other side)) number ∷ [])
+    (λ same.
+    all_append IsTaken (clock_to (side_in side) last cx.moment) (Ev.Deliver (side_in (other side)) number ∷ [])
+    (clock_taken (int_le cx.moment last) (side_in side) cx.moment) (tt, tt))
+move_taken last place side number (Receives at cx v ip udp bytes) is = tt
+move_taken last place side number (Resets x) is = tt
+move_taken last place side number (Changes at old new) is = tt
+
+-- THE LAST EVENT
+
+last_here : (IsSo : PairValue → PairEvent → Type 0) (p : PairValue) (at place : ℕ) (events : List PairEvent) → at ≡ place → OfLast IsSo p events
+    → OfLast IsSo p (if_here at place events)
+last_here IsSo p at place events same is = subst (λ (t : Bool). OfLast IsSo p (if t then events else [])) (sym (eq-eqb at place same)) is
+
+last_led : (IsSo : PairValue → PairEvent → Type 0) (p : PairValue) (side : Pairs.Side) (m : ℤ) (event : PairEvent) (t : Bool) → IsSo p event
+    → IsSo (takes p (Ev.Clock side m)) event → OfLast IsSo p ((if t then [] else Ev.Clock side m ∷ []) ++ event ∷ [])
+last_led IsSo p side m event true now later = now
+last_led IsSo p side m event false now later = later
+
+pub move_asks : (p : PairValue) (place : ℕ) (last : ℤ) (side : Side) (number : ℕ) (move : Move) → IsAskedAt place move
+    → OfLast (λ q e. Asks (side_in side) e) p (events_of_move place last side number move)
+move_asks p place last side number (Offers at cx v from sent) is =
+    last_here (λ q e. Asks (side_in side) e) p at place (Ev.Offer (side_in side) cx.moment (goes (offer_of cx v).socket.offered sent) ∷ []) is.0
+    (subst (λ (b : Bool). Asks (side_in side) (Ev.Offer (side_in side) cx.moment b)) (sym is.1) refl)
+move_asks p place last side number move is = absurd is
+
+pub move_reads : (p : PairValue) (place : ℕ) (last : ℤ) (side : Side) (number : ℕ) (move : Move) → IsReadAt place move
+    → OfLast (λ q e. Reads (side_in side) e) p (events_of_move place last side number move)
+move_reads p place last side number (Invokes at cx old entry (Call.Recv limit) new) is =
+    last_here (λ q e. Reads (side_in side) e) p at place (clock_to (side_in side) last cx.moment ++ Ev.Recv (side_in side) limit ∷ []) is.0
+    (last_led (λ q e. Reads (side_in side) e) p (side_in side) cx.moment (Ev.Recv (side_in side) limit) (int_le cx.moment last) (refl, is.1) (refl, is.1))
+move_reads p place last side number move is = absurd is
+
+module _ (names : List ℕ → Bool) (seats : Side → Seat) (clocks : Side → ℤ) (net : Net) (p : PairValue) (sh : Shows seats clocks net p) (r : Side) where
+  -- what the other socket sent, as its host made it
+  pub sent_there : (side : Side) → sent_in seats net side ≡ map made_by (at p.sides (side_in side)).sent
+  sent_there side =
+      sent_same (opening net.history side (seats side).place) (party net side).segments (at p.sides (side_in side)).sent (sh.sent side)
+
+  pub next_same : (side : Side) → length (sent_in seats net side) ≡ next_sent p (side_in side)
+  next_same side =
+      ap (λ (xs : List Made). length xs) (sent_there side) ∙ length-map (at p.sides (side_in side)).sent made_by
+
+  module _ (cx : ContextValue) (v : TcpValue) (ip : IpRepr) (header : TcpHeader) (bytes : List ℕ) (number : ℕ)
+      (is : socket_at (party net r) (seats r).place ≡ Some (Tcp v))
+      (numbered : slice_get (sent_in seats net (other r)) number ≡ Some (made_of (source_of ip) (destination_of ip) header bytes))
+      (heard : IsHeardBy v header bytes) where
+    socket_is : socket_of p (side_in r) ≡ v
+    socket_is = same_tcp (socket_of p (side_in r)) v (some_is (Tcp (socket_of p (side_in r))) (Tcp v) (sym (sh.socket r) ∙ is))
+
+    -- what came is the segment of this number
+    came : (z : SentSegment) → slice_get (at p.sides (side_in (other r))).sent number ≡ Some z
+        → made_by z ≡ made_of (source_of ip) (destination_of ip) header bytes
+    came z got =
+        some_is (made_by z) (made_of (source_of ip) (destination_of ip) header bytes)
+        (sym (get_mapped made_by (at p.sides (side_in (other r))).sent number z got)
+        ∙ ap (λ (xs : List Made). slice_get xs number) (sym (sent_there (other r))) ∙ numbered)
+
+    -- by the socket of a pair that shows it, too
+    hears : (w : TcpValue) (z : SentSegment) → w ≡ v → made_by z ≡ made_of (source_of ip) (destination_of ip) header bytes
+        → (comes_stale w.block z.segment.options.timestamp ≡ false)
+        × (segment_len z.segment (length z.bytes) ≡ 0 → past_by w.block.receiver.next z.segment.seq_number < max 1 (free_in w))
+    hears w z same one =
+        let head : z.segment ≡ header = ap (λ (m : Made). m.header) one in
+        let text : z.bytes ≡ bytes = ap (λ (m : Made). m.bytes) one in (
+          (λ i. comes_stale (same i).block (head i).options.timestamp) ∙ heard.fresh,
+          λ none.
+              subst (λ (u : TcpValue). past_by u.block.receiver.next z.segment.seq_number < max 1 (free_in u)) (sym same)
+              (subst (λ (h : TcpHeader). past_by v.block.receiver.next h.seq_number < max 1 (free_in v)) (sym head)
+              (heard.inside (sym (λ i. segment_len (head i) (length (text i))) ∙ none))),
+        )
+
+    heard_with : (q : PairValue) → (at q.sides (side_in (other r))).sent ≡ (at p.sides (side_in (other r))).sent → socket_of q (side_in r) ≡ socket_of p (side_in r)
+        → IsHeardWith q (side_in (other r)) number (Ev.Deliver (side_in (other r)) number)
+    heard_with q sent socket = (refl, λ z got. by z (ap (λ (xs : List SentSegment). slice_get xs number) (sym sent) ∙ got)) where
+      by : (z : SentSegment) → slice_get (at p.sides (side_in (other r))).sent number ≡ Some z → IsHeard q (side_in (other r)) z
+      by z got =
+          let it = hears (socket_of q (Sides.other (side_in (other r)))) z (ap (λ (d : Pairs.Side). socket_of q d) (back_in r) ∙ socket ∙ socket_is) (came z got) in
+          record { fresh = it.0; inside = it.1 }
+
+    pub hears_last : (last : ℤ) → OfLast (λ q e. IsHeardWith q (side_in (other r)) number e) p
+        (clock_to (side_in r) last cx.moment ++ Ev.Deliver (side_in (other r)) number ∷ [])
+    hears_last last =
+        last_led (λ q e. IsHeardWith q (side_in (other r)) number e) p (side_in r) cx.moment (Ev.Deliver (side_in (other r)) number) (int_le cx.moment last)
+        (heard_with p refl refl)
+        (heard_with (takes p (Ev.Clock (side_in r) cx.moment)) (clock_sent p (side_in r) (side_in (other r)) cx.moment)
+        (clock_socket p (side_in r) (side_in r) cx.moment))
+
+  pub move_hears : (number : ℕ) (last : ℤ) (move : Move) → May names net r move → IsNumbered (seats r).place (sent_in seats net (other r)) number move
+      → IsHeardAt (seats r).place move → OfLast (λ q e. IsHeardWith q (side_in (other r)) number e) p (events_of_move (seats r).place last r number move)
+  move_hears number last (Takes at cx v ip header bytes) may numbered heard =
+      last_here (λ q e. IsHeardWith q (side_in (other r)) number e) p at (seats r).place
+      (clock_to (side_in r) last cx.moment ++ Ev.Deliver (side_in (other r)) number ∷ []) heard.0
+      (hears_last cx v ip header bytes number (subst (λ (i : ℕ). socket_at (party net r) i ≡ Some (Tcp v)) heard.0 may.0) (numbered heard.0) heard.1 last)
+  move_hears number last move may numbered heard = absurd heard

@@ -1,0 +1,193 @@
+-- Partners whose hosts move in time go on.
+use Rattle.std.proofs.Common.{◌≡◌, ◌⊎◌, inl, inr, ℕ, suc, ◌+◌, ◌-◌, ◌*◌, ◌<◌, ◌≤◌, not, ℤ, pos, ◌+ℤ◌, ◌≤ℤ◌, ◌<ℤ◌, Bool, true, List, [], ◌∷◌, ◌++◌, None}
+use Rattle.std.proofs.Common.{refl, sym, ap, ◌∙◌, subst}
+use Rattle.tcp_model.specs.Value.{TcpValue, room_of}
+use Rattle.tcp_tie.specs.Pair.Sides.{at}
+use Rattle.tcp_tie.specs.Pair.Sides as Sides
+use Rattle.tcp_tie.specs.Pair.Steps.{Steps, if_so, refusal}
+use Rattle.tcp_tie.specs.Pair.Values.{PairValue}
+use Rattle.tcp_tie.specs.declared.pair.event.PairEvent.{PairEvent}
+use Rattle.tcp_tie.specs.declared.pair.event.PairEvent.TheVariants.{Clock}
+use Rattle.tcp_tie.specs.declared.pair.event.PairRefused.TheVariants as Why
+use Rattle.tcp_tie.specs.declared.pair.event.Side as Pairs
+use Rattle.tcp_tie.specs.declared.pair.event.Side.TheVariants as Of
+use Rattle.tcp_progress.proofs.CourseThrough.{through_whatever}
+use Rattle.tcp_progress.proofs.CourseWindows.{gets_on}
+use Rattle.tcp_progress.specs.Arrivals.{is_synchronized}
+use Rattle.tcp_progress.specs.Course.{end_of, events_of}
+use Rattle.tcp_progress.specs.Exchange.{IsOpen, left_of}
+use Rattle.tcp_progress.specs.Onward.{HasRisen, acked_in}
+use Rattle.tcp_progress.specs.Pair.{HasStream, left_in, socket_of}
+use Rattle.tcp_progress.specs.Reached.{IsReached}
+use Rattle.tcp_progress.specs.Readers.{ReadsWithin, whole_span}
+use Rattle.tcp_progress.specs.Rounds.{takes}
+use Rattle.tcp_progress.specs.Sent.{taken_in}
+use Rattle.tcp_progress.specs.Spans.{IsThroughAmong, most_reached, reached_in}
+use Rattle.lan.specs.declared.at_link.history.event.Side.{Side}
+use Rattle.lan.specs.declared.at_link.history.event.Side.TheVariants.{A, B}
+use Rattle.lan.specs.Worlds.AtLink.Happening.{AreNumbered, Happening, events_of_moves, steps_of}
+use Rattle.lan.specs.Worlds.AtLink.Kinds.{other}
+use Rattle.lan.specs.Worlds.AtLink.Moves.{IsRun, Step, run}
+use Rattle.lan.specs.Worlds.AtLink.PacketsSafe.{IsFreshNet}
+use Rattle.lan.specs.Worlds.AtLink.Paired.{AreHosted, HaveKeys, Seat, Shows, clocks_in, side_in}
+use Rattle.lan.specs.Worlds.AtLink.Parties.{Net}
+use Rattle.lan.specs.Worlds.AtLink.Partners.{ArePartners}
+use Rattle.lan.proofs.Worlds.AtLink.Paired.Parts.{other_in}
+use Rattle.lan.proofs.Worlds.AtLink.Paired.Runs.{ShowsAlong, partners_go_on_by, partners_have_numbers, partners_show_along, steps_append}
+use Rattle.lan.proofs.Worlds.AtLink.Paired.Shown.{may_be}
+use Rattle.stack_laws.proofs.Moved.{asked_first, asks_course, clocked_course, clocks_upto, course_to, delivers_course, end_course, events_course, moment_in}
+use Rattle.stack_laws.proofs.Moved.{read_first, reads_course, same_moment, shows_first, taken_course, to_pair}
+use Rattle.stack_laws.proofs.MovedEvents.{clock_socket}
+use Rattle.stack_laws.specs.Progress.Moving.{GoOnByMoves, GoOnBySteps, MoveInTime, end_in, moves_of}
+use Rattle.stack_laws.specs.Progress.Partners.{IsInTime}
+
+-- THE CLOCK OF A HOST GOES ON
+
+module _ (who : Pairs.Side) (q : PairValue) (m : ℤ) where
+  left_same : (d : Pairs.Side) → left_in (takes q (Clock who m)) d ≡ left_in q d
+  left_same d = ap (λ (v : TcpValue). left_of v) (clock_socket q who d m)
+
+-- what was written, taken and acknowledged stays
+acked_same : (who d : Pairs.Side) (q : PairValue) (m : ℤ) → acked_in (takes q (Clock who m)) d ≡ acked_in q d
+acked_same Of.A Of.A q m = refl
+acked_same Of.A Of.B q m = refl
+acked_same Of.B Of.A q m = refl
+acked_same Of.B Of.B q m = refl
+
+taken_same : (who d : Pairs.Side) (q : PairValue) (m : ℤ) → taken_in (takes q (Clock who m)) d ≡ taken_in q d
+taken_same Of.A Of.A q m = refl
+taken_same Of.A Of.B q m = refl
+taken_same Of.B Of.A q m = refl
+taken_same Of.B Of.B q m = refl
+
+most_same : (who : Pairs.Side) (q : PairValue) (m : ℤ) → most_reached (takes q (Clock who m)) ≡ most_reached q
+most_same Of.A q m = refl
+most_same Of.B q m = refl
+
+risen_before : (who d : Pairs.Side) (p q : PairValue) (m : ℤ) → HasRisen p (takes q (Clock who m)) d → HasRisen p q d
+risen_before who d p q m (inl acked) = inl (subst (λ (n : ℕ). acked_in p d < n) (acked_same who d q m) acked)
+risen_before who d p q m (inr taken) = inr (subst (λ (n : ℕ). taken_in p d < n) (taken_same who d q m) taken)
+
+through_before : (who d : Pairs.Side) (m : ℤ) (p : PairValue) (events : List PairEvent) → IsThroughAmong p d (events ++ Clock who m ∷ [])
+    → IsThroughAmong p d events
+through_before who d m p [] (inl is) = is
+through_before who d m p [] (inr is) = sym (left_same who p m d) ∙ is
+through_before who d m p (event ∷ events) (inl is) = inl is
+through_before who d m p (event ∷ events) (inr on) = inr (through_before who d m (takes p event) events on)
+
+module _ (names : List ℕ → Bool) (seats : Side → Seat) (clocks end : Side → ℤ) (net : Net) (side : Side) (moves : List (ℤ × Happening)) (p q : PairValue)
+    (along : ShowsAlong seats clocks net p (moves_of moves)) (is : IsRun names net (steps_of (moves_of moves)))
+    (numbered : AreNumbered seats net (moves_of moves)) (last : Shows seats end (run net (steps_of (moves_of moves))) q)
+    (ends : end ≡ clocks_in seats clocks (steps_of (moves_of moves))) (steps : Steps p (events_of_moves seats clocks (moves_of moves)) q)
+    (read wait delay : ℕ) (now : ℤ) (t : MoveInTime read wait delay now seats clocks net side moves) where
+  abbrev who : Pairs.Side
+  who = side_in side
+
+  abbrev course : List (ℤ × PairEvent)
+  course = course_to seats who clocks now moves
+
+  -- the pair when the clock of the side's host has gone on to the last moment
+  abbrev r : PairValue
+  r = takes q (Clock who (end_in now moves))
+
+  first : Shows seats clocks net p
+  first = shows_first seats who clocks net p (moves_of moves) along
+
+  synchronized : (d : Side) → is_synchronized (socket_of r (side_in d)).block.state ≡ true
+  synchronized d =
+      subst (λ (v : TcpValue). is_synchronized v.block.state ≡ true) (sym (clock_socket q who (side_in d) (end_in now moves)))
+      (to_pair seats who end (run net (steps_of (moves_of moves))) q last d (λ v. is_synchronized v.block.state ≡ true) (t.stay d))
+
+  goes_on : refusal q (Clock who (end_in now moves)) ≡ None
+  goes_on =
+      ap (λ (b : Bool). if_so (not b) Why.Moment)
+      (may_be (at q.sides who).moment (end_in now moves) (moment_in seats who moves clocks now t.moments)
+      (subst (λ (m : ℤ). m ≤ℤ end_in now moves) (sym (last.clock side ∙ ap (λ (c : Side → ℤ). c side) ends))
+      (clocks_upto seats who moves clocks now side t.clock t.moments)))
+
+  pub lead : Steps p (events_of course) r
+  lead =
+      subst (λ (events : List PairEvent). Steps p events r) (sym (events_course seats who moves clocks now))
+      (steps_append p q r (events_of_moves seats clocks (moves_of moves)) (Clock who (end_in now moves) ∷ []) steps (goes_on, refl))
+
+  pub in_time : IsInTime read wait delay now p r who course
+  in_time = record {
+    opened = (
+      to_pair seats who clocks net p first A (λ v. IsOpen v.block) (t.opened A),
+      to_pair seats who clocks net p first B (λ v. IsOpen v.block) (t.opened B),
+    );
+    stay = (synchronized A, synchronized B);
+    goes = record {
+      clock = subst (λ (m : ℤ). m ≤ℤ now) (sym (first.clock side)) t.clock;
+      clocked = clocked_course seats who moves clocks now now (same_moment now) t.moments;
+      asks = asks_course seats who wait moves clocks net p now now along (same_moment now) t.moments (asked_first seats who wait now net moves t.asked) t.asked;
+      taken = taken_course seats who moves clocks now t.let_go;
+      delivers = delivers_course seats who names delay moves clocks net p now along is numbered t.heard;
+      stream = subst HasStream (sym (first.past side)) t.stream;
+      room = subst (λ (d : Pairs.Side). 1 ≤ room_of (socket_of p d).received) (other_in side)
+          (to_pair seats who clocks net p first (other side) (λ v. 1 ≤ room_of v.received) t.room);
+    };
+    reads = subst (λ (d : Pairs.Side). ReadsWithin read now p d course) (other_in side)
+        (reads_course seats who read (other side) moves clocks net p now now along (same_moment now) t.moments
+        (read_first seats who read now net (other side) moves t.read_in_time) t.read_in_time);
+  }
+
+  until : (m : ℤ) → m <ℤ end_in now moves → m <ℤ end_of now course
+  until m lasts = subst (λ (e : ℤ). m <ℤ e) (sym (end_course seats who moves clocks now now)) lasts
+
+  pub rises : IsReached p → 1 ≤ left_in p who → (now +ℤ pos (whole_span read wait delay p who)) <ℤ end_in now moves
+      → HasRisen p q who ⊎ HasRisen p q (side_in (other side))
+  rises reached owes lasts =
+      by (gets_on p r who course read wait delay now reached in_time.opened lead in_time.stay owes in_time.goes in_time.reads
+      (until (now +ℤ pos (whole_span read wait delay p who)) lasts))
+    where
+      by : HasRisen p r who ⊎ HasRisen p r (Sides.other who) → HasRisen p q who ⊎ HasRisen p q (side_in (other side))
+      by (inl own) = inl (risen_before who who p q (end_in now moves) own)
+      by (inr others) =
+          inr (risen_before who (side_in (other side)) p q (end_in now moves) (subst (λ (d : Pairs.Side). HasRisen p r d) (sym (other_in side)) others))
+
+  pub through : IsReached p → (now +ℤ pos (suc (most_reached q - reached_in p) * (2 * whole_span read wait delay p who))) <ℤ end_in now moves
+      → IsThroughAmong p who (events_of_moves seats clocks (moves_of moves))
+  through reached lasts =
+      through_before who who (end_in now moves) p (events_of_moves seats clocks (moves_of moves))
+      (subst (IsThroughAmong p who) (events_course seats who moves clocks now)
+      (through_whatever p r who course read wait delay now reached in_time.opened lead in_time.stay in_time.goes in_time.reads
+      (subst (λ (n : ℕ). (now +ℤ pos (suc (n - reached_in p) * (2 * whole_span read wait delay p who))) <ℤ end_of now course)
+      (sym (most_same who q (end_in now moves)))
+      (until (now +ℤ pos (suc (most_reached q - reached_in p) * (2 * whole_span read wait delay p who))) lasts))))
+
+pub go_on : (starts : Side → ℕ → ℕ) (names : List ℕ → Bool) (first : Net) (before : List Step) (moves : List (ℤ × Happening)) (seats : Side → Seat)
+    (clocks : Side → ℤ) (p : PairValue) → IsFreshNet starts first → IsRun names first before → IsReached p → Shows seats clocks (run first before) p
+    → IsRun names (run first before) (steps_of (moves_of moves)) → AreHosted seats clocks (run first before) (steps_of (moves_of moves)) → HaveKeys seats
+    → ArePartners (run (run first before) (steps_of (moves_of moves))).history A (seats A).place (seats B).place
+    → AreNumbered seats (run first before) (moves_of moves) → GoOnByMoves seats clocks (run first before) p moves
+go_on starts names first before moves seats clocks p fresh was reached shows is hosted keys partners numbered =
+    let net : Net = run first before in
+    let on = partners_go_on_by starts names first before (moves_of moves) seats clocks p fresh was is hosted keys partners numbered shows in
+    let along = partners_show_along starts names first before (moves_of moves) seats clocks p fresh was is hosted keys partners numbered shows in
+    record {
+      on = on;
+      rises = λ side read wait delay now t owes lasts.
+          rises names seats clocks _ net side moves p on.next along is numbered on.shows refl on.steps read wait delay now t reached owes lasts;
+      through = λ side read wait delay now t lasts.
+          through names seats clocks _ net side moves p on.next along is numbered on.shows refl on.steps read wait delay now t reached lasts;
+    }
+
+-- whatever moments and numbers the moves of a run are given
+pub by_steps : (starts : Side → ℕ → ℕ) (names : List ℕ → Bool) (first : Net) (before steps : List Step) (seats : Side → Seat) (clocks : Side → ℤ)
+    (p : PairValue) → IsFreshNet starts first → IsRun names first before → IsReached p → Shows seats clocks (run first before) p
+    → IsRun names (run first before) steps → AreHosted seats clocks (run first before) steps → HaveKeys seats
+    → ArePartners (run (run first before) steps).history A (seats A).place (seats B).place
+    → GoOnBySteps seats clocks (run first before) (run (run first before) steps) p
+by_steps starts names first before steps seats clocks p fresh was reached shows is hosted keys partners =
+    let net : Net = run first before in
+    record {
+      steps = steps;
+      lead = refl;
+      hosted = hosted;
+      numbers = partners_have_numbers starts names first before steps seats clocks p fresh was is hosted keys partners shows;
+      by_moves = λ moves are numbered.
+          go_on starts names first before moves seats clocks p fresh was reached shows (subst (λ (xs : List Step). IsRun names net xs) (sym are) is)
+          (subst (λ (xs : List Step). AreHosted seats clocks net xs) (sym are) hosted) keys
+          (subst (λ (xs : List Step). ArePartners (run net xs).history A (seats A).place (seats B).place) (sym are) partners) numbered;
+    }
