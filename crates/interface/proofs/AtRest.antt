@@ -1,6 +1,6 @@
 -- Sockets at rest: none waits for a neighbour or for a moment, and a turn leaves each as it is.
 use Rattle.std.proofs.Common.{◌≡◌, ◌⊎◌, inl, inr, ℕ, zero, suc, ◌+◌, ◌-◌, ◌<◌, ◌≤◌, leb, ℤ, int_lt, Bool, true, false, if◌then◌else◌, ◌&&◌, ◌||◌, List, [], ◌∷◌, ◌++◌, length, take, drop, get_or, Option, Some, None, is_none, refl, sym, ap, ◌∙◌, subst, arith}
-use Rattle.std.specs.Prelude.{slice_get, position}
+use Rattle.std.specs.Prelude.{slice_get, position, is_some}
 use Rattle.std.specs.List.{fold, list_any}
 use Rattle.std.proofs.Math.Seq.{drop-cons}
 use Rattle.std.proofs.lemmas.Bool.{or_parts, and_parts}
@@ -21,13 +21,15 @@ use Rattle.interface_ingress.specs.Offer.TheVariants as Offer
 use Rattle.interface_ingress.specs.PollAt.TheVariants as At
 use Rattle.interface_ingress.specs.Socket.{Socket}
 use Rattle.interface_ingress.specs.Sockets.{Offers, poll_of}
-use Rattle.sockets.specs.Idle.{is_idle}
-use Rattle.interface.specs.Awaited.{is_marked}
+use Rattle.interface_egress.specs.Meta.{poll_by, freed, waits_by}
+use Rattle.interface_ingress.specs.PollAt.{PollAt}
+use Rattle.interface_ingress.specs.Idle.{is_idle}
+use Rattle.interface.specs.Awaited.{is_marked, is_marked_at}
 use Rattle.interface.specs.Host.{Sender}
-use Rattle.interface.specs.Instant.{earlier, place_instant, soonest}
-use Rattle.interface.specs.Pass.{Pass, Passed}
+use Rattle.interface.specs.Instant.{earlier, place_instant, soonest, item_instant, own_instant, instant_of, instant_in, earlier_than}
+use Rattle.interface.specs.Pass.{Pass, Passed, passed}
 use Rattle.interface.specs.Remote.{context_for, end_by, remote_of}
-use Rattle.interface.specs.Turn.{PlaceTurns}
+use Rattle.interface.specs.Turn.{PlaceTurns, ItemTurns, is_heard, let_through, Asks, TurnsIf}
 use Rattle.interface.specs.declared.turn.Turned.TheVariants as Turn
 
 -- FROM PLACE TO PLACE
@@ -109,10 +111,11 @@ IsAtRest place = is_at_rest is_idle place ≡ true
 
 pub unmarked_at_rest : (place : SocketStorage Socket) → IsAtRest place → is_marked place ≡ false
 unmarked_at_rest place rests = by place.inner rests where
-  waits : (w : Option Waiting) → is_none w ≡ true → Rattle.std.specs.Prelude.is_some w ≡ false
+  waits : (w : Option Waiting) → is_none w ≡ true → is_some w ≡ false
   waits None none = refl
   waits (Some w) none = absurd (cc)
-  by : (o : Option (Item Socket)) → is_item_at_rest is_idle o ≡ true → Rattle.interface.specs.Awaited.is_marked_at o ≡ false
+
+  by : (o : Option (Item Socket)) → is_item_at_rest is_idle o ≡ true → is_marked_at o ≡ false
   by None rests = refl
   by (Some item) rests = waits item.meta.waiting (and_parts _ _ rests).0
 
@@ -136,31 +139,31 @@ end_of_none : (i : InnerValue) (remote : Option IpAddress) → some_count i.path
 end_of_none i None none = refl
 end_of_none i (Some address) none = no_end i.paths address i.moment none
 
-poll_unmarked : (w : Option Waiting) (heard : Bool) (moment : ℤ) (poll : Rattle.interface_ingress.specs.PollAt.PollAt) → is_none w ≡ true
-    → Rattle.interface_egress.specs.Meta.poll_by w poll heard moment ≡ poll
+poll_unmarked : (w : Option Waiting) (heard : Bool) (moment : ℤ) (poll : PollAt) → is_none w ≡ true
+    → poll_by w poll heard moment ≡ poll
 poll_unmarked None heard moment poll none = refl
 poll_unmarked (Some w) heard moment poll none = absurd (cc)
 
 module _ (instant : (cx : ContextValue) (s : Socket) → is_idle s ≡ true → poll_of cx s ≡ At.Ingress) (i : InnerValue)
     (none : some_count i.paths i.moment ≡ false) where
-  item_waits : (item : Item Socket) → is_item_at_rest is_idle (Some item) ≡ true → Rattle.interface.specs.Instant.item_instant i item ≡ None
+  item_waits : (item : Item Socket) → is_item_at_rest is_idle (Some item) ≡ true → item_instant i item ≡ None
   item_waits item rests =
       let parts = and_parts _ _ rests in
-      let own : Rattle.interface.specs.Instant.own_instant i item ≡ None =
-      ap Rattle.interface.specs.Instant.instant_of
-      (poll_unmarked item.meta.waiting (Rattle.interface.specs.Turn.is_heard i item.meta) i.moment (poll_of (context_for i item.socket) item.socket) parts.0
+      let own : own_instant i item ≡ None =
+      ap instant_of
+      (poll_unmarked item.meta.waiting (is_heard i item.meta) i.moment (poll_of (context_for i item.socket) item.socket) parts.0
       ∙ instant (context_for i item.socket) item.socket parts.1) in
-      ap (λ (e : Option ℤ). earlier e (Rattle.interface.specs.Instant.own_instant i item)) (end_of_none i (remote_of item.socket) none) ∙ own
+      ap (λ (e : Option ℤ). earlier e (own_instant i item)) (end_of_none i (remote_of item.socket) none) ∙ own
 
   place_waits : (place : SocketStorage Socket) → IsAtRest place → place_instant i place ≡ None
   place_waits place rests = by place.inner rests where
-    by : (o : Option (Item Socket)) → is_item_at_rest is_idle o ≡ true → Rattle.interface.specs.Instant.instant_in i o ≡ None
+    by : (o : Option (Item Socket)) → is_item_at_rest is_idle o ≡ true → instant_in i o ≡ None
     by None rests = refl
     by (Some item) rests = item_waits item rests
 
   earlier_none : (best other : Option ℤ) → other ≡ None → earlier best other ≡ best
   earlier_none None other is = is
-  earlier_none (Some a) other is = ap (Rattle.interface.specs.Instant.earlier_than a) is
+  earlier_none (Some a) other is = ap (earlier_than a) is
 
   pub no_sooner : (best : Option ℤ) (place : SocketStorage Socket) → IsAtRest place → earlier best (place_instant i place) ≡ best
   no_sooner best place rests = earlier_none best (place_instant i place) (place_waits place rests)
@@ -178,13 +181,14 @@ module _ (instant : (cx : ContextValue) (s : Socket) → is_idle s ≡ true → 
       let past : fold sooner best (drop from ps) ≡ fold sooner best (drop (n + from) ps) =
       fold_past sooner IsAtRest no_sooner n from best ps (λ k x s less. rest k x s (omega (arith, less, sum))) in
       past ∙ (ap (λ k. fold sooner best (drop k ps)) sum ∙ (here (place_or_end ps at) ∙ next)) where
-    next : fold sooner (sooner best place) (drop (suc at) ps) ≡ fold sooner (sooner best place) (drop (at + 1) ps)
-    next = let one : suc at ≡ at + 1 = omega arith in ap (λ k. fold sooner (sooner best place) (drop k ps)) one
-    here : PlaceOrEnd ps at → fold sooner best (drop at ps) ≡ fold sooner (sooner best place) (drop (suc at) ps)
-    here (inl h) =
-        let same : h.0 ≡ place = cc in
-        ap (fold sooner best) h.1 ∙ ap (λ x. fold sooner (sooner best x) (drop (suc at) ps)) same
-    here (inr h) = absurd (none_some (sym h.3 ∙ is))
+        next : fold sooner (sooner best place) (drop (suc at) ps) ≡ fold sooner (sooner best place) (drop (at + 1) ps)
+        next = let one : suc at ≡ at + 1 = omega arith in ap (λ k. fold sooner (sooner best place) (drop k ps)) one
+
+        here : PlaceOrEnd ps at → fold sooner best (drop at ps) ≡ fold sooner (sooner best place) (drop (suc at) ps)
+        here (inl h) =
+            let same : h.0 ≡ place = cc in
+            ap (fold sooner best) h.1 ∙ ap (λ x. fold sooner (sooner best x) (drop (suc at) ps)) same
+        here (inr h) = absurd (none_some (sym h.3 ∙ is))
 
   pub soonest_last : (best : Option ℤ) (ps : List (SocketStorage Socket)) (from : ℕ)
       → ((k : ℕ) (x : SocketStorage Socket) → from ≤ k → slice_get ps k ≡ Some x → IsAtRest x) → fold sooner best (drop from ps) ≡ best
@@ -223,16 +227,17 @@ none_at_all ps from before rest = any_none is_marked ps (λ k x got. by k x got 
 
 -- TURNS THAT CHANGE NOTHING
 
-unfreed : (m : Meta) (heard : Bool) → is_none m.waiting ≡ true → Rattle.interface_egress.specs.Meta.freed m heard ≡ m
+unfreed : (m : Meta) (heard : Bool) → is_none m.waiting ≡ true → freed m heard ≡ m
 unfreed m heard none = by heard (same m.waiting none) where
   same : (w : Option Waiting) → is_none w ≡ true → w ≡ None
   same None is = refl
   same (Some w) is = absurd (cc)
-  by : (b : Bool) → m.waiting ≡ None → Rattle.interface_egress.specs.Meta.freed m b ≡ m
+
+  by : (b : Bool) → m.waiting ≡ None → freed m b ≡ m
   by false is = refl
   by true is = ap (λ (w : Option Waiting). record { waiting = w }) (sym is)
 
-unwaiting : (w : Option Waiting) (heard : Bool) (moment : ℤ) → is_none w ≡ true → Rattle.interface_egress.specs.Meta.waits_by w heard moment ≡ false
+unwaiting : (w : Option Waiting) (heard : Bool) (moment : ℤ) → is_none w ≡ true → waits_by w heard moment ≡ false
 unwaiting None heard moment none = refl
 unwaiting (Some w) heard moment none = absurd (cc)
 
@@ -243,24 +248,27 @@ or_false false = refl
 module _ (offers : (cx : ContextValue) (s : Socket) → is_idle s ≡ true → Offers cx s (Offer.Silent false) s) {D : Type 0}
     (moves : D → Move → D → Type 0) (turn : Option IpAddress) (s : Sender D) where
   abbrev Turned : Option (Item Socket) → Option (Item Socket) → Type 0
-  Turned o o' = Rattle.interface.specs.Turn.ItemTurns moves turn o s (Turn.Next false) s o'
+  Turned o o' = ItemTurns moves turn o s (Turn.Next false) s o'
 
   item_turns : (item : Item Socket) → is_item_at_rest is_idle (Some item) ≡ true → Turned (Some item) (Some item)
   item_turns item rests =
       let parts = and_parts _ _ rests in
-      let heard : Bool = Rattle.interface.specs.Turn.is_heard s.inner item.meta in
+      let heard : Bool = is_heard s.inner item.meta in
       let none : item.meta.waiting ≡ None = marked item.meta.waiting parts.0 in
-      let through : Rattle.interface.specs.Turn.let_through s.inner item ≡ item =
+      let through : let_through s.inner item ≡ item =
       ap (λ (m : Meta). record item { meta = m }) (unfreed item.meta heard parts.0) in
-      let asked : Rattle.interface.specs.Turn.Asks moves turn s item (Turn.Next false) s item =
-      (Offer.Silent false, item.socket, offers (context_for s.inner item.socket) item.socket parts.1,
-        (refl, refl, ap (λ (w : Option Waiting). record item { meta = record { waiting = w } }) none)) in
-      subst (λ (b : Bool). Rattle.interface.specs.Turn.TurnsIf moves turn b s (Rattle.interface.specs.Turn.let_through s.inner item) (Turn.Next false) s item)
+      let asked : Asks moves turn s item (Turn.Next false) s item = (
+        Offer.Silent false,
+        item.socket,
+        offers (context_for s.inner item.socket) item.socket parts.1,
+        (refl, refl, ap (λ (w : Option Waiting). record item { meta = record { waiting = w } }) none),
+      ) in
+      subst (λ (b : Bool). TurnsIf moves turn b s (let_through s.inner item) (Turn.Next false) s item)
       (sym (unwaiting item.meta.waiting heard s.inner.moment parts.0))
-      (subst (λ (x : Item Socket). Rattle.interface.specs.Turn.Asks moves turn s x (Turn.Next false) s item) (sym through) asked) where
-    marked : (w : Option Waiting) → is_none w ≡ true → w ≡ None
-    marked None is = refl
-    marked (Some w) is = absurd (cc)
+      (subst (λ (x : Item Socket). Asks moves turn s x (Turn.Next false) s item) (sym through) asked) where
+        marked : (w : Option Waiting) → is_none w ≡ true → w ≡ None
+        marked None is = refl
+        marked (Some w) is = absurd (cc)
 
   place_turns : (place : SocketStorage Socket) → IsAtRest place → PlaceTurns moves turn s place (Turn.Next false) s place
   place_turns place rests = by place.inner rests where
@@ -272,9 +280,14 @@ module _ (offers : (cx : ContextValue) (s : Socket) → is_idle s ≡ true → O
       → PlaceOrEnd ps from → Pass moves turn s (take (suc from) ps) changed (drop (suc from) ps) e → Pass moves turn s (take from ps) changed (drop from ps) e
   pass_one ps from changed e rest (inl h) went =
       subst (λ (xs : List (SocketStorage Socket)). Pass moves turn s (take from ps) changed xs e) (sym h.1)
-      (inl (false, s, h.0, place_turns h.0 (rest h.0 h.2),
+      (inl (
+        false,
+        s,
+        h.0,
+        place_turns h.0 (rest h.0 h.2),
         subst (λ (b : Bool). Pass moves turn s (take from ps ++ h.0 ∷ []) b (drop (suc from) ps) e) (sym (or_false changed))
-        (subst (λ (xs : List (SocketStorage Socket)). Pass moves turn s xs changed (drop (suc from) ps) e) h.3 went)))
+            (subst (λ (xs : List (SocketStorage Socket)). Pass moves turn s xs changed (drop (suc from) ps) e) h.3 went),
+      ))
   pass_one ps from changed e rest (inr h) went =
       subst (λ (xs : List (SocketStorage Socket)). Pass moves turn s xs changed (drop from ps) e) h.2
       (subst (λ (xs : List (SocketStorage Socket)). Pass moves turn s (take (suc from) ps) changed xs e) (h.1 ∙ sym h.0) went)
@@ -308,10 +321,10 @@ module _ (offers : (cx : ContextValue) (s : Socket) → is_idle s ≡ true → O
 
   pub pass_end : (from : ℕ) (ps : List (SocketStorage Socket)) (changed : Bool)
       → ((k : ℕ) (x : SocketStorage Socket) → from ≤ k → slice_get ps k ≡ Some x → IsAtRest x)
-      → Pass moves turn s (take from ps) changed (drop from ps) (Rattle.interface.specs.Pass.passed s ps changed)
+      → Pass moves turn s (take from ps) changed (drop from ps) (passed s ps changed)
   pass_end from ps changed rest =
-      let e : Passed D = Rattle.interface.specs.Pass.passed s ps changed in
+      let e : Passed D = passed s ps changed in
       let n : ℕ = length ps + from in
       pass_past (length ps) from ps changed e (λ k x since less. rest k x since)
       (subst (λ (xs : List (SocketStorage Socket)). Pass moves turn s (take n ps) changed xs e) (sym (nothing_left ps n (omega arith)))
-      (ap (λ (xs : List (SocketStorage Socket)). Rattle.interface.specs.Pass.passed s xs changed) (sym (all_of ps n (omega arith)))))
+      (ap (λ (xs : List (SocketStorage Socket)). passed s xs changed) (sym (all_of ps n (omega arith)))))

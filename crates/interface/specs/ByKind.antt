@@ -4,7 +4,7 @@ use Rattle.std.specs.Borrow.{Fml, RattleType, MutBor, LendsSo}
 use Rattle.interface_egress.specs.Set.{places, is_fixed, set_at}
 use Rattle.interface_egress.specs.declared.socket_set.SocketSet.{SocketSet}
 use Rattle.interface_egress.specs.contracts.socket_set.SocketSet.{the_row as set_row}
-use Rattle.sockets.specs.contracts.idle.SocketIdle.TheImpl.{ghosts as idle}
+use Rattle.interface_ingress.specs.IdleRow.{ghosts as idle}
 use Rattle.interface_ingress.specs.Socket.{Socket}
 use Rattle.interface_ingress.specs.SocketRow.{the_row as socket_row}
 

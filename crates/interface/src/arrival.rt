@@ -9,8 +9,8 @@ ghost use Rattle.interface.specs.Ingress.{is_read, is_question, Replied, Receive
 
 use crate::awaited::turn_of;
 use interface_egress::{
-    ArpFrame, Fragmenter, InterfaceInner, PacketAssemblerSet, Places, Plan, dispatch_by,
-    plan_for, send,
+    ArpFrame, Fragmenter, InterfaceInner, PacketAssemblerSet, Places, Plan, dispatch_by, plan_for,
+    send,
 };
 use interface_ingress::laws::same_settings;
 use interface_ingress::widths::fields_have_widths;

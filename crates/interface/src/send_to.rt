@@ -14,7 +14,8 @@ ghost use Rattle.interface.specs.Turn.{is_waiting};
 use crate::host::Interface;
 use crate::turn::{is_done, is_waiting, leave_straight};
 use interface_egress::{
-    Fragmenter, InterfaceInner, Item, Meta, Places, SocketHandle, SocketSet, SocketStorage, straight_to,
+    Fragmenter, InterfaceInner, Item, Meta, Places, SocketHandle, SocketSet, SocketStorage,
+    straight_to,
 };
 use interface_ingress::udp::{SendError, UdpMetadata};
 use interface_ingress::widths::fields_have_widths;
@@ -114,14 +115,7 @@ fn send_in<D: Device>(
     if at >= places.len() {
         return Err(SendToError::NotUdp);
     }
-    send_at(
-        inner,
-        fragmenter,
-        device,
-        places.place_mut(at),
-        bytes,
-        to,
-    )
+    send_at(inner, fragmenter, device, places.place_mut(at), bytes, to)
 }
 
 /// Sends a datagram from the socket at a place, if there is one.

@@ -76,8 +76,10 @@ module _ {T : Type 0} (idle : T → Bool) (marks : List Bool) (ps : List (Socket
   next_busy_of from None is = by (leb_tells (suc (max from (length marks))) (length ps)) where
     within : (i : ℕ) (place : SocketStorage T) → from ≤ i → i < max from (length marks) → slice_get ps i ≡ Some place → is_at_rest idle place ≡ true
     within i place since less got = rests.0 i place (off marks i (omega (arith, since, less)) (is i since)) got
+
     Chosen : Bool → Type 0
     Chosen b = IsNextBusy idle from ps (if b then Some (max from (length marks)) else None)
+
     by : ((nat_lt (max from (length marks)) (length ps) ≡ true) × (suc (max from (length marks)) ≤ length ps))
         ⊎ ((nat_lt (max from (length marks)) (length ps) ≡ false) × (length ps < suc (max from (length marks))))
         → Chosen (nat_lt (max from (length marks)) (length ps))

@@ -44,6 +44,8 @@ pub use Rattle.ipv6_headers.specs.declared.headers.Behind
 pub use Rattle.ipv6_headers.specs.declared.headers.Problem
 pub use Rattle.sockets.specs.Context
 pub use Rattle.sockets.specs.SocketValue
+pub use Rattle.sockets.specs.Idle
+pub use Rattle.sockets.specs.contracts.idle.SocketIdle.TheImpl as IdleRow
 pub use Rattle.sockets.specs.LentPacket
 pub use Rattle.sockets.specs.Udp
 pub use Rattle.sockets.specs.declared.udp.UdpMetadata

@@ -57,12 +57,7 @@ fn noted(entry: &Entry, state: Option<State>, now: u64) -> Entry
 }
 
 /// Sees how far the socket of an entry came, unless it is its user's.
-fn note(
-    places: &mut Places<Socket>,
-    entry: &mut Entry,
-    endpoint: IpListenEndpoint,
-    now: u64,
-)
+fn note(places: &mut Places<Socket>, entry: &mut Entry, endpoint: IpListenEndpoint, now: u64)
     ensures { NotesOne endpoint now places.old entry.old places.new entry.new }
 {
     let at = entry.handle.place();
