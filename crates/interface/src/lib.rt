@@ -25,8 +25,8 @@ pub use host::Interface;
 pub use instant::{earlier, place_instant, poll_instant};
 pub use interface_egress::{
     AddError, Config, Handles, HardwareAddrError, InterfaceInner, Item, Iter, IterMut, Meta,
-    NewError, NotUnicast, Route, RouteTableFull, Routes, SocketHandle, SocketSet, SocketStorage,
-    TABLE_ROOM,
+    NewError, NotUnicast, Places, Route, RouteTableFull, Routes, SocketHandle, SocketSet,
+    SocketStorage, TABLE_ROOM,
 };
 pub use listener::Listener;
 pub use passes::pass;

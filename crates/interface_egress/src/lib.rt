@@ -15,6 +15,7 @@ mod socket_set;
 mod straight;
 mod way_out;
 
+pub use agenda::Idle;
 pub use announcement::announce;
 pub use fill::{Fill, send};
 pub use fragmenter::{Cut, Fragmenter, Left, MAX_CUT_PAYLOAD};

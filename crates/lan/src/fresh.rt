@@ -87,7 +87,7 @@ fn has_mtu(host: &Host) -> bool
 fn has_buffers(host: &Host) -> bool
     ensures { result ≡ of_each has_buffers host.now }
 {
-    host.sockets.sockets.as_slice().iter().all(has_buffers_at)
+    host.sockets.places.as_slice().iter().all(has_buffers_at)
 }
 
 fn has_buffers_at(place: &SocketStorage<Socket>) -> bool
@@ -123,7 +123,7 @@ fn is_fresh(host: &Host) -> bool
 fn are_unused(sockets: &SocketSet<Socket>) -> bool
     ensures { result ≡ list_all (of_place is_unused) (places sockets.now) }
 {
-    sockets.sockets.as_slice().iter().all(is_unused_at)
+    sockets.places.as_slice().iter().all(is_unused_at)
 }
 
 fn is_unused_at(place: &SocketStorage<Socket>) -> bool

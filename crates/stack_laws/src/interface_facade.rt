@@ -67,7 +67,7 @@ pub fn passes_on_handle(
 }
 
 /// The sockets of a host.
-pub fn passes_on_set<T>(set: &interface_egress::SocketSet<T>) -> &interface::SocketSet<T>
+pub fn passes_on_set<T: Idle>(set: &interface_egress::SocketSet<T>) -> &interface::SocketSet<T>
     ensures { result.now ≡ set.now }
 {
     set

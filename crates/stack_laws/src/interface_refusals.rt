@@ -56,7 +56,7 @@ pub fn set_ipv6_router(
 }
 
 /// A socket goes to the first free place. A full set, or want of memory, hands it back.
-pub fn add_socket<T: Drop>(
+pub fn add_socket<T: Drop + Idle>(
     sockets: &mut SocketSet<T>,
     socket: T,
 ) -> Result<SocketHandle, AddError<T>>
@@ -67,7 +67,7 @@ pub fn add_socket<T: Drop>(
 }
 
 /// A socket is taken out where there is one.
-pub fn remove_socket<T: Drop>(sockets: &mut SocketSet<T>, handle: SocketHandle) -> Option<T>
+pub fn remove_socket<T: Drop + Idle>(sockets: &mut SocketSet<T>, handle: SocketHandle) -> Option<T>
     ensures value { result ≡ socket_at (places sockets.old) handle.0 }
     ensures after { places sockets.new ≡ slice_set (places sockets.old) handle.0 free }
     ensures fixed { is_fixed sockets.new ≡ is_fixed sockets.old }

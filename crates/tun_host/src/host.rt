@@ -24,7 +24,7 @@ use crate::site::Session;
 use crate::sockets_of::{ROOM, sockets};
 use crate::tally::Tally;
 use interface::{Interface, Listener, PollResult, SocketSet, SocketStorage};
-use net_base::{Instant, ManagedSlice};
+use net_base::Instant;
 use sockets::Socket;
 use std::alloc::{AllocError, Global};
 use std::io::Write;
@@ -138,32 +138,16 @@ fn serve_set(
     ensures echoes { echoes.new ≡ record echoes.old { entries = echoes.new.entries } }
     ensures pages { pages.new ≡ record pages.old { entries = pages.new.entries } }
 {
-    match &mut sockets.sockets {
-        ManagedSlice::Fixed(places) => {
-            serve_places(
-                places.as_mut_slice(),
-                echo_sessions,
-                sessions,
-                echoes,
-                pages,
-                counts,
-                buffer,
-                request,
-            )
-        }
-        ManagedSlice::Owned(places) => {
-            serve_places(
-                places.as_mut_slice(),
-                echo_sessions,
-                sessions,
-                echoes,
-                pages,
-                counts,
-                buffer,
-                request,
-            )
-        }
-    }
+    serve_places(
+        sockets.places.all_mut(),
+        echo_sessions,
+        sessions,
+        echoes,
+        pages,
+        counts,
+        buffer,
+        request,
+    )
 }
 
 /// The listeners see how far their sockets came, and the services do what can be done now.

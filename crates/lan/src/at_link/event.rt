@@ -74,7 +74,7 @@ fn socket_count(places: &[SocketStorage<Socket>]) -> usize
 fn may_run_out(host: &Host, records: &Records, budget: u16) -> bool
     ensures { result ≡ may_run_out host.now records.now budget }
 {
-    let each = socket_count(host.sockets.sockets.as_slice()).saturating_add(1);
+    let each = socket_count(host.sockets.places.as_slice()).saturating_add(1);
     let most = each.saturating_mul(budget as usize);
     records.numbered.saturating_add(most) >= 1 << 16
 }

@@ -9,27 +9,26 @@ use crate::at_link::answer::Taken;
 use crate::at_link::calls::call;
 use crate::at_link::history::Event;
 use crate::at_link::host::Host;
-use interface::{Interface, SocketSet, SocketStorage};
-use net_base::ManagedSlice;
+use interface::{Interface, Places, SocketSet};
 use sockets::Socket;
 use std::alloc::{AllocError, Global};
 
 fn call_in(
     alloc: Global,
     interface: &mut Interface,
-    places: &mut Vec<SocketStorage<Socket>>,
+    places: &mut Places<Socket>,
     place: usize,
     event: &Event,
 ) -> Result<Option<Taken>, AllocError>
     ensures done { IfOk result
-        (λ said. PlaceCalls interface.old places.old.items place (kind_of event.now) (slice_get places.old.items place) said interface.new places.new.items) }
+        (λ said. PlaceCalls interface.old places.old place (kind_of event.now) (slice_get places.old place) said interface.new places.new) }
     ensures interface { OnErr result (interface.new ≡ interface.old) }
-    ensures places { OnErr result (places.new.items ≡ places.old.items) }
+    ensures places { OnErr result (places.new ≡ places.old) }
 {
     if place >= places.len() {
         return Ok(None);
     }
-    match &mut places[place].inner {
+    match &mut places.place_mut(place).inner {
         Some(item) => call(alloc, &mut item.socket, interface, event),
         None => Ok(None),
     }
@@ -49,10 +48,7 @@ fn call_at(
     ensures interface { OnErr result (interface.new ≡ interface.old) }
     ensures places { OnErr result (places sockets.new ≡ places sockets.old) }
 {
-    match &mut sockets.sockets {
-        ManagedSlice::Fixed(places) => call_in(alloc, interface, places, place, event),
-        ManagedSlice::Owned(places) => call_in(alloc, interface, places, place, event),
-    }
+    call_in(alloc, interface, &mut sockets.places, place, event)
 }
 
 impl Host {

@@ -33,7 +33,7 @@ fn longest_frame(interface: &Interface) -> usize
 fn most_sends(budget: u16, sockets: &SocketSet<Socket>) -> Option<usize>
     ensures { IfSome result (λ count. count ≡ budget * (length (places sockets.now) + 2)) }
 {
-    let each = sockets.sockets.as_slice().len().checked_add(2)?;
+    let each = sockets.places.as_slice().len().checked_add(2)?;
     each.checked_mul(budget as usize)
 }
 

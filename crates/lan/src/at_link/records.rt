@@ -38,7 +38,7 @@ impl Records {
     pub fn new(alloc: Global, host: &Host) -> Result<Records, AllocError>
         ensures { IfOk result (λ r. r ≡ record { records = replicate (length host.now.places) no_record; numbered = 0 }) }
     {
-        let count = host.sockets.sockets.as_slice().len();
+        let count = host.sockets.places.as_slice().len();
         Ok(Records {
             sockets: vec![in alloc; SocketRecord::NONE; count]?,
             numbered: 0,

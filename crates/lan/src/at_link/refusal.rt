@@ -28,7 +28,7 @@ use sockets::{Context, Socket};
 pub fn kind_at(sockets: &SocketSet<Socket>, place: usize) -> Option<SocketKind>
     ensures { result ≡ kind_at (places sockets.now) place }
 {
-    match sockets.sockets.as_slice().get(place) {
+    match sockets.places.as_slice().get(place) {
         Some(storage) => match &storage.inner {
             Some(item) => kind_of_socket(&item.socket),
             None => None,

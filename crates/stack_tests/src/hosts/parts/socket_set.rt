@@ -1,10 +1,24 @@
 //! Tests of a host's set of sockets.
 use crate::cases::{Goes, Life, all_live, first_wrong};
-use interface_egress::{AddError, SocketHandle, SocketSet, SocketStorage};
+use interface_egress::{AddError, Idle, SocketHandle, SocketSet, SocketStorage};
 use net_base::ManagedSlice;
 use std::alloc::Global;
 
-type Sockets = SocketSet<u32>;
+/// A socket that is a number, and never idle.
+#[derive(Clone, Copy, Debug, Drop)]
+struct Number(u32);
+
+impl Idle for Number {
+    ghost use Rattle.std.specs.Prelude.{false};
+
+    ghost idle = { λ number. false };
+
+    fn is_idle(&self) -> bool {
+        false
+    }
+}
+
+type Sockets = SocketSet<Number>;
 
 /// A call of a set, and what it must answer. A handle is named by its place.
 enum Step {
@@ -46,16 +60,23 @@ impl Goes<Sockets> for Step {
             Adds(socket, place) => adds(set, *socket, *place),
             Refuses(socket) => refuses(set, *socket),
             Prints(socket, text) => prints(alloc, set, *socket, text),
-            Removes(place, socket) => set.remove(SocketHandle::at(*place)) == *socket,
+            Removes(place, socket) => number_in(set.remove(SocketHandle::at(*place))) == *socket,
             _ => reads(set, self) || writes(set, self),
         }
+    }
+}
+
+fn number_in(socket: Option<Number>) -> Option<u32> {
+    match socket {
+        Some(Number(number)) => Some(number),
+        None => None,
     }
 }
 
 /// Whether the step is one that reads, and goes as it says.
 fn reads(set: &Sockets, step: &Step) -> bool {
     match step {
-        Holds(place, socket) => set.get(SocketHandle::at(*place)).copied() == *socket,
+        Holds(place, socket) => number_in(set.get(SocketHandle::at(*place)).copied()) == *socket,
         Lists(sockets) => lists(set, sockets),
         Handles(places) => has_handles(set, places),
         HasDigits(digits) => digits_of(set) == *digits,
@@ -79,21 +100,21 @@ fn writes(set: &mut Sockets, step: &Step) -> bool {
 }
 
 fn adds(set: &mut Sockets, socket: u32, place: usize) -> bool {
-    match set.add(socket) {
+    match set.add(Number(socket)) {
         Ok(handle) => handle == SocketHandle::at(place) && handle.place() == place,
         Err(_) => false,
     }
 }
 
 fn refuses(set: &mut Sockets, socket: u32) -> bool {
-    match set.add(socket) {
-        Err(AddError::Full(back)) => back == socket,
+    match set.add(Number(socket)) {
+        Err(AddError::Full(back)) => back.0 == socket,
         _ => false,
     }
 }
 
 fn prints(alloc: Global, set: &mut Sockets, socket: u32, text: &str) -> bool {
-    let Ok(handle) = set.add(socket) else {
+    let Ok(handle) = set.add(Number(socket)) else {
         return false;
     };
     match handle.to_string(alloc) {
@@ -106,7 +127,7 @@ fn lists(set: &Sockets, wanted: &[(usize, u32)]) -> bool {
     let mut found = set.iter();
     for (place, socket) in wanted {
         match found.next() {
-            Some((handle, lent)) if handle == SocketHandle::at(*place) && *lent == *socket => {}
+            Some((handle, lent)) if handle == SocketHandle::at(*place) && lent.0 == *socket => {}
             _ => return false,
         }
     }
@@ -128,7 +149,7 @@ fn adds_ten(set: &mut Sockets) -> usize {
     let mut places = 0usize;
     for (handle, socket) in set.iter_mut() {
         places = places.wrapping_mul(10).wrapping_add(handle.place());
-        *socket = socket.wrapping_add(10);
+        socket.0 = socket.0.wrapping_add(10);
     }
     places
 }
@@ -136,7 +157,7 @@ fn adds_ten(set: &mut Sockets) -> usize {
 /// Puts its place into each socket.
 fn write_places(set: &mut Sockets) {
     for (handle, socket) in set {
-        *socket = u32::try_from(handle.place()).unwrap_or(9);
+        socket.0 = u32::try_from(handle.place()).unwrap_or(9);
     }
 }
 
@@ -144,7 +165,7 @@ fn write_places(set: &mut Sockets) {
 fn digits_of(set: &Sockets) -> u32 {
     let mut sum = 0u32;
     for (_, socket) in set {
-        sum = sum.wrapping_mul(10).wrapping_add(*socket);
+        sum = sum.wrapping_mul(10).wrapping_add(socket.0);
     }
     sum
 }
@@ -152,8 +173,8 @@ fn digits_of(set: &Sockets) -> u32 {
 /// Whether the socket of this place is the one number. It becomes the other.
 fn lends(set: &mut Sockets, place: usize, from: u32, to: u32) -> bool {
     match set.get_mut(SocketHandle::at(place)) {
-        Some(socket) if *socket == from => {
-            *socket = to;
+        Some(socket) if socket.0 == from => {
+            socket.0 = to;
             true
         }
         _ => false,
@@ -163,8 +184,8 @@ fn lends(set: &mut Sockets, place: usize, from: u32, to: u32) -> bool {
 /// What the socket of this place was. It becomes 1.
 fn updated(set: &mut Sockets, place: usize) -> Option<u32> {
     set.update(SocketHandle::at(place), |socket| {
-        let old = *socket;
-        *socket = 1;
+        let old = socket.0;
+        socket.0 = 1;
         old
     })
 }
