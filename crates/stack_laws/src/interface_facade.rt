@@ -3,6 +3,7 @@
 ghost use Rattle.std.specs.Prelude.{◌≡◌};
 
 use interface::TABLE_ROOM;
+use interface_egress::Idle;
 
 /// Law: as many entries a table has as `interface_tables` says.
 pub fn passes_on_room()

@@ -7,7 +7,7 @@ ghost use Rattle.interface_tables.specs.Best.{first_that};
 ghost use Rattle.interface_tables.specs.Route.{is_gateway_v4, is_gateway_v6, IsGateway, has_room, IsAdded};
 ghost use Rattle.interface_egress.specs.Set.{places, is_fixed, free, free_place, socket_at, Adds};
 
-use interface_egress::{AddError, SocketHandle, SocketSet};
+use interface_egress::{AddError, Idle, SocketHandle, SocketSet};
 use interface_tables::{Route, RouteTableFull, Routes, TABLE_ROOM};
 use ip_wire::{Ipv4Address, Ipv6Address};
 
