@@ -1,6 +1,6 @@
 -- A call at a place, as an act of its host.
-use Rattle.std.proofs.Common.{◌≡◌, ℕ, true, List, Option, None, Some, refl, sym, ap, ◌∙◌, subst}
-use Rattle.std.specs.Prelude.{slice_get, slice_set}
+use Rattle.std.proofs.Common.{◌≡◌, ℕ, true, List, Option, None, Some, Result, Ok, Err, refl, sym, ap, ◌∙◌, subst}
+use Rattle.std.specs.Prelude.{slice_get, slice_set, OnErr}
 use Rattle.std.proofs.lemmas.List.{set-get_or}
 use Rattle.std.proofs.lemmas.Option.{get_or_from_slice_get}
 use Rattle.sockets.specs.Context.{ContextValue}
@@ -179,3 +179,13 @@ call_from s h h' ps ps' link i kind said t is some has calls =
     subst (λ (x : StationValue). ActsBy x kind t (of_parts h' ps' link)) is
     (call_acts (of_parts h ps link) i kind t h' ps' (subst (λ (x : StationValue). IsCall x.places i kind) (sym is) has)
     (subst (λ (o : Option Taken). PlaceCalls h ps i kind (slice_get ps i) o h' ps') some calls))
+
+-- a call that wants memory leaves the places as they were
+pub keeps_places : {A E : Type 0} (r : Result A E) (places : List (SocketStorage Socket)) (at : ℕ) (place : SocketStorage Socket) (item : Item Socket)
+    (socket : Socket) → slice_get places at ≡ Some place → place.inner ≡ Some item → OnErr r (socket ≡ item.socket)
+    → OnErr r (slice_set places at (record { inner = Some (record { meta = item.meta; socket = socket }) }) ≡ places)
+keeps_places (Ok x) places at place item socket got is kept = tt
+keeps_places (Err e) places at place item socket got is kept =
+    let same : record { inner = Some (record { meta = item.meta; socket = socket }) } ≡ place =
+    ap (λ (s : Socket). record { inner = Some (record { meta = item.meta; socket = s }) }) kept ∙ ap (λ (o : Option (Item Socket)). record { inner = o }) (sym is) in
+    ap (slice_set places at) (same ∙ sym (get_or_from_slice_get places at place place got)) ∙ set-get_or places at place
