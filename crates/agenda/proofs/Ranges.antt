@@ -1,6 +1,6 @@
 -- Marks that are set, and those that are set then.
-use Rattle.std.proofs.Common.{◌≡◌, ◌⊎◌, inl, inr, ℕ, zero, suc, ◌<◌, ◌≤◌, Bool, true, List, [], ◌∷◌, ◌++◌, length, refl, ap, arith, Some, None}
-use Rattle.std.specs.Prelude.{slice_get, slice_set}
+use Rattle.std.proofs.Common.{◌≡◌, ◌⊎◌, inl, inr, ℕ, zero, suc, ◌<◌, Bool, true, List, [], ◌∷◌, ◌++◌, length, refl, ap, arith}
+use Rattle.std.specs.Prelude.{slice_set}
 use Rattle.agenda.specs.Marks.{IsOn}
 
 next_of : (i at : ℕ) (X : Type 0) → X ⊎ (i ≡ at) → X ⊎ (suc i ≡ suc at)

@@ -12,7 +12,7 @@ IsBetween low high i = (low ≤ i) × (i < high)
 abbrev pub IsWithin : ℕ → ℕ → List Bool → Type 0
 IsWithin low high marks = (i : ℕ) → IsOn marks i → IsBetween low high i
 
--- the first place on the agenda from this one on: none before it is, or none at all
+-- the first place on the agenda from this one on, or none
 abbrev pub IsNext : ℕ → List Bool → Option ℕ → Type 0
-IsNext from marks (Some at) = (from ≤ at) × (at < length marks) × ((i : ℕ) → from ≤ i → i < at → IsOn marks i → ⊥)
+IsNext from marks (Some at) = (from ≤ at) × (at < length marks) × ((i : ℕ) → from ≤ i → i < at → IsOn marks i → ⊥) × IsOn marks at
 IsNext from marks None = (i : ℕ) → from ≤ i → IsOn marks i → ⊥
