@@ -6,6 +6,7 @@ mod common;
 mod hostile;
 mod made;
 mod replies;
+mod resting;
 pub mod streams;
 mod transfer;
 mod wire;
