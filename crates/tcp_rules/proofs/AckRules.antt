@@ -140,6 +140,7 @@ at_once_acknowledged cx ip header y = record {
   acknowledges = refl;
   bare = refl;
   plain = refl;
+  none = record { last = refl; due = refl; text = refl };
 }
 
 -- a segment with text or a FIN

@@ -23,6 +23,12 @@ pub record IsDueWithin (at : Option ℤ) (limit : ℤ) : Type 0 where
   pub due : at ≡ Some moment
   pub soon : moment ≤ℤ limit
 
+-- all that came is acknowledged, so none is due, and what comes next is counted from here on
+pub record OwesNone (b : Block) : Type 0 where
+  pub last : b.receiver.last_ack ≡ b.receiver.next
+  pub due : b.timers.ack_at ≡ None
+  pub text : b.timers.text_unacked ≡ false
+
 -- It is answered at once: a bare acknowledgement of all that came goes, past all that was sent.
 pub record IsAcknowledged (a : Arrived) : Type 0 where
   pub reply : Reply
@@ -30,6 +36,7 @@ pub record IsAcknowledged (a : Arrived) : Type 0 where
   pub acknowledges : reply.segment.ack_number ≡ Some a.socket.block.receiver.next
   pub bare : reply.segment.seq_number ≡ top a.socket.block
   pub plain : reply.segment.control ≡ Control.None
+  pub none : OwesNone a.socket.block
 
 -- nothing answers it at once, and by this moment an acknowledgement of it is due
 pub record IsOwed (a : Arrived) (limit : ℤ) : Type 0 where
