@@ -146,7 +146,7 @@ static void keep_best(double *best, double is) {
 static void show_idle(uint16_t sockets) {
     double least = 1e9;
     for (int r = 0; r < ROUNDS; r++) {
-        double is = idle(sockets, sockets > 1000 ? 500 : sockets > 100 ? 20000 : 200000);
+        double is = idle(sockets, sockets > 1000 ? 10000000 : 1000000);
         if (is < least) least = is;
     }
     printf("%5u idle sockets: %9.1f ns a poll\n", sockets, least);
