@@ -96,7 +96,7 @@ module _ (Came : ChecksumCapabilities → IpRepr → List ℕ → Type 0) (W : S
     segment_at header bytes is None at = holds
     segment_at header bytes is (Some at) there =
         let first = accepted_there ip header places at free there in
-        subst Holds (sym (changed_here (with_segment cx ip header bytes) places at free first.0))
+        subst Holds (sym (changed_here (with_segment cx ip header bytes) places at (get_or places at free) (slice_get-get_or places at free first.0)))
         (set_holds W (λ s. accepts_segment s ip header) (with_segment cx ip header bytes)
         (λ s accepts w. law.segment caps cx ip payload header bytes s came is accepts w) places at n free first.1 holds)
 

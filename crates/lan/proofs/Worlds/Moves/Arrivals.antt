@@ -255,7 +255,7 @@ module _ (names : List ℕ → Bool) (side : Side) (C : Type 0) (i0 : InnerValue
         let first = accepted_there ip header places at free is in
         let place = get_or places at free in
         subst (λ (o : Option PacketValue). Ends (sockets_of (changed_at (with_segment cx ip header bytes) (Some at) places)) o)
-        (sym (answer_here (answer_of cx ip header bytes) places at free first.0))
+        (sym (answer_here (answer_of cx ip header bytes) places at place (slice_get-get_or places at free first.0)))
         (subst (λ (qs : Places). Ends (sockets_of qs) (answer_in (answer_of cx ip header bytes) place.inner))
-        (sym (changed_here (with_segment cx ip header bytes) places at free first.0))
+        (sym (changed_here (with_segment cx ip header bytes) places at place (slice_get-get_or places at free first.0)))
         (place_takes at place.inner (first.0, refl) first.1))
