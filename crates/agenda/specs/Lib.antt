@@ -1,1 +1,4 @@
+pub mod Keys
+pub mod Links
 pub mod Marks
+pub mod Put

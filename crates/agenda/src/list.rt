@@ -1,6 +1,7 @@
 //! A mark for each place.
 ghost use Rattle.std.specs.Prelude.{◌≡◌, ◌⊎◌, ℕ, ◌+◌, ◌<◌, ◌≤◌, ◌^◌, ◌++◌, ◌∷◌, [], true, false, length, slice_set, MatchResult};
 ghost use Rattle.agenda.specs.Marks.{IsBetween, IsNext};
+ghost use Rattle.agenda.specs.Put.{put};
 
 use std::alloc::{AllocError, Global};
 use std::marker::Model;
@@ -84,6 +85,18 @@ impl Agenda {
             if at + 1 == self.high {
                 self.high = at;
             }
+        }
+    }
+
+    /// Takes a place off the agenda; the one behind the last is added so. Without memory for that nothing changes.
+    #[tactic(auto, using(crate::proofs::Puts::put_within, crate::proofs::Puts::put_behind, crate::proofs::Puts::put_beyond))]
+    pub fn rest(&mut self, at: usize)
+        ensures { (self.new ≡ put at false self.old) ⊎ (self.new ≡ self.old) }
+    {
+        if at < self.marks.len() {
+            self.take_off(at);
+        } else if at == self.marks.len() {
+            let _added = self.marks.push(false);
         }
     }
 

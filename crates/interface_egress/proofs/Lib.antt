@@ -15,3 +15,4 @@ pub mod Leaving
 pub mod GoesWhole
 pub mod Lent
 pub mod Resting
+pub mod Filing

@@ -1,68 +1,22 @@
 -- Places at rest, by the marks that are kept of them.
-use Rattle.std.proofs.Common.{◌≡◌, ◌≢◌, ◌⊎◌, inl, inr, ℕ, zero, suc, ◌+◌, ◌^◌, ◌<◌, ◌≤◌, max, nat_lt, if◌then◌else◌, Bool, true, false, List, [], ◌∷◌, ◌++◌, length, take, drop, Option, Some, None, refl, sym, ap, ◌∙◌, subst, arith}
+use Rattle.std.proofs.Common.{◌≡◌, ◌⊎◌, inl, inr, ℕ, zero, suc, ◌+◌, ◌^◌, ◌<◌, ◌≤◌, max, nat_lt, if◌then◌else◌, Bool, true, false, List, [], ◌∷◌, length, Option, Some, None, refl, sym, subst, arith}
 use Rattle.std.proofs.lemmas.Bool.Decides.{leb_tells}
-use Rattle.std.specs.Prelude.{slice_get, slice_set}
+use Rattle.std.specs.Prelude.{slice_get}
 use Rattle.agenda.specs.Marks.{IsNext, IsOn}
-use Rattle.interface_egress.specs.AtRest.{AreAtRest, IsNextBusy, first_of, is_at_rest, is_some_at_rest, with_first}
+use Rattle.interface_egress.specs.AtRest.{AreAtRest, IsNextBusy, first_of, is_at_rest}
 use Rattle.interface_egress.specs.declared.socket_set.SocketStorage.{SocketStorage}
 
 -- what has a mark and isn't on the agenda is off
-off : (marks : List Bool) (i : ℕ) → i < length marks → (IsOn marks i → ⊥) → slice_get marks i ≡ Some false
+pub off : (marks : List Bool) (i : ℕ) → i < length marks → (IsOn marks i → ⊥) → slice_get marks i ≡ Some false
 off [] i within not_on = absurd (omega (arith, within))
 off (true ∷ marks) zero within not_on = absurd (not_on refl)
 off (false ∷ marks) zero within not_on = refl
 off (x ∷ marks) (suc i) within not_on = off marks i (omega (arith, within)) not_on
 
-got_within : {X : Type 0} (xs : List X) (i : ℕ) (x : X) → slice_get xs i ≡ Some x → i < length xs
+pub got_within : {X : Type 0} (xs : List X) (i : ℕ) (x : X) → slice_get xs i ≡ Some x → i < length xs
 got_within [] i x got = absurd (cc)
 got_within (y ∷ xs) zero x got = omega arith
 got_within (y ∷ xs) (suc i) x got = let less : i < length xs = got_within xs i x got in omega arith
-
--- the others' marks stay when one is set
-pub mark_stays : (marks : List Bool) (at i : ℕ) → slice_get (slice_set marks at true) i ≡ Some false → slice_get marks i ≡ Some false
-mark_stays [] at i is = is
-mark_stays (x ∷ marks) zero zero is = absurd (cc)
-mark_stays (x ∷ marks) zero (suc i) is = is
-mark_stays (x ∷ marks) (suc at) zero is = is
-mark_stays (x ∷ marks) (suc at) (suc i) is = mark_stays marks at i is
-
--- of a place that is set apart from its mark
-pub set_apart : {X : Type 0} (marks : List Bool) (ps : List X) (at i : ℕ) (w place : X) → slice_get (slice_set marks at true) i ≡ Some false
-    → slice_get (slice_set ps at w) i ≡ Some place → slice_get ps i ≡ Some place
-set_apart [] [] at i w place off got = got
-set_apart [] (p ∷ ps) at i w place off got = absurd (cc)
-set_apart (x ∷ marks) [] at i w place off got = got
-set_apart (x ∷ marks) (p ∷ ps) zero zero w place off got = absurd (cc)
-set_apart (x ∷ marks) (p ∷ ps) zero (suc i) w place off got = got
-set_apart (x ∷ marks) (p ∷ ps) (suc at) zero w place off got = got
-set_apart (x ∷ marks) (p ∷ ps) (suc at) (suc i) w place off got = set_apart marks ps at i w place off got
-
--- a mark that is cleared, or was
-pub cleared : (marks : List Bool) (at i : ℕ) → slice_get (slice_set marks at false) i ≡ Some false → (slice_get marks i ≡ Some false) ⊎ (i ≡ at)
-cleared [] at i is = inl is
-cleared (x ∷ marks) zero zero is = inr refl
-cleared (x ∷ marks) zero (suc i) is = inl is
-cleared (x ∷ marks) (suc at) zero is = inl is
-cleared (x ∷ marks) (suc at) (suc i) is = by (cleared marks at i is) where
-  by : (slice_get marks i ≡ Some false) ⊎ (i ≡ at) → (slice_get marks i ≡ Some false) ⊎ (suc i ≡ suc at)
-  by (inl was) = inl was
-  by (inr same) = inr (ap suc same)
-
--- one mark more, which is set
-pub one_more : (marks : List Bool) (i : ℕ) → slice_get (marks ++ true ∷ []) i ≡ Some false → slice_get marks i ≡ Some false
-one_more [] zero is = absurd (cc)
-one_more [] (suc i) is = absurd (cc)
-one_more (x ∷ marks) zero is = is
-one_more (x ∷ marks) (suc i) is = one_more marks i is
-
--- one place more
-pub got_before : {X : Type 0} (xs more : List X) (i : ℕ) (x : X) → i < length xs → slice_get (xs ++ more) i ≡ Some x → slice_get xs i ≡ Some x
-got_before [] more i x within got = absurd (omega (arith, within))
-got_before (y ∷ xs) more zero x within got = got
-got_before (y ∷ xs) more (suc i) x within got = got_before xs more i x (omega (arith, within)) got
-
-pub marked_within : (marks : List Bool) (i : ℕ) → slice_get marks i ≡ Some false → i < length marks
-marked_within marks i is = got_within marks i false is
 
 module _ {T : Type 0} (idle : T → Bool) (marks : List Bool) (ps : List (SocketStorage T)) (rests : AreAtRest idle marks ps) where
   -- places that are marked, and not on the agenda
@@ -86,14 +40,6 @@ module _ {T : Type 0} (idle : T → Bool) (marks : List Bool) (ps : List (Socket
     by (inl less) = subst Chosen (sym less.0) (omega arith, omega (arith, less.1), within)
     by (inr not_less) =
         subst Chosen (sym not_less.0) (λ i place since got. within i place since (omega (arith, not_less.1, got_within ps i place got)) got)
-
-  -- the same where a place at rest is taken off
-  pub taken_off : (at : ℕ) → is_some_at_rest idle (slice_get ps at) ≡ true → (i : ℕ) (place : SocketStorage T)
-      → slice_get (slice_set marks at false) i ≡ Some false → slice_get ps i ≡ Some place → is_at_rest idle place ≡ true
-  taken_off at is i place unmarked got = by (cleared marks at i unmarked) where
-    by : (slice_get marks i ≡ Some false) ⊎ (i ≡ at) → is_at_rest idle place ≡ true
-    by (inl was) = rests.0 i place was got
-    by (inr same) = sym (ap (is_some_at_rest idle) (sym (ap (slice_get ps) same) ∙ got)) ∙ is
 
 -- the number of a place behind it fits
 pub next_fits : {T : Type 0} (idle : T → Bool) (ps : List (SocketStorage T)) (from n : ℕ) (next : Option ℕ) → IsNextBusy idle from ps next

@@ -1,5 +1,6 @@
 pub mod Meta
 pub mod AtRest
+pub mod Filed
 pub mod Set
 pub mod Used
 pub mod Lends

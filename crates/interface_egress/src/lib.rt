@@ -3,6 +3,7 @@
 #![tactic(auto)]
 
 mod announcement;
+mod filed;
 mod fill;
 mod fragmenter;
 mod frame;
@@ -17,6 +18,7 @@ mod way_out;
 
 pub use agenda::Idle;
 pub use announcement::announce;
+pub use filed::Wanted;
 pub use fill::{Fill, send};
 pub use fragmenter::{Cut, Fragmenter, Left, MAX_CUT_PAYLOAD};
 pub use frame::{ArpFrame, CutHeader, Piece, Question, ask};

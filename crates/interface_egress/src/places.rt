@@ -1,43 +1,54 @@
-//! The places of a set, and which of them have something to do.
-ghost use Rattle.std.specs.Prelude.{◌≡◌, ◌+◌, ◌<◌, ◌^◌, ◌++◌, ◌∷◌, [], length, slice_set, slice_get, Some, MatchResult};
+//! The places of a set, which of them have something to do, and which of them what arrives is for.
+ghost use Rattle.std.specs.Prelude.{◌≡◌, ◌⊎◌, ◌+◌, ◌<◌, ◌^◌, ◌++◌, ◌∷◌, [], true, length, position, slice_set, slice_get, Some, MatchResult};
 ghost use Rattle.std.specs.Option.{ForSome};
 ghost use Rattle.std.specs.Borrow.{Array, Lends, sem};
 ghost use Rattle.interface_egress.specs.AtRest.{IsNextBusy, first_of, is_some_at_rest, with_first};
+ghost use Rattle.interface_egress.specs.Filed.{has, key_in};
 ghost use Rattle.interface_egress.specs.contracts.places.Places.{the_row};
 ghost use Rattle.interface_egress.specs.contracts.socket_set.SocketStorage.{the_row as storage_row};
 
+use crate::filed::{Wanted, first_loose, first_with, nearer};
 use crate::socket_set::{Item, SocketStorage};
-use agenda::{Agenda, Idle};
+use agenda::{Agenda, Idle, Index};
 use std::alloc::Global;
 use std::marker::Model;
 
 /// The places of a set, each with a socket or free. Who is off the agenda is at rest: its socket has nothing to do until it is called or
-/// something arrives for it, and waits for no neighbour. A place that is lent is on the agenda, and stays there until `let_rest`.
+/// something arrives for it, and waits for no neighbour. Who isn't loose is filed under its socket's key. A place that is lent is on the agenda
+/// and loose, and stays so until `let_rest`.
 #[derive(Debug, Drop)]
 pub struct Places<T: Idle> {
     storage: Vec<SocketStorage<T>>,
     agenda: Agenda,
+    loose: Agenda,
+    index: Index,
 }
 
 impl<T: Idle> Model for Places<T> {
     ghost use Rattle.std.specs.Prelude.{List};
     ghost use Rattle.interface_egress.specs.declared.socket_set.SocketStorage.{SocketStorage};
     ghost use Rattle.interface_egress.specs.AtRest.{AreAtRest};
+    ghost use Rattle.interface_egress.specs.Filed.{AreFiled};
 
     ghost Value = { List (SocketStorage T) };
 
     ghost view = { λ p. p.storage.items };
 
-    ghost invariant = { λ p. AreAtRest T.idle p.agenda p.storage.items };
+    ghost invariant = { λ p. AreAtRest T.idle p.agenda p.storage.items × AreFiled T.key p.loose p.index p.storage.items };
 }
 
 impl<T: Drop + Idle> Places<T> {
-    /// The places of this storage, all on the agenda.
+    /// The places of this storage, all on the agenda and loose.
     pub fn of(storage: Vec<SocketStorage<T>>) -> Places<T>
         ensures { result ≡ storage.items }
     {
-        let agenda = Agenda::new(*storage.allocator());
-        Places { storage, agenda }
+        let alloc = *storage.allocator();
+        Places {
+            storage,
+            agenda: Agenda::new(alloc),
+            loose: Agenda::new(alloc),
+            index: Index::new(alloc),
+        }
     }
 
     /// Adds a place with this socket, if there is memory for it.
@@ -77,22 +88,24 @@ impl<T: Idle> Places<T> {
         &self.storage[at]
     }
 
-    /// Lends a place, which is on the agenda from now on.
+    /// Lends a place, which is on the agenda and loose from now on.
     pub fn place_mut(&mut self, at: usize) -> &mut SocketStorage<T>
         requires { at < length self.old }
         ensures* lends { sem 𝓛 (Lends (the_row T.row T.Idle) (storage_row T.row) self.entry result (λ w. slice_set self.old at w)) }
         ensures value { slice_get self.old at ≡ Some result.now }
     {
         self.agenda.put_on(at);
+        self.loose.put_on(at);
         &mut self.storage[at]
     }
 
-    /// Lends all places, which are on the agenda from now on.
+    /// Lends all places, which are on the agenda and loose from now on.
     pub fn all_mut(&mut self) -> &mut [SocketStorage<T>]
         ensures* lends { sem 𝓛 (Lends (the_row T.row T.Idle) (Array (storage_row T.row) 0) self.entry result (with_first self.old)) }
         ensures value { result.now ≡ self.old }
     {
         self.agenda.clear();
+        self.loose.clear();
         self.storage.as_mut_slice()
     }
 
@@ -109,10 +122,43 @@ impl<T: Idle> Places<T> {
         )
     }
 
-    /// Takes a place off the agenda, if it is at rest. Without memory for its mark it stays there.
+    /// The first place whose socket is wanted, where each such socket has one of these keys. Sockets that are filed under other keys aren't
+    /// looked at.
+    pub fn find<W: Wanted<Socket = T>>(
+        &self,
+        key: u64,
+        other: Option<u64>,
+        wanted: &W,
+    ) -> Option<usize>
+        requires { (s : T) → W.wants wanted.now s ≡ true → (T.Idle.key s ≡ key) ⊎ (other ≡ Some (T.Idle.key s)) }
+        ensures place { result ≡ position (has (W.wants wanted.now)) self.now }
+        ensures in_range { ForSome result (λ at. at < length self.now) }
+    {
+        let places = self.storage.as_slice();
+        let found = nearer(
+            first_loose(&self.loose, places, wanted),
+            first_with(&self.index, places, key, wanted),
+        );
+        match other {
+            Some(other) => nearer(found, first_with(&self.index, places, other, wanted)),
+            None => found,
+        }
+    }
+
+    /// Files a place under its socket's key. Without memory for that it stays loose.
+    pub fn file(&mut self, at: usize)
+        ensures { self.new ≡ self.old }
+    {
+        if at < self.storage.len() && self.index.note(at, key_in(&self.storage[at])) {
+            self.loose.rest(at);
+        }
+    }
+
+    /// Files a place, and takes it off the agenda if it is at rest. Without memory for its mark it stays there.
     pub fn let_rest(&mut self, at: usize)
         ensures { self.new ≡ self.old }
     {
+        self.file(at);
         if at == self.agenda.len() && at < self.storage.len() && self.agenda.push().is_err() {
             return;
         }
@@ -136,12 +182,27 @@ fn is_at_rest<T: Idle>(places: &[SocketStorage<T>], at: usize) -> bool
 }
 
 /// The first place that is on the agenda, or else that has no mark, if there is one.
-fn first_of(next: Option<usize>, from: usize, marks: usize, places: usize) -> Option<usize>
+pub(crate) fn first_of(
+    next: Option<usize>,
+    from: usize,
+    marks: usize,
+    places: usize,
+) -> Option<usize>
     ensures { result ≡ first_of next from marks places }
 {
     match next {
         Some(at) => Some(at),
         None if from.max(marks) < places => Some(from.max(marks)),
         None => None,
+    }
+}
+
+/// The key of the socket at a place. A free one has any.
+fn key_in<T: Idle>(place: &SocketStorage<T>) -> u64
+    ensures { result ≡ key_in T.key place.now }
+{
+    match &place.inner {
+        Some(item) => item.socket.key(),
+        None => 0,
     }
 }

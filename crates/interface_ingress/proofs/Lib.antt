@@ -24,3 +24,4 @@ pub use Rattle.sockets.proofs.AnyKind
 pub mod PieceSlots
 pub mod ShortWay
 pub mod OwnSources
+pub mod Sought

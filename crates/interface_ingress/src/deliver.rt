@@ -17,12 +17,13 @@ ghost use Rattle.interface_ingress.specs.Handed.{if_it_may, counted_in, let_go, 
 
 use crate::places::{Arrival, give_all, is_for_any};
 use crate::reply::Reply;
+use crate::search::{datagram_place, segment_place};
 use icmpv4::Icmpv4Repr;
 use icmpv6::Icmpv6Repr;
 use interface_egress::{InterfaceInner, Item, Places, SocketStorage};
 use ip_wire::{IpRepr, Ipv4Repr, Ipv6Repr, TcpControl, TcpRepr, UdpRepr};
 use net_base::PacketMeta;
-use sockets::{IpPayload, Packet, Socket, tcp};
+use sockets::{IpPayload, Packet, Socket, keys, tcp};
 
 /// A packet, as raw sockets get it.
 #[derive(Drop)]
@@ -59,7 +60,7 @@ pub fn deliver_packet(places: &mut Places<Socket>, header: &IpRepr, payload: &[u
     ensures places { places.new ≡ packet_delivered header.now payload.now places.old }
 {
     let packet = RawPacket { header, payload };
-    let is_taken = is_for_any(places.as_slice(), &packet);
+    let is_taken = is_for_any(places, keys::of_raw(), &packet);
     if is_taken {
         give_all(places.all_mut(), &packet);
     }
@@ -102,7 +103,7 @@ pub fn deliver_icmpv4(places: &mut Places<Socket>, header: &Ipv4Repr, message: &
     ensures { places.new ≡ icmpv4_delivered header.now (Icmpv4.header_of message.now) (Icmpv4.payload_of message.now) places.old }
 {
     let arrival = Icmpv4Arrival { header, message };
-    if is_for_any(places.as_slice(), &arrival) {
+    if is_for_any(places, keys::of_icmp(), &arrival) {
         give_all(places.all_mut(), &arrival);
     }
 }
@@ -144,51 +145,9 @@ pub fn deliver_icmpv6(places: &mut Places<Socket>, header: &Ipv6Repr, message: &
     ensures { places.new ≡ icmpv6_delivered header.now (Icmpv6.value_of (Icmpv6.header_of message.now)) (Icmpv6.carried_by message.now) places.old }
 {
     let arrival = Icmpv6Arrival { header, message };
-    if is_for_any(places.as_slice(), &arrival) {
+    if is_for_any(places, keys::of_icmp(), &arrival) {
         give_all(places.all_mut(), &arrival);
     }
-}
-
-/// Whether the place has a socket that accepts a datagram: a UDP socket, or a client of DHCP or DNS.
-fn accepts_datagram(
-    inner: &InterfaceInner,
-    place: &SocketStorage<Socket>,
-    header: &IpRepr,
-    udp: &UdpRepr,
-) -> bool
-    ensures { result ≡ passes (λ s. accepts_datagram (context_of inner.now) s header.now udp.now) place.now }
-{
-    match &place.inner {
-        Some(item) => is_for(inner, &item.socket, header, udp),
-        None => false,
-    }
-}
-
-/// Whether a datagram is for a socket.
-fn is_for(inner: &InterfaceInner, socket: &Socket, header: &IpRepr, udp: &UdpRepr) -> bool
-    ensures { result ≡ accepts_datagram (context_of inner.now) socket.now header.now udp.now }
-{
-    match socket {
-        Socket::Udp(socket) => socket.accepts(inner, header, udp),
-        Socket::Dhcpv4(socket) => socket.accepts(inner, header, udp),
-        Socket::Dns(socket) => socket.accepts(inner, header, udp),
-        Socket::Raw(_) | Socket::Icmp(_) | Socket::Tcp(_) => false,
-    }
-}
-
-/// The first place whose socket accepts a datagram.
-fn datagram_place(
-    inner: &InterfaceInner,
-    places: &[SocketStorage<Socket>],
-    header: &IpRepr,
-    udp: &UdpRepr,
-) -> Option<usize>
-    ensures place { result ≡ datagram_place (context_of inner.now) header.now udp.now places.now }
-    ensures in_range { ForSome result (λ at. at < length places.now) }
-{
-    places
-        .iter()
-        .position(|place| accepts_datagram(inner, place, header, udp))
 }
 
 /// Gives a datagram to a socket: a UDP socket queues it, a client reads it.
@@ -238,6 +197,7 @@ fn process_datagram_at(
     ensures { GivenAt (context_of inner.now) header.now udp.now bytes.now (Some at) places.old places.new }
 {
     process_datagram_in(inner, places.place_mut(at), header, udp, bytes);
+    places.file(at);
 }
 
 /// Gives a user datagram to the first socket that accepts it, and says whether there is one.
@@ -252,98 +212,12 @@ pub fn deliver_datagram(
     ensures taken { result ≡ is_some (datagram_place (context_of inner.now) header.now udp.now places.old) }
     ensures places { IsDelivered (context_of inner.now) header.now udp.now bytes.now places.old places.new }
 {
-    match datagram_place(inner, places.as_slice(), header, udp) {
+    match datagram_place(inner, places, header, udp) {
         Some(at) => {
             process_datagram_at(inner, places, at, header, udp, bytes);
             true
         }
         None => false,
-    }
-}
-
-/// Whether the place has a socket that accepts a segment.
-fn accepts_segment(
-    inner: &InterfaceInner,
-    place: &SocketStorage<Socket>,
-    header: &IpRepr,
-    segment: &TcpRepr<'_>,
-) -> bool
-    ensures { result ≡ passes (λ s. accepts_segment s header.now (Tcp.header_of segment.now)) place.now }
-{
-    match &place.inner {
-        Some(
-            Item {
-                socket: Socket::Tcp(socket),
-                ..
-            },
-        ) => socket.accepts(inner, header, segment),
-        _ => false,
-    }
-}
-
-/// Whether the place has a socket that has a segment's connection.
-fn is_connected(
-    inner: &InterfaceInner,
-    place: &SocketStorage<Socket>,
-    header: &IpRepr,
-    segment: &TcpRepr<'_>,
-) -> bool
-    ensures { result ≡ passes (λ s. is_connected s header.now (Tcp.header_of segment.now)) place.now }
-{
-    match &place.inner {
-        Some(
-            Item {
-                socket: Socket::Tcp(socket),
-                ..
-            },
-        ) => !socket.is_listening() && socket.accepts(inner, header, segment),
-        _ => false,
-    }
-}
-
-/// The first place whose socket has a segment's connection.
-fn connection_place(
-    inner: &InterfaceInner,
-    places: &[SocketStorage<Socket>],
-    header: &IpRepr,
-    segment: &TcpRepr<'_>,
-) -> Option<usize>
-    ensures place { result ≡ first_place (λ s. is_connected s header.now (Tcp.header_of segment.now)) places.now }
-    ensures in_range { ForSome result (λ at. at < length places.now) }
-{
-    places
-        .iter()
-        .position(|place| is_connected(inner, place, header, segment))
-}
-
-/// The first place whose socket accepts a segment.
-fn accepting_place(
-    inner: &InterfaceInner,
-    places: &[SocketStorage<Socket>],
-    header: &IpRepr,
-    segment: &TcpRepr<'_>,
-) -> Option<usize>
-    ensures place { result ≡ first_place (λ s. accepts_segment s header.now (Tcp.header_of segment.now)) places.now }
-    ensures in_range { ForSome result (λ at. at < length places.now) }
-{
-    places
-        .iter()
-        .position(|place| accepts_segment(inner, place, header, segment))
-}
-
-/// The place whose socket gets a segment: that of its connection, else the first that accepts it.
-fn segment_place(
-    inner: &InterfaceInner,
-    places: &[SocketStorage<Socket>],
-    header: &IpRepr,
-    segment: &TcpRepr<'_>,
-) -> Option<usize>
-    ensures place { result ≡ segment_place header.now (Tcp.header_of segment.now) places.now }
-    ensures in_range { ForSome result (λ at. at < length places.now) }
-{
-    match connection_place(inner, places, header, segment) {
-        Some(at) => Some(at),
-        None => accepting_place(inner, places, header, segment),
     }
 }
 
@@ -411,6 +285,7 @@ fn process_at<'a>(
         drawn_if (passes_at (draws_of (context_of inner.old) header.now (Tcp.header_of segment.now) segment.now.payload.now) (Some at) places.old) inner.old }
 {
     process_in(inner, places.place_mut(at), header, segment, reply);
+    places.file(at);
 }
 
 /// The reset that answers a segment which no socket accepts, as far as the limit on errors allows, but for a reset and a segment
@@ -457,7 +332,7 @@ pub fn deliver_segment<'a>(
         (segment_answer (context_of inner.old) header.now (Tcp.header_of segment.now) segment.now.payload.now is_taken places.old)
         (drawn_if (segment_draws (context_of inner.old) header.now (Tcp.header_of segment.now) segment.now.payload.now places.old) inner.old) }
 {
-    match segment_place(inner, places.as_slice(), header, segment) {
+    match segment_place(inner, places, header, segment) {
         Some(at) => process_at(inner, places, at, header, segment, reply),
         None => reset(inner, header, segment, is_taken, reply),
     }

@@ -24,6 +24,7 @@ mod places;
 mod reassemble;
 mod reply;
 pub mod reply_laws;
+mod search;
 mod short;
 
 pub use arrive::bring;

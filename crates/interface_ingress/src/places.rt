@@ -1,9 +1,11 @@
 //! Sockets at their places, to which something that arrived is given.
-ghost use Rattle.std.specs.Prelude.{◌≡◌};
+ghost use Rattle.std.specs.Prelude.{◌≡◌, true};
 ghost use Rattle.std.specs.List.{list_any};
+ghost use Rattle.sockets.specs.Keys.{key_of};
+ghost use Rattle.sockets.specs.declared.socket.Socket.{Socket};
 ghost use Rattle.interface_ingress.specs.Delivered.{given, with_change, passes, all_given};
 
-use interface_egress::SocketStorage;
+use interface_egress::{Places, SocketStorage, Wanted};
 use sockets::Socket;
 
 /// Something that arrived for sockets of one kind.
@@ -26,21 +28,29 @@ pub trait Arrival {
         ensures { socket.new ≡ taken self.now socket.old };
 }
 
-/// Whether the place has a socket that accepts it.
-fn is_for_place<A: Arrival>(place: &SocketStorage<Socket>, arrival: &A) -> bool
-    ensures { result ≡ passes (A.accepted arrival.now) place.now }
-{
-    match &place.inner {
-        Some(item) => arrival.is_for(&item.socket),
-        None => false,
+/// Whoever accepts something that arrived.
+#[derive(Drop)]
+struct Takers<'a, A: Arrival> {
+    arrival: &'a A,
+}
+
+impl<'a, A: Arrival> Wanted for Takers<'a, A> {
+    type Socket = Socket;
+
+    ghost wants = { λ t s. A.accepted t.arrival.now s };
+
+    fn wants(&self, socket: &Socket) -> bool {
+        self.arrival.is_for(socket)
     }
 }
 
-/// Whether a socket accepts it.
-pub(crate) fn is_for_any<A: Arrival>(places: &[SocketStorage<Socket>], arrival: &A) -> bool
+/// Whether a socket accepts it, where whoever does has this key.
+#[tactic(auto, using(crate::proofs::Sought::found_any))]
+pub(crate) fn is_for_any<A: Arrival>(places: &Places<Socket>, key: u64, arrival: &A) -> bool
+    requires { (s : Socket) → A.accepted arrival.now s ≡ true → key_of s ≡ key }
     ensures { result ≡ list_any (passes (A.accepted arrival.now)) places.now }
 {
-    places.iter().any(|place| is_for_place(place, arrival))
+    places.find(key, None, &Takers { arrival }).is_some()
 }
 
 /// Gives it to the socket at this place, if that accepts it.

@@ -2,6 +2,7 @@ pub mod Connections
 pub mod Clients
 pub mod AnyKind
 pub mod AtRest
+pub mod Found
 pub mod Messages
 pub mod OfferLaws
 pub mod Protocols

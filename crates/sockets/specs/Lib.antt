@@ -6,6 +6,7 @@ pub mod SocketValue
 pub mod Offers
 pub mod Dispatch
 pub mod Idle
+pub mod Keys
 pub mod Held
 pub mod Lends
 pub mod Header

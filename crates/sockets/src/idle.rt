@@ -1,9 +1,9 @@
-//! Which sockets have nothing to do until they are called, or something arrives.
+//! Which sockets have nothing to do until they are called, or something arrives, and by which key they are found then.
 ghost use Rattle.std.specs.Prelude.{◌≡◌};
 ghost use Rattle.sockets.specs.Idle.{waits_for_arrival, is_idle_connection, is_idle_port};
 
 use crate::socket::Socket;
-use crate::{tcp, udp};
+use crate::{keys, tcp, udp};
 use agenda::Idle;
 use ip_wire::IpAddress;
 use net_base::{ChecksumCapabilities, Instant, Rand};
@@ -14,14 +14,27 @@ const SOME_IP_MTU: usize = 1500;
 
 impl Idle for Socket {
     ghost use Rattle.sockets.specs.Idle.{is_idle};
+    ghost use Rattle.sockets.specs.Keys.{key_of};
 
     ghost idle = { is_idle };
+
+    ghost key = { key_of };
 
     fn is_idle(&self) -> bool {
         match self {
             Socket::Udp(socket) => is_idle_port(socket),
             Socket::Tcp(socket) => is_idle_connection(socket),
             Socket::Raw(_) | Socket::Icmp(_) | Socket::Dhcpv4(_) | Socket::Dns(_) => false,
+        }
+    }
+
+    fn key(&self) -> u64 {
+        match self {
+            Socket::Raw(_) => keys::of_raw(),
+            Socket::Icmp(_) => keys::of_icmp(),
+            Socket::Udp(socket) => keys::of_port(socket.endpoint().port),
+            Socket::Tcp(socket) => keys::of_connection(socket),
+            Socket::Dhcpv4(_) | Socket::Dns(_) => keys::of_clients(),
         }
     }
 }

@@ -1,19 +1,30 @@
 //! Laws of sockets of any kind, and those of each kind.
-ghost use Rattle.std.specs.Prelude.{◌≡◌, ◌↔◌, ℤ, false, true, IsSome, IsTrue};
+ghost use Rattle.std.specs.Prelude.{◌≡◌, ◌⊎◌, ◌↔◌, ℕ, ℤ, List, false, true, IsSome, IsTrue};
+ghost use Rattle.icmpv4.specs.declared.header.Icmpv4Header.{Icmpv4Header};
+ghost use Rattle.icmpv6.specs.Icmpv6.{MessageValue};
+ghost use Rattle.ip_wire.specs.IpAddress.{IpAddress};
+ghost use Rattle.ip_wire.specs.IpRepr.{IpRepr};
+ghost use Rattle.ip_wire.specs.TcpHeader.{TcpHeader};
+ghost use Rattle.ip_wire.specs.UdpRepr.{UdpRepr};
 ghost use Rattle.socket_base.specs.Context.{ContextValue};
 ghost use Rattle.socket_base.specs.Offers.{IsBefore};
 ghost use Rattle.socket_base.specs.declared.offer.Offer as Answer;
 ghost use Rattle.socket_base.specs.declared.offer.Offer.TheVariants as Offer;
 ghost use Rattle.socket_base.specs.declared.poll_at.PollAt.TheVariants as At;
 ghost use Rattle.sockets.specs.Idle.{is_idle, IsOfPorts};
+ghost use Rattle.tcp_model.specs.States.{is_listening};
+ghost use Rattle.tcp_model.specs.Value.{TcpValue};
+ghost use Rattle.sockets.specs.Keys.{key_of, of_clients, of_icmp, of_listeners, of_port, of_ports, of_raw};
 ghost use Rattle.sockets.specs.Offers.{HasPacket, changed_by};
 ghost use Rattle.sockets.specs.Socket.{Offers, offered_by, settled, poll_of, IsSameButForPlaces, IsOfDatagrams};
+ghost use Rattle.sockets.specs.Socket.{accepts_packet, accepts_icmpv4, accepts_icmpv6, accepts_datagram, accepts_segment};
 ghost use Rattle.sockets.specs.declared.error.BindError.{BindError};
 ghost use Rattle.sockets.specs.declared.error.RecvError.{RecvError};
 ghost use Rattle.sockets.specs.declared.error.SendError.{SendError};
 ghost use Rattle.sockets.specs.declared.icmp.Endpoint.{Endpoint};
 ghost use Rattle.sockets.specs.declared.udp.UdpMetadata.{UdpMetadata};
 ghost use Rattle.sockets.specs.declared.socket.Socket.{Socket};
+ghost use Rattle.sockets.specs.declared.socket.Socket.TheVariants as Kind;
 
 use crate::error::{BindError, RecvError, SendError};
 use crate::icmp::Endpoint;
@@ -36,6 +47,23 @@ pub fn idle_is_at_rest()
     ensures offers { (cx : ContextValue) (s : Socket) → is_idle s ≡ true → Offers cx s (Offer.Silent false) s }
     ensures instant { (cx : ContextValue) (s : Socket) → is_idle s ≡ true → poll_of cx s ≡ At.Ingress }
     ensures kinds { (s : Socket) → is_idle s ≡ true → IsOfPorts s }
+{}
+
+/// Law: whatever accepts what arrives is found by a key that this tells: raw and ICMP sockets by their kind; of a datagram UDP sockets by its
+/// destination port, or the clients; of a segment connections by both ports, or listeners by its destination port.
+#[tactic(auto, using(crate::proofs::Found::of_datagram, crate::proofs::Found::of_segment, crate::proofs::Found::of_connection))]
+pub fn what_arrives_tells_the_key()
+    ensures packet { (s : Socket) (ip : IpRepr) → accepts_packet s ip ≡ true → key_of s ≡ of_raw }
+    ensures icmpv4 { (s : Socket) (to : IpAddress) (message : Icmpv4Header) (bytes : List ℕ) → accepts_icmpv4 s to message bytes ≡ true
+        → key_of s ≡ of_icmp }
+    ensures icmpv6 { (s : Socket) (to : IpAddress) (message : MessageValue) (bytes : List ℕ) → accepts_icmpv6 s to message bytes ≡ true
+        → key_of s ≡ of_icmp }
+    ensures datagram { (cx : ContextValue) (s : Socket) (ip : IpRepr) (udp : UdpRepr) → accepts_datagram cx s ip udp ≡ true
+        → (key_of s ≡ of_port udp.dst_port) ⊎ (key_of s ≡ of_clients) }
+    ensures segment { (s : Socket) (ip : IpRepr) (header : TcpHeader) → accepts_segment s ip header ≡ true
+        → (key_of s ≡ of_ports header.dst_port header.src_port) ⊎ (key_of s ≡ of_listeners header.dst_port) }
+    ensures connection { (v : TcpValue) (ip : IpRepr) (header : TcpHeader) → is_listening v.block.state ≡ false
+        → accepts_segment (Kind.Tcp v) ip header ≡ true → key_of (Kind.Tcp v) ≡ of_ports header.dst_port header.src_port }
 {}
 
 /// Law: an offer that is settled as not sent doesn't change when the socket wants to be polled.

@@ -13,6 +13,7 @@ mod error;
 mod header;
 pub mod icmp;
 mod idle;
+pub mod keys;
 pub mod laws;
 mod queues;
 pub mod raw;

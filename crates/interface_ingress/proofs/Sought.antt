@@ -1,0 +1,50 @@
+-- Whoever something arrived for is found by the keys that it tells.
+use Rattle.std.proofs.Common.{◌≡◌, ◌⊎◌, inl, inr, ℕ, ◌&&◌, not, nat_lt, Bool, true, false, List, [], ◌∷◌, Option, Some, None, is_some, position, refl, sym, ap, ◌∙◌, arith}
+use Rattle.std.specs.List.{list_any, position_or_len}
+use Rattle.ip_wire.specs.IpRepr.{IpRepr}
+use Rattle.ip_wire.specs.TcpHeader.{TcpHeader}
+use Rattle.ip_wire.specs.UdpRepr.{UdpRepr}
+use Rattle.sockets.specs.Context.{ContextValue}
+use Rattle.sockets.specs.Keys.{key_of, of_clients, of_listeners, of_port, of_ports}
+use Rattle.sockets.specs.Socket.{accepts_datagram, accepts_segment}
+use Rattle.sockets.specs.TcpStates.{is_listening}
+use Rattle.sockets.specs.TcpValue.{TcpValue}
+use Rattle.sockets.specs.declared.socket.Socket.{Socket}
+use Rattle.sockets.specs.declared.socket.Socket.TheVariants as Kind
+use Rattle.sockets.proofs.Found.{of_connection, of_datagram, of_segment}
+use Rattle.interface_ingress.specs.Delivered.{is_connected, is_listener}
+
+left : (a b : Bool) → (a && b) ≡ true → a ≡ true
+left true b so = refl
+left false b so = absurd cc
+
+right : (a b : Bool) → (a && b) ≡ true → b ≡ true
+right true b so = so
+right false b so = absurd cc
+
+either : (a b k : ℕ) → (k ≡ a) ⊎ (k ≡ b) → (k ≡ a) ⊎ (Some b ≡ Some k)
+either a b k (inl one) = inl one
+either a b k (inr other) = inr (ap Some (sym other))
+
+pub of_readers : (cx : ContextValue) (s : Socket) (ip : IpRepr) (udp : UdpRepr) → accepts_datagram cx s ip udp ≡ true
+    → (key_of s ≡ of_port udp.dst_port) ⊎ (Some of_clients ≡ Some (key_of s))
+of_readers cx s ip udp so = either (of_port udp.dst_port) of_clients (key_of s) (of_datagram cx s ip udp so)
+
+pub of_acceptors : (s : Socket) (ip : IpRepr) (header : TcpHeader) → accepts_segment s ip header ≡ true
+    → (key_of s ≡ of_ports header.dst_port header.src_port) ⊎ (Some (of_listeners header.dst_port) ≡ Some (key_of s))
+of_acceptors s ip header so = either (of_ports header.dst_port header.src_port) (of_listeners header.dst_port) (key_of s) (of_segment s ip header so)
+
+off : (b : Bool) → not b ≡ true → b ≡ false
+off true so = absurd cc
+off false so = refl
+
+pub of_connected : (s : Socket) (ip : IpRepr) (header : TcpHeader) → is_connected s ip header ≡ true
+    → (key_of s ≡ of_ports header.dst_port header.src_port) ⊎ (None ≡ Some (key_of s))
+of_connected (Kind.Tcp v) ip header so = inl (of_connection v ip header (off (is_listening v.block.state)
+    (left (not (is_listening v.block.state)) (accepts_segment (Kind.Tcp v) ip header) so))
+    (right (not (is_listening v.block.state)) (accepts_segment (Kind.Tcp v) ip header) so))
+of_connected other ip header so = absurd cc
+
+-- one that passes is found where any does
+pub found_any : {X : Type 0} (test : X → Bool) (xs : List X) → is_some (position test xs) ≡ list_any test xs
+found_any test xs = ?

@@ -1,0 +1,168 @@
+//! For which socket something arrived.
+ghost use Rattle.std.specs.Prelude.{◌≡◌, ◌<◌, length};
+ghost use Rattle.std.specs.Option.{ForSome};
+ghost use Rattle.ip_wire.specs.Tcp as Tcp;
+ghost use Rattle.sockets.specs.Socket.{accepts_segment};
+ghost use Rattle.interface_egress.specs.Inner.{context_of};
+ghost use Rattle.interface_ingress.specs.Delivered.{datagram_place, first_place, is_connected, segment_place};
+
+use interface_egress::{InterfaceInner, Places, Wanted};
+use ip_wire::{IpRepr, TcpRepr, UdpRepr};
+use sockets::{Socket, keys};
+
+/// Whom a datagram is for: a UDP socket, or a client of DHCP or DNS.
+#[derive(Drop)]
+struct Readers<'a> {
+    inner: &'a InterfaceInner,
+    header: &'a IpRepr,
+    udp: &'a UdpRepr,
+}
+
+impl<'a> Wanted for Readers<'a> {
+    ghost use Rattle.interface_egress.specs.Inner.{context_of};
+    ghost use Rattle.sockets.specs.Socket.{accepts_datagram};
+
+    type Socket = Socket;
+
+    ghost wants = { λ r s. accepts_datagram (context_of r.inner.now) s r.header.now r.udp.now };
+
+    fn wants(&self, socket: &Socket) -> bool {
+        match socket {
+            Socket::Udp(socket) => socket.accepts(self.inner, self.header, self.udp),
+            Socket::Dhcpv4(socket) => socket.accepts(self.inner, self.header, self.udp),
+            Socket::Dns(socket) => socket.accepts(self.inner, self.header, self.udp),
+            Socket::Raw(_) | Socket::Icmp(_) | Socket::Tcp(_) => false,
+        }
+    }
+}
+
+/// The first place whose socket accepts a datagram.
+#[tactic(auto, using(crate::proofs::Sought::of_readers))]
+pub(crate) fn datagram_place(
+    inner: &InterfaceInner,
+    places: &Places<Socket>,
+    header: &IpRepr,
+    udp: &UdpRepr,
+) -> Option<usize>
+    ensures place { result ≡ datagram_place (context_of inner.now) header.now udp.now places.now }
+    ensures in_range { ForSome result (λ at. at < length places.now) }
+{
+    let readers = Readers { inner, header, udp };
+    places.find(
+        keys::of_port(udp.dst_port),
+        Some(keys::of_clients()),
+        &readers,
+    )
+}
+
+/// The sockets that have a segment's connection.
+#[derive(Drop)]
+struct Connected<'a, 'b> {
+    inner: &'a InterfaceInner,
+    header: &'a IpRepr,
+    segment: &'a TcpRepr<'b>,
+}
+
+impl<'a, 'b> Wanted for Connected<'a, 'b> {
+    ghost use Rattle.ip_wire.specs.Tcp as Tcp;
+    ghost use Rattle.interface_ingress.specs.Delivered.{is_connected};
+
+    type Socket = Socket;
+
+    ghost wants = { λ c s. is_connected s c.header.now (Tcp.header_of c.segment.now) };
+
+    fn wants(&self, socket: &Socket) -> bool {
+        match socket {
+            Socket::Tcp(socket) => {
+                !socket.is_listening() && socket.accepts(self.inner, self.header, self.segment)
+            }
+            _ => false,
+        }
+    }
+}
+
+/// The first place whose socket has a segment's connection.
+#[tactic(auto, using(crate::proofs::Sought::of_connected))]
+fn connection_place(
+    inner: &InterfaceInner,
+    places: &Places<Socket>,
+    header: &IpRepr,
+    segment: &TcpRepr<'_>,
+) -> Option<usize>
+    ensures place { result ≡ first_place (λ s. is_connected s header.now (Tcp.header_of segment.now)) places.now }
+    ensures in_range { ForSome result (λ at. at < length places.now) }
+{
+    let connected = Connected {
+        inner,
+        header,
+        segment,
+    };
+    places.find(
+        keys::of_ports(segment.dst_port, segment.src_port),
+        None,
+        &connected,
+    )
+}
+
+/// The sockets that accept a segment.
+#[derive(Drop)]
+struct Acceptors<'a, 'b> {
+    inner: &'a InterfaceInner,
+    header: &'a IpRepr,
+    segment: &'a TcpRepr<'b>,
+}
+
+impl<'a, 'b> Wanted for Acceptors<'a, 'b> {
+    ghost use Rattle.ip_wire.specs.Tcp as Tcp;
+    ghost use Rattle.sockets.specs.Socket.{accepts_segment};
+
+    type Socket = Socket;
+
+    ghost wants = { λ a s. accepts_segment s a.header.now (Tcp.header_of a.segment.now) };
+
+    fn wants(&self, socket: &Socket) -> bool {
+        match socket {
+            Socket::Tcp(socket) => socket.accepts(self.inner, self.header, self.segment),
+            _ => false,
+        }
+    }
+}
+
+/// The first place whose socket accepts a segment.
+#[tactic(auto, using(crate::proofs::Sought::of_acceptors))]
+fn accepting_place(
+    inner: &InterfaceInner,
+    places: &Places<Socket>,
+    header: &IpRepr,
+    segment: &TcpRepr<'_>,
+) -> Option<usize>
+    ensures place { result ≡ first_place (λ s. accepts_segment s header.now (Tcp.header_of segment.now)) places.now }
+    ensures in_range { ForSome result (λ at. at < length places.now) }
+{
+    let acceptors = Acceptors {
+        inner,
+        header,
+        segment,
+    };
+    places.find(
+        keys::of_ports(segment.dst_port, segment.src_port),
+        Some(keys::of_listeners(segment.dst_port)),
+        &acceptors,
+    )
+}
+
+/// The place whose socket gets a segment: that of its connection, else the first that accepts it.
+pub(crate) fn segment_place(
+    inner: &InterfaceInner,
+    places: &Places<Socket>,
+    header: &IpRepr,
+    segment: &TcpRepr<'_>,
+) -> Option<usize>
+    ensures place { result ≡ segment_place header.now (Tcp.header_of segment.now) places.now }
+    ensures in_range { ForSome result (λ at. at < length places.now) }
+{
+    match connection_place(inner, places, header, segment) {
+        Some(at) => Some(at),
+        None => accepting_place(inner, places, header, segment),
+    }
+}
