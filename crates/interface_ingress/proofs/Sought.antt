@@ -1,5 +1,5 @@
 -- Whoever something arrived for is found by the keys that it tells.
-use Rattle.std.proofs.Common.{◌≡◌, ◌⊎◌, inl, inr, ℕ, ◌&&◌, not, nat_lt, Bool, true, false, List, [], ◌∷◌, Option, Some, None, is_some, position, refl, sym, ap, ◌∙◌, arith}
+use Rattle.std.proofs.Common.{◌≡◌, ◌⊎◌, inl, inr, ℕ, ◌&&◌, not, nat_lt, if◌then◌else◌, Bool, true, false, List, [], ◌∷◌, length, Option, Some, None, is_some, position, refl, sym, ap, ◌∙◌, arith}
 use Rattle.std.specs.List.{list_any, position_or_len}
 use Rattle.ip_wire.specs.IpRepr.{IpRepr}
 use Rattle.ip_wire.specs.TcpHeader.{TcpHeader}
@@ -46,5 +46,20 @@ of_connected (Kind.Tcp v) ip header so = inl (of_connection v ip header (off (is
 of_connected other ip header so = absurd cc
 
 -- one that passes is found where any does
-pub found_any : {X : Type 0} (test : X → Bool) (xs : List X) → is_some (position test xs) ≡ list_any test xs
-found_any test xs = ?
+module _ {X : Type 0} (test : X → Bool) where
+  within_where_any : (xs : List X) → nat_lt (position_or_len test xs) (length xs) ≡ list_any test xs
+  within_where_any [] = refl
+  within_where_any (x ∷ xs) = by (test x) refl where
+    rest : nat_lt (position_or_len test xs) (length xs) ≡ list_any test xs
+    rest = within_where_any xs
+
+    by : (b : Bool) → test x ≡ b → nat_lt (position_or_len test (x ∷ xs)) (length (x ∷ xs)) ≡ list_any test (x ∷ xs)
+    by true so = ?
+    by false so = ?
+
+  some_if : (b : Bool) (n : ℕ) → is_some (if b then Some n else None) ≡ b
+  some_if true n = refl
+  some_if false n = refl
+
+  pub found_any : (xs : List X) → is_some (position test xs) ≡ list_any test xs
+  found_any xs = some_if (nat_lt (position_or_len test xs) (length xs)) (position_or_len test xs) ∙ within_where_any xs

@@ -10,10 +10,10 @@ use Rattle.tcp_model.specs.Names.{accepts_in}
 use Rattle.tcp_model.specs.States.{is_listening}
 use Rattle.tcp_model.specs.Value.{TcpValue}
 use Rattle.tcp_model.specs.declared.block.Block.{Block}
-use Rattle.tcp_control.specs.Endpoints.{is_between, is_connected_by, local_of, remote_of}
+use Rattle.tcp_model.specs.Endpoints.{is_between, is_connected_by, local_of, remote_of}
 use Rattle.ip_wire.specs.AddressTests.{is_same_address}
-use Rattle.tcp_control.specs.declared.state.State.{State}
-use Rattle.tcp_control.specs.declared.state.State.TheVariants as In
+use Rattle.tcp_model.specs.State.{State}
+use Rattle.tcp_model.specs.State.TheVariants as In
 use Rattle.sockets.specs.Keys.{key_of, of_block, of_clients, of_listeners, of_pair, of_port, of_ports}
 use Rattle.sockets.specs.Udp as Udps
 use Rattle.sockets.specs.Socket.{accepts_datagram, accepts_segment}
