@@ -24,8 +24,7 @@ none_given test change (place ∷ places) none =
     let parts = or_parts (passes test place) (list_any (passes test) places) none in
     ap₂ (λ (p : SocketStorage Socket) (ps : Places). p ∷ ps) (same_place test change place parts.0) (none_given test change places parts.1)
 
--- so of places that were seen to be for none of it
-pub none_seen : (test : Socket → Bool) (change : Socket → Socket) (places seen : Places) (some : Bool) → some ≡ list_any (passes test) seen → seen ≡ places
+-- so of places that are for none of it
+pub none_seen : (test : Socket → Bool) (change : Socket → Socket) (places : Places) (some : Bool) → some ≡ list_any (passes test) places
     → some ≡ false → places ≡ all_given test change places
-none_seen test change places seen some is same none =
-    sym (none_given test change places (sym (ap (list_any (passes test)) same) ∙ (sym is ∙ none)))
+none_seen test change places some is none = sym (none_given test change places (sym is ∙ none))

@@ -49,13 +49,11 @@ of_connected other ip header so = absurd cc
 module _ {X : Type 0} (test : X → Bool) where
   within_where_any : (xs : List X) → nat_lt (position_or_len test xs) (length xs) ≡ list_any test xs
   within_where_any [] = refl
-  within_where_any (x ∷ xs) = by (test x) refl where
-    rest : nat_lt (position_or_len test xs) (length xs) ≡ list_any test xs
-    rest = within_where_any xs
-
-    by : (b : Bool) → test x ≡ b → nat_lt (position_or_len test (x ∷ xs)) (length (x ∷ xs)) ≡ list_any test (x ∷ xs)
-    by true so = ?
-    by false so = ?
+  within_where_any (x ∷ xs) = by (test x) refl (within_where_any xs) where
+    by : (b : Bool) → test x ≡ b → nat_lt (position_or_len test xs) (length xs) ≡ list_any test xs
+        → nat_lt (position_or_len test (x ∷ xs)) (length (x ∷ xs)) ≡ list_any test (x ∷ xs)
+    by true so rest = grind (arith, so)
+    by false so rest = grind (arith, so, rest)
 
   some_if : (b : Bool) (n : ℕ) → is_some (if b then Some n else None) ≡ b
   some_if true n = refl
