@@ -3,6 +3,7 @@
 
 mod fragmentation;
 mod neighbor;
+mod places;
 mod routes;
 mod socket_meta;
 mod socket_set;

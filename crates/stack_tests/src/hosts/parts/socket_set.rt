@@ -13,8 +13,14 @@ impl Idle for Number {
 
     ghost idle = { λ number. false };
 
+    ghost key = { λ number. 0 };
+
     fn is_idle(&self) -> bool {
         false
+    }
+
+    fn key(&self) -> u64 {
+        0
     }
 }
 

@@ -1,0 +1,120 @@
+//! Tests of places that are found by a key, and of how many sockets a search looks at.
+use interface_egress::{Idle, SocketSet, Wanted};
+use net_base::ManagedSlice;
+use std::alloc::Global;
+use std::cell::Cell;
+use std::test::Fail;
+
+/// A socket that is a number, always idle, and found by a key.
+#[derive(Debug, Drop)]
+struct Keyed {
+    key: u64,
+    number: u32,
+}
+
+impl Idle for Keyed {
+    ghost use Rattle.std.specs.Prelude.{true};
+
+    ghost idle = { λ k. true };
+
+    ghost key = { λ k. k.key };
+
+    fn is_idle(&self) -> bool {
+        true
+    }
+
+    fn key(&self) -> u64 {
+        self.key
+    }
+}
+
+/// The socket of this key that is this number. It counts those that it looks at.
+#[derive(Drop)]
+struct Seeks<'a> {
+    key: u64,
+    number: u32,
+    looks: &'a Cell<u32>,
+}
+
+impl<'a> Wanted for Seeks<'a> {
+    ghost use Rattle.std.specs.Prelude.{◌==◌, ◌&&◌};
+
+    type Socket = Keyed;
+
+    ghost wants = { λ w s. (s.key == w.key) && (s.number == w.number) };
+
+    fn wants(&self, socket: &Keyed) -> bool {
+        self.looks.set(self.looks.get().saturating_add(1));
+        socket.key == self.key && socket.number == self.number
+    }
+}
+
+/// Where the socket of this key is that is this number, and at how many the search looked.
+fn found(set: &SocketSet<Keyed>, key: u64, number: u32) -> (Option<usize>, u32) {
+    let looks = Cell::new(0);
+    let seeks = Seeks {
+        key,
+        number,
+        looks: &looks,
+    };
+    let at = set.places.find(key, None, &seeks);
+    (at, looks.get())
+}
+
+/// A hundred sockets of ten keys: that of place n is number n, and its key is the last digit of n.
+fn hundred(alloc: Global) -> Option<SocketSet<Keyed>> {
+    let mut set = SocketSet::new(ManagedSlice::Owned(Vec::new(alloc)));
+    for number in 0..100 {
+        let key = number % 10;
+        set.add(Keyed {
+            key: key as u64,
+            number,
+        })
+        .ok()?;
+    }
+    Some(set)
+}
+
+/// Each place has its turn, behind which it is filed.
+fn all_rest(set: &mut SocketSet<Keyed>) {
+    for at in 0..set.places.len() {
+        set.places.let_rest(at);
+    }
+}
+
+/// A search looks at all sockets until they were filed, and then at those of its key alone, in their order.
+#[test]
+fn a_search_looks_at_the_sockets_of_its_key_alone(rt: HostRuntime) -> Result<(), Fail> {
+    let mut set = hundred(rt.alloc()).expect(&rt, "memory");
+    assert!(rt; found(&set, 3, 43) == (Some(43), 44));
+    all_rest(&mut set);
+    assert!(rt; set.places.next_busy(0).is_none());
+    assert!(rt; found(&set, 3, 43) == (Some(43), 5));
+    assert!(rt; found(&set, 0, 0) == (Some(0), 1));
+    assert!(rt; found(&set, 9, 99) == (Some(99), 10));
+    assert!(rt; found(&set, 3, 44) == (None, 10));
+    assert!(rt; found(&set, 10, 10) == (None, 0));
+    Ok(())
+}
+
+/// A socket that was lent is found by any key, and once its place had its turn by the one that it has then.
+#[test]
+fn who_was_lent_is_found_by_a_new_key(rt: HostRuntime) -> Result<(), Fail> {
+    let mut set = hundred(rt.alloc()).expect(&rt, "memory");
+    all_rest(&mut set);
+    for at in [13, 3, 93, 50] {
+        assert!(rt; at < set.places.len());
+        if let Some(item) = &mut set.places.place_mut(at).inner {
+            item.socket.key = 77;
+        }
+    }
+    assert!(rt; found(&set, 77, 50) == (Some(50), 3));
+    for at in [13, 3, 93, 50] {
+        set.places.let_rest(at);
+    }
+    assert!(rt; found(&set, 77, 50) == (Some(50), 3));
+    assert!(rt; found(&set, 77, 93) == (Some(93), 4));
+    assert!(rt; found(&set, 3, 43) == (Some(43), 3));
+    assert!(rt; found(&set, 3, 13) == (None, 7));
+    Ok(())
+}
