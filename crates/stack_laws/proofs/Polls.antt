@@ -25,6 +25,7 @@ pub mod First
 pub mod Searches
 pub mod Waited
 pub mod Rotates
+pub mod StillNeeded
 pub mod Exchanged
 pub mod Inbox
 pub mod Pieces

@@ -8,13 +8,13 @@ use Rattle.net_base.specs.Device.{Move}
 use Rattle.ip_wire.specs.AddressTests.{is_same_address}
 use Rattle.ip_wire.specs.IpAddress.{IpAddress}
 use Rattle.interface_tables.specs.Inner.{InnerValue}
-use Rattle.interface_tables.specs.Neighbor.{CacheValue, answer_of, is_search_for, last_request, requested, search_room, silent_time}
+use Rattle.interface_tables.specs.Neighbor.{CacheValue, answer_of, is_search_for, last_request, search_room, silent_time}
 use Rattle.interface_tables.specs.declared.neighbor.Search.{Search}
 use Rattle.interface_tables.proofs.PathMtu.{itself}
 use Rattle.interface_tables.specs.Best.{first_that}
 use Rattle.interface.specs.Awaited.{next_awaited}
 use Rattle.interface.specs.declared.awaited.Awaited.{Awaited}
-use Rattle.stack_laws.specs.Progress.Rounds.{AreRounds, Counts, IsOneOf, PassesOver, Round}
+use Rattle.stack_laws.specs.Progress.Rounds.{AreRounds, IsOneOf, PassesOver, Round}
 use Rattle.stack_laws.specs.Progress.Turns.{AreInOrder, AsksThen, GoesBefore, IsAskedFor, IsAwaited, IsWaitedFor, OutStep, WaitsOn, host_in}
 use Rattle.stack_laws.proofs.Polls.First.{same_address}
 use Rattle.stack_laws.proofs.Polls.Round.{asked_within}

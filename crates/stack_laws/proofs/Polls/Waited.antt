@@ -1,8 +1,8 @@
 -- A step of the way out while sockets wait: the neighbour whose turn it is is asked for, and no other.
-use Rattle.std.proofs.Common.{◌≡◌, ℕ, zero, suc, Bool, true, false, ◌||◌, ◌⊎◌, inl, inr, ℤ, pos, ◌+ℤ◌, List, [], ◌∷◌, ◌++◌, Option, Some, None, is_some}
+use Rattle.std.proofs.Common.{◌≡◌, ℕ, zero, suc, Bool, true, false, ◌||◌, ◌⊎◌, inl, inr, ℤ, List, [], ◌∷◌, ◌++◌, Option, Some, None, is_some}
 use Rattle.std.proofs.Common.{refl, sym, ap, ◌∙◌, subst}
 use Rattle.std.specs.Prelude.{not, slice_get}
-use Rattle.std.specs.List.{list_any, AllByRecursion}
+use Rattle.std.specs.List.{list_any}
 use Rattle.net_base.specs.Device.{Move, Allowed, Emitted, Denied}
 use Rattle.ip_wire.specs.Ip.{destination_of}
 use Rattle.ip_wire.specs.IpAddress.{IpAddress}
@@ -14,7 +14,6 @@ use Rattle.interface_ingress.specs.Socket.{Socket}
 use Rattle.interface_ingress.specs.Sockets.{Offers, offered_by}
 use Rattle.interface_tables.specs.Inner.{InnerValue, is_crowded, link_address}
 use Rattle.interface_tables.specs.Neighbor.{CacheValue, requested}
-use Rattle.interface_tables.specs.declared.link.LinkAddress.TheVariants as Link
 use Rattle.interface_tables.proofs.PathMtu.{itself}
 use Rattle.interface_egress.specs.Departure.{Asks, target_of}
 use Rattle.interface_egress.specs.Fragments.{LeftValue, departure_from}
@@ -29,13 +28,13 @@ use Rattle.interface_egress.specs.declared.way_out.Sent.{Sent}
 use Rattle.interface_egress.specs.declared.way_out.Sent.TheVariants as Outcome
 use Rattle.interface.specs.Awaited.{hop_of, next_awaited, turn_of}
 use Rattle.interface.specs.declared.awaited.Awaited.{Awaited}
-use Rattle.interface.specs.Egress.{behind, sending}
+use Rattle.interface.specs.Egress.{sending}
 use Rattle.interface.specs.Host.{Sender}
 use Rattle.interface.specs.Pass.{Pass, Passed}
 use Rattle.interface.specs.Remote.{context_for}
 use Rattle.interface.specs.SameHost.{IsSameHost}
 use Rattle.interface.specs.State.{State}
-use Rattle.interface.specs.Turn.{is_other, is_waiting, held, outcome_by, plan_at, let_through, sourced}
+use Rattle.interface.specs.Turn.{is_other, held, outcome_by, plan_at, let_through, sourced}
 use Rattle.interface.specs.Turn.{Leaves, SendsBy, Answers, TurnsIf, ItemTurns, PlaceTurns}
 use Rattle.interface.specs.WayOut.{PieceLeaves, Clears, Egress}
 use Rattle.interface.specs.declared.turn.Turned.{Turned}
@@ -47,7 +46,7 @@ use Rattle.stack_laws.specs.Progress.Exchanged.{AsksFor}
 use Rattle.stack_laws.specs.Progress.Moves.{AreMoves, is_refused}
 use Rattle.stack_laws.specs.Progress.Queued.{Sends}
 use Rattle.stack_laws.specs.Progress.Turns.{AsksThen, GoesFreely, NeedsHop, OffersNeedy, OutStep, StillNeeds, WaitsOn, host_in}
-use Rattle.stack_laws.proofs.Polls.Asking.{AreSuch, AskedSo, Tail, TurnWalks, Walked, tail, walks}
+use Rattle.stack_laws.proofs.Polls.Asking.{AreSuch, AskedSo, Tail, TurnWalks, tail, walks}
 use Rattle.stack_laws.proofs.Polls.Asks.{held_none, may_under, plan_asks, plan_for, plan_from, sought_under}
 use Rattle.stack_laws.proofs.Polls.First.{host_then, offers_under, one_turn}
 use Rattle.stack_laws.proofs.Polls.Passes.{PieceEnds, clears, clears_same}
@@ -254,7 +253,7 @@ module _ {D : Type 0} (moves : D → Move → D → Type 0) (hop : IpAddress) wh
               then_so ys (inr is) = inr is
     keeps s before changed (p ∷ ps) e now known (inr stops) =
         let took : (all : List Move) × AreMoves moves all s.device stops.1.device
-            × ((list_any is_refused all ≡ true) ⊎ (stops.1.inner.neighbors ≡ then_known)) =
+        × ((list_any is_refused all ≡ true) ⊎ (stops.1.inner.neighbors ≡ then_known)) =
         still s stops.1 (Turn.Stop stops.0) known
         (walks moves turn (λ (q : Question). ⊥) s stops.1 p stops.2 (Turn.Stop stops.0) (nobody s p now known) stops.3) in
         record {

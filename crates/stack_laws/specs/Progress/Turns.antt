@@ -10,12 +10,12 @@ use Rattle.interface_ingress.specs.Packet.{PacketValue}
 use Rattle.interface_ingress.specs.Socket.{Socket}
 use Rattle.interface_ingress.specs.Sockets.{Offers, offered_by}
 use Rattle.interface_tables.specs.Inner.{InnerValue, at_moment, is_crowded, link_address}
-use Rattle.interface_tables.specs.Neighbor.{CacheValue, requested}
+use Rattle.interface_tables.specs.Neighbor.{requested}
 use Rattle.interface_tables.specs.declared.link.LinkAddress.TheVariants as Link
 use Rattle.interface_egress.specs.Plan.{may_ask, never_leaves}
 use Rattle.interface_egress.specs.declared.socket_set.Item.{Item}
 use Rattle.interface_egress.specs.declared.socket_set.SocketStorage.{SocketStorage}
-use Rattle.interface.specs.Awaited.{awaited_at, awaited_in}
+use Rattle.interface.specs.Awaited.{awaited_in}
 use Rattle.interface.specs.declared.awaited.Awaited.{Awaited}
 use Rattle.interface.specs.Egress.{EgressStep}
 use Rattle.interface.specs.Remote.{context_for}
