@@ -26,6 +26,7 @@ pub mod Searches
 pub mod Waited
 pub mod Rotates
 pub mod StillNeeded
+pub mod InSilence
 pub mod Exchanged
 pub mod Inbox
 pub mod Pieces

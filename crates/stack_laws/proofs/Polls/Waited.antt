@@ -6,6 +6,8 @@ use Rattle.std.specs.List.{list_any}
 use Rattle.net_base.specs.Device.{Move, Allowed, Emitted, Denied}
 use Rattle.ip_wire.specs.Ip.{destination_of}
 use Rattle.ip_wire.specs.IpAddress.{IpAddress}
+use Rattle.sockets.specs.Offers.{HasPacket}
+use Rattle.sockets.proofs.AnyKind.{has_packet}
 use Rattle.interface_ingress.specs.Context.{ContextValue}
 use Rattle.interface_ingress.specs.Offer as Answer
 use Rattle.interface_ingress.specs.Offer.TheVariants as Offer
@@ -45,7 +47,7 @@ use Rattle.stack_laws.specs.Progress.Asked.{IsFrom}
 use Rattle.stack_laws.specs.Progress.Exchanged.{AsksFor}
 use Rattle.stack_laws.specs.Progress.Moves.{AreMoves, is_refused}
 use Rattle.stack_laws.specs.Progress.Queued.{Sends}
-use Rattle.stack_laws.specs.Progress.Turns.{AsksThen, GoesFreely, NeedsHop, OffersNeedy, OutStep, StillNeeds, WaitsOn, host_in}
+use Rattle.stack_laws.specs.Progress.Turns.{AsksThen, GoesFreely, IsNeedy, NeedsHop, OutStep, StillNeeds, WaitsOn, host_in}
 use Rattle.stack_laws.proofs.Polls.Asking.{AreSuch, AskedSo, Tail, TurnWalks, tail, walks}
 use Rattle.stack_laws.proofs.Polls.Asks.{held_none, may_under, plan_asks, plan_for, plan_from, sought_under}
 use Rattle.stack_laws.proofs.Polls.First.{host_then, offers_under, one_turn}
@@ -64,12 +66,6 @@ no_place = None
 abbrev no_one : Option Sent
 no_one = None
 
-some_packet : (p q : PacketValue) → (let o : Option PacketValue = Some p in o) ≡ Some q → q ≡ p
-some_packet p q is = sym cc
-
-silent_not : (a b : Bool) → Offer.Silent a ≡ Offer.Packet b → ⊥
-silent_not a b is = cc
-
 next_not : (b c : Bool) → Turn.Stop b ≡ Turn.Next c → ⊥
 next_not b c same = cc
 
@@ -86,14 +82,17 @@ module _ (i : InnerValue) (ident : ℕ) (hop : IpAddress) where
     asks = may_under i ident hop needs.asks;
   }
 
+  needy_under : (o : Option PacketValue) → IsNeedy i hop o → IsNeedy later hop o
+  needy_under None needy = absurd needy
+  needy_under (Some p) needy = packet_under p needy
+
   needs_under : (o : Option (Item Socket)) → StillNeeds i hop o → StillNeeds later hop o
   needs_under None needs = absurd needs
   needs_under (Some item) needs = (waits_still i later item.meta refl needs.0, with_packet) where
-    with_packet : (answer : Answer.Offer) (s : Socket) → Offers (context_for later item.socket) item.socket answer s → OffersNeedy later hop answer s
+    with_packet : (answer : Answer.Offer) (s : Socket) → Offers (context_for later item.socket) item.socket answer s → IsNeedy later hop (offered_by s)
     with_packet answer s offers =
-        let needy : OffersNeedy i hop answer s =
-        needs.1 answer s (subst (λ (cx : ContextValue). Offers cx item.socket answer s) (offers_under i ident item.socket) offers) in
-        record { changed = needy.changed; packet = needy.packet; says = needy.says; offered = needy.offered; needs = packet_under needy.packet needy.needs }
+        needy_under (offered_by s)
+        (needs.1 answer s (subst (λ (cx : ContextValue). Offers cx item.socket answer s) (offers_under i ident item.socket) offers))
 
 module _ {D : Type 0} (moves : D → Move → D → Type 0) (hop : IpAddress) where
   abbrev turn : Option IpAddress
@@ -161,19 +160,22 @@ module _ {D : Type 0} (moves : D → Move → D → Type 0) (hop : IpAddress) wh
         (ap (link_address x.inner) (sourced_same x.inner p).0 ∙ needs.unknown) needs.asks in
         (asks.0, ap (plan_at x) is ∙ asks.1, asks.2)
 
-    sends : (o : Option PacketValue) (p : PacketValue) (item item' : Item Socket) (changed : Bool) (turned : Turned) → o ≡ Some p
-        → NeedsHop x.inner hop p → SendsBy moves turn o x item changed turned x' item' → AsksNow
-    sends None p item item' changed turned is needs goes = absurd goes
-    sends (Some r) p item item' changed turned is needs goes =
-        let asks : (q : Question) × (plan_at x goes.0 ≡ Way.Ask q) × (target_of q ≡ hop) =
-        its_plan p goes.0 (goes.1 ∙ ap (sourced x.inner) (sym (some_packet r p is))) needs in
+    sends : (o : Option PacketValue) (item item' : Item Socket) (changed : Bool) (turned : Turned) → IsNeedy x.inner hop o
+        → SendsBy moves turn o x item changed turned x' item' → AsksNow
+    sends None item item' changed turned needy goes = absurd needy
+    sends (Some p) item item' changed turned needy goes =
+        let asks : (q : Question) × (plan_at x goes.0 ≡ Way.Ask q) × (target_of q ≡ hop) = its_plan p goes.0 goes.1 needy in
         leaving item.meta goes.0 asks.0 goes.3.0 asks.1 asks.2 goes.3.1
 
-    answers : (answer : Answer.Offer) (s : Socket) (item item' : Item Socket) (turned : Turned) → item.socket ≡ s → OffersNeedy x.inner hop answer s
-        → Answers moves turn answer x item turned x' item' → AsksNow
-    answers (Offer.Silent changed) s item item' turned is needy goes = absurd (silent_not changed needy.changed needy.says)
-    answers (Offer.Packet changed) s item item' turned is needy goes =
-        sends (offered_by item.socket) needy.packet item item' changed turned (ap offered_by is ∙ needy.offered) needy.needs goes
+    -- who has a packet says so
+    not_silent : (o : Option PacketValue) (changed : Bool) → IsNeedy x.inner hop o → HasPacket (Offer.Silent changed) o → ⊥
+    not_silent None changed needy has = needy
+    not_silent (Some p) changed needy has = has
+
+    answers : (answer : Answer.Offer) (item item' : Item Socket) (turned : Turned) → IsNeedy x.inner hop (offered_by item.socket)
+        → HasPacket answer (offered_by item.socket) → Answers moves turn answer x item turned x' item' → AsksNow
+    answers (Offer.Silent changed) item item' turned needy has goes = absurd (not_silent (offered_by item.socket) changed needy has)
+    answers (Offer.Packet changed) item item' turned needy has goes = sends (offered_by item.socket) item item' changed turned needy goes
 
     turns : (o o' : Option (Item Socket)) (turned : Turned) → StillNeeds x.inner hop o → ItemTurns moves turn o x turned x' o' → AsksNow
     turns None o' turned needs goes = absurd needs
@@ -181,7 +183,8 @@ module _ {D : Type 0} (moves : D → Move → D → Type 0) (hop : IpAddress) wh
     turns (Some item) (Some item') turned needs goes =
         let asked : TurnsIf moves turn false x (let_through x.inner item) turned x' item' =
         subst (λ (waits : Bool). TurnsIf moves turn waits x (let_through x.inner item) turned x' item') needs.0 goes in
-        answers asked.0 asked.1 (record (let_through x.inner item) { socket = asked.1 }) item' turned refl (needs.1 asked.0 asked.1 asked.2) asked.3
+        answers asked.0 (record (let_through x.inner item) { socket = asked.1 }) item' turned (needs.1 asked.0 asked.1 asked.2)
+        (has_packet item.socket asked.1 (context_for x.inner item.socket) asked.0 asked.2) asked.3
 
     our_turn : (place place' : Place) (turned : Turned) → StillNeeds x.inner hop place.inner → PlaceTurns moves turn x place turned x' place' → AsksNow
     our_turn place place' turned needs goes = turns place.inner place'.inner turned needs goes

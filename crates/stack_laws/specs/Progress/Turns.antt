@@ -5,7 +5,6 @@ use Rattle.net_base.specs.Device.{Move}
 use Rattle.ip_wire.specs.Ip.{destination_of}
 use Rattle.ip_wire.specs.IpAddress.{IpAddress}
 use Rattle.interface_ingress.specs.Offer as Answer
-use Rattle.interface_ingress.specs.Offer.TheVariants as Offer
 use Rattle.interface_ingress.specs.Packet.{PacketValue}
 use Rattle.interface_ingress.specs.Socket.{Socket}
 use Rattle.interface_ingress.specs.Sockets.{Offers, offered_by}
@@ -35,20 +34,17 @@ pub record NeedsHop (i : InnerValue) (hop : IpAddress) (p : PacketValue) : Type 
   pub unknown : link_address i (destination_of p.header) ≡ Link.Unknown hop
   pub asks : may_ask i hop ≡ true
 
--- a socket that answers this, and is then this one, offers such a packet
-pub record OffersNeedy (i : InnerValue) (hop : IpAddress) (answer : Answer.Offer) (s : Socket) : Type 0 where
-  pub changed : Bool
-  pub packet : PacketValue
-  pub says : answer ≡ Offer.Packet changed
-  pub offered : offered_by s ≡ Some packet
-  pub needs : NeedsHop i hop packet
+-- a packet is offered, and it needs this hop
+abbrev pub IsNeedy : InnerValue → IpAddress → Option PacketValue → Type 0
+IsNeedy i hop None = ⊥
+IsNeedy i hop (Some p) = NeedsHop i hop p
 
--- The socket at a place has waited long enough to be asked for a packet, and whatever it answers, it still has one that needs this hop.
+-- The socket at a place may be asked for a packet at the host's moment, and whatever it then answers, it offers one that needs this hop.
 abbrev pub StillNeeds : InnerValue → IpAddress → Option (Item Socket) → Type 0
 StillNeeds i hop None = ⊥
 StillNeeds i hop (Some item) =
     (is_waiting i item.meta ≡ false)
-    × ((answer : Answer.Offer) (s : Socket) → Offers (context_for i item.socket) item.socket answer s → OffersNeedy i hop answer s)
+    × ((answer : Answer.Offer) (s : Socket) → Offers (context_for i item.socket) item.socket answer s → IsNeedy i hop (offered_by s))
 
 -- where it waits for a neighbour, that is one of these, and it still needs it
 abbrev pub WaitsOn : InnerValue → List IpAddress → SocketStorage Socket → Type 0
@@ -104,7 +100,8 @@ module _ {D : Type 0} (moves : D → Move → D → Type 0) where
 
   -- ONE BEHIND THE OTHER
 
-  -- No step is earlier than this. In between frames come and sockets are used, but nobody is asked for, and nobody who was asked for answers.
+  -- The next step isn't earlier. In between frames may come, sockets be used and polls go, but nobody is asked for, and nobody who was asked for
+  -- answers.
   abbrev pub GoesBefore : OutStep → List OutStep → Type 0
   GoesBefore x [] = Unit {0}
   GoesBefore x (y ∷ more) = (x.moment ≤ℤ y.moment) × (y.old.host.inner.neighbors.searches ≡ x.new.host.inner.neighbors.searches)

@@ -1,6 +1,6 @@
 //! A neighbour that sockets wait for has its turn within so many steps.
 
-ghost use Rattle.std.specs.Prelude.{◌≡◌, ◌≤◌, ℕ, false, List, ◌∷◌, length, Some};
+ghost use Rattle.std.specs.Prelude.{◌≡◌, ◌≤◌, ℕ, ℤ, int_lt, Bool, true, false, List, ◌∷◌, length, Option, Some};
 ghost use Rattle.std.specs.List.{AllByRecursion};
 ghost use Rattle.net_base.specs.Packets.{contents};
 ghost use Rattle.ip_wire.specs.IpAddress.{IpAddress};
@@ -12,6 +12,8 @@ ghost use Rattle.interface_tables.specs.Inner.{InnerValue};
 ghost use Rattle.interface_egress.specs.declared.socket_meta.Meta.{Meta};
 ghost use Rattle.interface.specs.Awaited.{next_awaited};
 ghost use Rattle.interface.specs.declared.awaited.Awaited.{Awaited};
+ghost use Rattle.interface.specs.Egress.{EgressStep};
+ghost use Rattle.interface.specs.State.{State};
 ghost use Rattle.interface.specs.Turn.{is_waiting};
 ghost use Rattle.stack_laws.specs.Progress.Asked.{HasToAsk};
 ghost use Rattle.stack_laws.specs.Progress.Rounds.{IsOneOf};
@@ -36,6 +38,15 @@ pub fn waiting_sockets_ask_in_turn<D: Device>()
         → GoesFreely D.moves hops x
         → next_awaited (host_in D.moves x) x.old.places ≡ Some a
         → AsksThen D.moves x a.hop }
+{}
+
+/// Law: and for nobody until that question's second is over. Whatever the device does in a step of the way out, what the host knows of neighbours stays
+/// while the silence lasts.
+pub fn nobody_is_asked_for_in_silence<D: Device>()
+    ensures { (t : ℤ) (s s' : State D) (answer : Option Bool)
+        → int_lt t s.host.inner.neighbors.silent ≡ true
+        → EgressStep D.moves t s answer s'
+        → s'.host.inner.neighbors ≡ s.host.inner.neighbors }
 {}
 
 /// Law: a neighbour has its turn within as many steps as there are neighbours that sockets wait for. Of so many steps of the way out, each of which
