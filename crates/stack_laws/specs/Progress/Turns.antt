@@ -46,11 +46,11 @@ StillNeeds i hop (Some item) =
     (is_waiting i item.meta ≡ false)
     × ((answer : Answer.Offer) (s : Socket) → Offers (context_for i item.socket) item.socket answer s → IsNeedy i hop (offered_by s))
 
--- where it waits for a neighbour, that is one of these, and it still needs it
+-- where the socket at a place waits for a neighbour, that is one of these, and the socket still needs it
 abbrev pub WaitsOn : InnerValue → List IpAddress → SocketStorage Socket → Type 0
 WaitsOn i hops place = (a : Awaited) → awaited_in i place ≡ Some a → IsOneOf a.hop hops × StillNeeds i a.hop place.inner
 
--- a socket waits for this neighbour; and the last question for it, if one went, had its second
+-- a socket waits for this neighbour; and if it was asked for, its second to answer in is over
 pub record IsAwaited (i : InnerValue) (places : List (SocketStorage Socket)) (hop : IpAddress) : Type 0 where
   pub n : ℕ
   pub place : SocketStorage Socket
@@ -79,7 +79,7 @@ module _ {D : Type 0} (moves : D → Move → D → Type 0) where
     pub room : is_crowded (host_in x) ≡ false
     pub waiting : AllByRecursion (WaitsOn (host_in x) hops) x.old.places
 
-  -- and one of them for this neighbour
+  -- and one of them waits for this neighbour
   pub record IsWaitedFor (hop : IpAddress) (hops : List IpAddress) (x : OutStep) : Type 0 where
     pub freely : GoesFreely hops x
     pub awaited : IsAwaited (host_in x) x.old.places hop

@@ -31,8 +31,9 @@ pub fn a_queued_datagram_needs_its_hop()
         → StillNeeds i hop (Some (record { meta = meta; socket = Kind.Udp v })) }
 {}
 
-/// Law: where sockets wait, of whatever kind they are, a step of the way out asks for the neighbour whose turn it is, and for no other. So it does
-/// where each of them still needs its neighbour, which may be asked for now, and the device refuses nothing.
+/// Law: where sockets wait, of whatever kind they are, a step of the way out asks for the neighbour whose turn it is, and of what the host knows of
+/// neighbours that question alone changes something. So it is where each of them still needs its neighbour, which may be asked for now, the host keeps
+/// count of fewer neighbours than it can, and the device refuses nothing.
 pub fn waiting_sockets_ask_in_turn<D: Device>()
     ensures { (hops : List IpAddress) (x : OutStep D.moves) (a : Awaited)
         → GoesFreely D.moves hops x
@@ -40,8 +41,8 @@ pub fn waiting_sockets_ask_in_turn<D: Device>()
         → AsksThen D.moves x a.hop }
 {}
 
-/// Law: and for nobody until that question's second is over. Whatever the device does in a step of the way out, what the host knows of neighbours stays
-/// while the silence lasts.
+/// Law: and nobody is asked for until that question's second is over: while the silence lasts a step of the way out leaves what the host knows of
+/// neighbours, whatever the device does.
 pub fn nobody_is_asked_for_in_silence<D: Device>()
     ensures { (t : ℤ) (s s' : State D) (answer : Option Bool)
         → int_lt t s.host.inner.neighbors.silent ≡ true
