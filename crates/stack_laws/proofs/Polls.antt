@@ -22,6 +22,11 @@ pub mod Answered
 pub mod Silenced
 pub mod Delivered
 pub mod First
+pub mod Searches
+pub mod Waited
+pub mod Rotates
+pub mod StillNeeded
+pub mod InSilence
 pub mod Exchanged
 pub mod Inbox
 pub mod Pieces

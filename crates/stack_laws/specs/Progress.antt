@@ -7,6 +7,7 @@ pub mod Excluded
 pub mod Reached
 pub mod Asked
 pub mod Rounds
+pub mod Turns
 pub mod Delivered
 pub mod Inbox
 pub mod Exchanged

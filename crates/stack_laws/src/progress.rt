@@ -9,3 +9,4 @@ pub mod partners;
 pub mod pieces;
 pub mod polls;
 pub mod rest;
+pub mod turns;

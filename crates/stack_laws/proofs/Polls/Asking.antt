@@ -47,7 +47,7 @@ use Rattle.stack_laws.specs.Progress.Asked.{HasToAsk, IsFrom, AsksInTurn, AsksAt
 use Rattle.stack_laws.specs.Progress.Queued.{HasTurn, Sends}
 use Rattle.stack_laws.proofs.Polls.OurLeave.{OursLeaves, our_leave}
 use Rattle.stack_laws.proofs.Polls.Asks.{asks_plan, held_none, held_not, kept_in, plan_from}
-use Rattle.stack_laws.proofs.Polls.Passes.{PieceEnds, clears}
+use Rattle.stack_laws.proofs.Polls.Passes.{PieceEnds, clears, clears_same}
 use Rattle.stack_laws.proofs.Polls.Walks.{joined, refused_before, refused_behind, sends_before, sends_behind}
 
 abbrev Place : Type 0
@@ -435,10 +435,6 @@ module _ {D : Type 0} (moves : D → Move → D → Type 0) (v : UdpValue) (d : 
       what = inl refl;
     }
 
-  clears_same : (left : Option LeftValue) (s mid : Sender D) → Clears moves left s true mid → mid.inner ≡ s.inner
-  clears_same None s mid goes = ap (λ (x : Sender D). x.inner) goes.1
-  clears_same (Some l) s mid goes = goes.1
-
   behind : (turn : Option IpAddress) (i : InnerValue) (xs : List Move) (old mid new : D) → AreMoves moves xs old mid → AsksOnce moves turn i mid new
       → AsksOnce moves turn i old new
   behind turn i xs old mid new are rest = record {
@@ -459,7 +455,7 @@ module _ {D : Type 0} (moves : D → Move → D → Type 0) (v : UdpValue) (d : 
       (stays (turn_of s.inner ps) s.left s waits.0 waits.1)
   egress_asks s ps n e stands has ready ours (inr goes) =
       let piece : PieceEnds moves s goes.0 true = clears moves s.left s goes.0 true refl goes.1 in
-      by goes.0 piece (clears_same s.left s goes.0 goes.1) goes.2
+      by goes.0 piece (clears_same moves s.left s goes.0 true goes.1) goes.2
     where
       by : (mid : Sender D) → PieceEnds moves s mid true → mid.inner ≡ s.inner → Pass moves (turn_of mid.inner ps) mid [] false ps e
           → AsksOnce moves (turn_of s.inner ps) s.inner s.device e.sender.device

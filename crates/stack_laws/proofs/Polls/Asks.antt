@@ -58,15 +58,19 @@ asks_on : (i : InnerValue) (to hop : IpAddress) (hardware : HardwareAddress) →
 asks_on i to hop Hardware.Ip unknown may = absurd (let never : Link.Known Hardware.Ip ≡ Link.Unknown hop = unknown in cc)
 asks_on i to hop (Hardware.Ethernet own) unknown may = asks_from i own hop may
 
+pub plan_asks : (i : InnerValue) (busy : Bool) (h : IpRepr) (hop : IpAddress) → never_leaves i h ≡ false
+    → link_address i (destination_of h) ≡ Link.Unknown hop → may_ask i hop ≡ true → Asking hop (plan_of i busy h)
+plan_asks i busy h hop leaves unknown asks =
+    let is : plan_of i busy h ≡ ask_on i.hardware i hop =
+    ap (λ (never : Bool). if never then Way.Drop else plan_by (link_address i (destination_of h)) i busy h) leaves
+    ∙ ap (λ (l : LinkAddress). plan_by l i busy h) unknown
+    ∙ ap (λ (may : Bool). ask_if may i hop) asks in
+    let it : Asking hop (ask_on i.hardware i hop) = asks_on i (destination_of h) hop i.hardware unknown asks in
+    (it.0, is ∙ it.1, it.2)
+
 pub asks_plan : (i : InnerValue) (busy : Bool) (settings : UdpSettings) (d : UdpMetadata × List ℕ) (hop : IpAddress) (p : PacketValue)
     → HasToAsk i settings d hop p → Asking hop (plan_of i busy p.header)
-asks_plan i busy settings d hop p has =
-    let is : plan_of i busy p.header ≡ ask_on i.hardware i hop =
-    ap (λ (never : Bool). if never then Way.Drop else plan_by (link_address i (destination_of p.header)) i busy p.header) has.may
-    ∙ ap (λ (l : LinkAddress). plan_by l i busy p.header) has.unknown
-    ∙ ap (λ (may : Bool). ask_if may i hop) has.asks in
-    let asks : Asking hop (ask_on i.hardware i hop) = asks_on i (destination_of p.header) hop i.hardware has.unknown has.asks in
-    (asks.0, is ∙ asks.1, asks.2)
+asks_plan i busy settings d hop p has = plan_asks i busy p.header hop has.may has.unknown has.asks
 
 -- a question is from the host's station, and from the address that a packet for the neighbour would be sent from
 module _ (i : InnerValue) (q : Question) where
@@ -190,6 +194,9 @@ module _ (i : InnerValue) (ident : ℕ) where
 pub sought_under : (i : InnerValue) (ident : ℕ) (to hop : IpAddress) → link_address (record i { ident = ident }) to ≡ Link.Unknown hop
     → link_address i to ≡ Link.Unknown hop
 sought_under i ident to hop is = on_kept (record i { ident = ident }) i.ident i.hardware to hop is
+
+pub may_under : (i : InnerValue) (ident : ℕ) (hop : IpAddress) → may_ask i hop ≡ true → may_ask (record i { ident = ident }) hop ≡ true
+may_under i ident hop is = may_kept i ident (source_for i.addresses hop) hop is
 
 pub asks_under : (i : InnerValue) (ident : ℕ) (settings : UdpSettings) (d : UdpMetadata × List ℕ) (hop : IpAddress) (p : PacketValue)
     → HasToAsk i settings d hop p → HasToAsk (record i { ident = ident }) settings d hop p

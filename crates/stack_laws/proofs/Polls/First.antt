@@ -59,7 +59,7 @@ use Rattle.stack_laws.proofs.Polls.Asking.{AreSuch, AskedSo, Tail, TurnWalks, Wa
 use Rattle.stack_laws.proofs.Polls.Asks.{asks_plan, asks_under, held_none, plan_for, plan_from, sought_under}
 use Rattle.stack_laws.proofs.Polls.Goes.{kept, stands_at}
 use Rattle.stack_laws.proofs.Polls.OurLeave.{OursLeaves, our_leave}
-use Rattle.stack_laws.proofs.Polls.Passes.{PieceEnds, clears}
+use Rattle.stack_laws.proofs.Polls.Passes.{PieceEnds, clears, clears_same}
 use Rattle.stack_laws.proofs.Polls.Silenced.{IsSought, nobody_sought, silent_link, sought}
 use Rattle.stack_laws.proofs.Polls.Walks.{joined, refused_before, refused_behind, sends_before, sends_behind}
 use Rattle.stack_laws.proofs.Polls.Ways.{waits_still}
@@ -76,7 +76,7 @@ no_one = None
 abbrev place_with : Option (Item Socket) → Place
 place_with o = record { inner = o }
 
-same_address : (a b : IpAddress) → is_same_address a b ≡ true → a ≡ b
+pub same_address : (a b : IpAddress) → is_same_address a b ≡ true → a ≡ b
 same_address (Address.Ipv4 a) (Address.Ipv4 b) is = ap (λ (bs : List ℕ). Address.Ipv4 (record { 0 = bs })) ((bytes_eq-Decides a.0 b.0).0 is)
 same_address (Address.Ipv6 a) (Address.Ipv6 b) is = ap (λ (bs : List ℕ). Address.Ipv6 (record { 0 = bs })) ((bytes_eq-Decides a.0 b.0).0 is)
 same_address (Address.Ipv4 a) (Address.Ipv6 b) is = absurd (let no : false ≡ true = is in cc)
@@ -87,7 +87,7 @@ not_other true is = refl
 not_other false is = absurd (let clash : true ≡ false = is in cc)
 
 -- of two that it is the turn of the one is the other
-one_turn : (turn hop other : IpAddress) → is_other (Some turn) hop ≡ false → is_other (Some turn) other ≡ false → other ≡ hop
+pub one_turn : (turn hop other : IpAddress) → is_other (Some turn) hop ≡ false → is_other (Some turn) other ≡ false → other ≡ hop
 one_turn turn hop other ours its =
     sym (same_address turn other (not_other (is_same_address turn other) its)) ∙ same_address turn hop (not_other (is_same_address turn hop) ours)
 
@@ -101,12 +101,12 @@ stops_not b c same = cc
 -- THE HOST OF A TURN
 
 -- what the turns so far left of a host, as a number and what is known of neighbours
-host_then : (i j : InnerValue) (c : CacheValue) → IsSameHost i j → c.entries ≡ i.neighbors.entries → j.neighbors ≡ c
+pub host_then : (i j : InnerValue) (c : CacheValue) → IsSameHost i j → c.entries ≡ i.neighbors.entries → j.neighbors ≡ c
     → j ≡ record i { ident = j.ident; neighbors = record i.neighbors { silent = c.silent; searches = c.searches } }
 host_then i j c same entries is =
     same ∙ ap (λ (k : CacheValue). record i { ident = j.ident; neighbors = record i.neighbors { silent = k.silent; searches = k.searches } }) is
 
-offers_under : (i : InnerValue) (ident : ℕ) (s : Socket) → context_for (record i { ident = ident }) s ≡ context_for i s
+pub offers_under : (i : InnerValue) (ident : ℕ) (s : Socket) → context_for (record i { ident = ident }) s ≡ context_for i s
 offers_under i ident s = by (remote_of s) where
   by : (o : Option IpAddress) → context_towards (record i { ident = ident }) o ≡ context_towards i o
   by None = refl
@@ -573,10 +573,6 @@ module _ {D : Type 0} (moves : D → Move → D → Type 0) (turn : Option IpAdd
       what = inl refl;
     }
 
-  clears_same : (left : Option LeftValue) (s mid : Sender D) → Clears moves left s true mid → mid.inner ≡ s.inner
-  clears_same None s mid goes = ap (λ (x : Sender D). x.inner) goes.1
-  clears_same (Some l) s mid goes = goes.1
-
 none_before : (k : ℕ) → k ≡ 0 + k
 none_before k = omega arith
 
@@ -600,8 +596,7 @@ module _ {D : Type 0} (moves : D → Move → D → Type 0) (t : ℤ) (s s' : St
   egress e (inr goes) =
       let piece : PieceEnds moves (sending t s) goes.0 true = clears moves s.host.left (sending t s) goes.0 true refl goes.1 in
       let same : goes.0.inner ≡ now =
-      clears_same moves whose_turn v d more queued hop p asks.turn.meta now has asks.turn.ready asks.spared asks.whose s.host.left (sending t s) goes.0
-      goes.1 in
+      clears_same moves s.host.left (sending t s) goes.0 true goes.1 in
       let pass : Pass moves whose_turn goes.0 [] false s.places e =
       subst (λ (j : InnerValue). Pass moves (turn_of j s.places) goes.0 [] false s.places e) same goes.2 in
       then_ends moves whose_turn v d more queued hop p asks.turn.meta now has asks.turn.ready asks.spared asks.whose (AsksFor now hop)

@@ -1,5 +1,5 @@
 -- The turn of a UDP socket whose first datagram may leave: its packet is what is offered.
-use Rattle.std.proofs.Common.{◌≡◌, ℕ, Bool, true, false, not, ◌||◌, if◌then◌else◌, List, ◌∷◌, Option, Some, refl, sym}
+use Rattle.std.proofs.Common.{◌≡◌, ℕ, Bool, true, false, not, ◌||◌, List, ◌∷◌, Option, Some, refl, sym}
 use Rattle.std.proofs.Common.{None, ap, ◌∙◌, subst}
 use Rattle.std.specs.Prelude.{slice_get}
 use Rattle.net_base.specs.Device.{Move}
@@ -18,8 +18,7 @@ use Rattle.interface_ingress.specs.Socket.{Socket}
 use Rattle.interface_ingress.specs.Socket.TheVariants as Kind
 use Rattle.interface_ingress.specs.Sockets as Sockets
 use Rattle.interface_ingress.specs.WellFormed.{IsWellFormed}
-use Rattle.interface_tables.specs.Inner.{context_of, is_foreign_loopback, may_come_from}
-use Rattle.interface_tables.specs.Source.{source_for}
+use Rattle.interface_tables.specs.Inner.{InnerValue, context_of, is_foreign_loopback, may_come_from}
 use Rattle.interface_egress.specs.Plan.{never_leaves}
 use Rattle.interface_egress.specs.declared.socket_meta.Meta.{Meta}
 use Rattle.interface_egress.specs.declared.socket_set.Item.{Item}
@@ -29,14 +28,25 @@ use Rattle.interface.specs.Host.{Sender}
 use Rattle.interface_egress.specs.Meta.{freed}
 use Rattle.interface.specs.Turn.{is_heard, is_waiting, let_through, waits_until, plan_at, settled_by, turned_by, Leaves, SendsBy, Answers, TurnsIf}
 use Rattle.interface.specs.Turn.{ItemTurns}
-use Rattle.interface.specs.Turn.{PlaceTurns, SendsAs, is_raw, with_source, sourced}
+use Rattle.interface.specs.Turn.{PlaceTurns, SendsAs, is_raw, sourced}
 use Rattle.interface.specs.Remote.{context_for}
+use Rattle.interface.proofs.Sourced.{sourced_stays}
 use Rattle.std.proofs.lemmas.Bool.{or_parts, or_right}
 use Rattle.interface.specs.declared.turn.Turned.{Turned}
 
 not_false : (b : Bool) → not b ≡ false → b ≡ true
 not_false true e = refl
 not_false false e = absurd (let clash : true ≡ false = e in cc)
+
+-- a packet that may leave leaves from its source
+pub source_stays : (i : InnerValue) (p : PacketValue) → never_leaves i p.header ≡ false → sourced i p ≡ p
+source_stays i p may =
+    let leaves_not : (is_foreign_loopback i (destination_of p.header) || not (may_come_from i (source_of p.header) (destination_of p.header))) ≡ false =
+    (or_parts (is_unspecified (destination_of p.header)) _ may).1 in
+    let from_here : may_come_from i (source_of p.header) (destination_of p.header) ≡ true =
+    not_false (may_come_from i (source_of p.header) (destination_of p.header))
+    (or_parts (is_foreign_loopback i (destination_of p.header)) _ leaves_not).1 in
+    sourced_stays i p (or_right (is_raw p.payload) (may_come_from i (source_of p.header) (destination_of p.header)) from_here)
 
 module _ {D : Type 0} (moves : D → Move → D → Type 0) (turn : Option IpAddress) (x x' : Sender D) (v : UdpValue) (d : UdpMetadata × List ℕ)
     (p : PacketValue) (takes : TakesDatagram (context_of x.inner) v.settings d p) (may : never_leaves x.inner p.header ≡ false) where
@@ -57,24 +67,12 @@ module _ {D : Type 0} (moves : D → Move → D → Type 0) (turn : Option IpAdd
     pub next : turned ≡ turned_by sent false
     pub became : o ≡ Some (settled_by sent x.inner.moment (waits_until (plan_at x p) x'.inner) (destination_of p.header) (offered_with meta))
 
-  -- it leaves from its source
-  source_stays : sourced x.inner p ≡ p
-  source_stays =
-      let leaves_not : (is_foreign_loopback x.inner (destination_of p.header)
-      || not (may_come_from x.inner (source_of p.header) (destination_of p.header))) ≡ false =
-      (or_parts (is_unspecified (destination_of p.header)) _ may).1 in
-      let from_here : may_come_from x.inner (source_of p.header) (destination_of p.header) ≡ true =
-      not_false (may_come_from x.inner (source_of p.header) (destination_of p.header))
-      (or_parts (is_foreign_loopback x.inner (destination_of p.header)) _ leaves_not).1 in
-      ap (λ (keeps : Bool). record p { header = if keeps then p.header else with_source p.header (source_for x.inner.addresses (destination_of p.header)) })
-      (or_right (is_raw p.payload) (may_come_from x.inner (source_of p.header) (destination_of p.header)) from_here)
-
   module _ (was meta : Meta) (let_in : meta ≡ freed was (is_heard x.inner was)) where
     sends : (item' : Item Socket) (turned : Turned) → SendsBy moves turn (Some p) x (offered_with meta) false turned x' item'
         → OursLeaves was turned (Some item')
     sends item' turned goes =
         let done : SendsAs moves turn p x (offered_with meta) false turned x' item' =
-        subst (λ (q : PacketValue). SendsAs moves turn q x (offered_with meta) false turned x' item') (goes.1 ∙ source_stays) goes.3 in
+        subst (λ (q : PacketValue). SendsAs moves turn q x (offered_with meta) false turned x' item') (goes.1 ∙ source_stays x.inner p may) goes.3 in
         record { meta = meta; let_in = let_in; formed = done.4; sent = done.0; leaves = done.1; next = done.2; became = ap (λ (it : Item Socket). Some it) done.3 }
 
     -- the socket offers this packet and no other

@@ -166,6 +166,11 @@ module _ {D : Type 0} (moves : D → Move → D → Type 0) where
   clears None s mid clear is goes = record { all = []; are = ap (λ (x : Sender D). x.device) goes.1; what = inr (goes.0, goes.1, is) }
   clears (Some l) s mid clear is goes = piece_leaves l s mid clear goes.0
 
+  -- which leaves the host as it is
+  pub clears_same : (left : Option LeftValue) (s mid : Sender D) (clear : Bool) → Clears moves left s clear mid → mid.inner ≡ s.inner
+  clears_same None s mid clear goes = ap (λ (x : Sender D). x.inner) goes.1
+  clears_same (Some l) s mid clear goes = goes.1
+
   pub egress_ends : (s : Sender D) (ps : List (SocketStorage Socket)) (e : Passed D) → Egress moves s ps e → StepEnds s ps e
   egress_ends s ps e (inl waits) =
       let piece : PieceEnds s waits.0 false = clears s.left s waits.0 false refl waits.1 in

@@ -122,7 +122,6 @@ module _ (c : CacheValue) (hop : IpAddress) (moment : ℤ) where
       ap (λ (b : Bool). unless_failed b (answer_by entry asked moment)) not_failed
       ∙ ap (unless_failed false) (limited entry (not_known (has_failed c hop moment) (answer_by entry c moment) is))
 
-  -- nobody else is, either
   loud_missing : (c' : CacheValue) → missing c' moment ≡ Known.NotFound → int_lt moment c'.silent ≡ false
   loud_missing c' = by (int_lt moment c'.silent) where
     by : (b : Bool) → (if b then Known.RateLimited else Known.NotFound) ≡ Known.NotFound → b ≡ false
@@ -143,12 +142,16 @@ module _ (c : CacheValue) (hop : IpAddress) (moment : ℤ) where
   loud_unless false Known.RateLimited is = absurd (let never : Known.RateLimited ≡ Known.NotFound = is in cc)
   loud_unless failed Known.Unanswered is = absurd (let never : Known.Unanswered ≡ Known.NotFound = is in cc)
 
+  -- who may be asked for is so where the silence is over
+  pub loud : (c' : CacheValue) (other : IpAddress) → lookup c' other moment ≡ Known.NotFound → int_lt moment c'.silent ≡ false
+  loud c' other is =
+      let entry : Option Neighbor = at_place (place_of c'.entries other) c'.entries in
+      loud_answer c' entry (loud_unless (has_failed c' other moment) (answer_by entry c' moment) is)
+
+  -- nobody else is asked for, either
   pub no_lookup : (other : IpAddress) → lookup asked other moment ≡ Known.NotFound → ⊥
   no_lookup other is =
-      let entry : Option Neighbor = at_place (place_of asked.entries other) asked.entries in
-      let loud : int_lt moment asked.silent ≡ false =
-      loud_answer asked entry (loud_unless (has_failed asked other moment) (answer_by entry asked moment) is) in
-      let clash : true ≡ false = sym later ∙ loud in
+      let clash : true ≡ false = sym later ∙ loud asked other is in
       cc
 
 -- LINKS
