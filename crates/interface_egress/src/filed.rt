@@ -1,5 +1,5 @@
 //! What is looked for among the places of a set.
-ghost use Rattle.std.specs.Prelude.{◌≡◌, ◌≤◌, length};
+ghost use Rattle.std.specs.Prelude.{◌≡◌, ◌≤◌, length, position};
 ghost use Rattle.interface_egress.specs.Filed.{IsFirstAmong, IsLoose, IsUnder, has, nearer};
 
 use crate::places::first_of;
@@ -29,6 +29,16 @@ fn has<W: Wanted>(place: &SocketStorage<W::Socket>, wanted: &W) -> bool
         Some(item) => wanted.wants(&item.socket),
         None => false,
     }
+}
+
+/// The first of all places whose socket is wanted.
+pub(crate) fn first_among<W: Wanted>(
+    places: &[SocketStorage<W::Socket>],
+    wanted: &W,
+) -> Option<usize>
+    ensures { result ≡ position (has (W.wants wanted.now)) places.now }
+{
+    places.iter().position(|place| has(place, wanted))
 }
 
 /// The first of the loose places whose socket is wanted.

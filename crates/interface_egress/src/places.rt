@@ -7,11 +7,14 @@ ghost use Rattle.interface_egress.specs.Filed.{has, key_in};
 ghost use Rattle.interface_egress.specs.contracts.places.Places.{the_row};
 ghost use Rattle.interface_egress.specs.contracts.socket_set.SocketStorage.{the_row as storage_row};
 
-use crate::filed::{Wanted, first_loose, first_with, nearer};
+use crate::filed::{Wanted, first_among, first_loose, first_with, nearer};
 use crate::socket_set::{Item, SocketStorage};
 use agenda::{Agenda, Idle, Index};
 use std::alloc::Global;
 use std::marker::Model;
+
+/// Up to so many places a look at each of them costs less than keys do, and none is filed.
+const FEW: usize = 4;
 
 /// The places of a set, each with a socket or free. Who is off the agenda is at rest: its socket has nothing to do until it is called or
 /// something arrives for it, and waits for no neighbour. Who isn't loose is filed under its socket's key. A place that is lent is on the agenda
@@ -57,6 +60,10 @@ impl<T: Drop + Idle> Places<T> {
     {
         if self.storage.reserve(1).is_err() {
             return Err(item);
+        }
+        if self.storage.len() == FEW {
+            // each has a turn once more, behind which it is filed
+            self.agenda.clear();
         }
         match self.storage.push(SocketStorage { inner: Some(item) }) {
             Ok(()) => Ok(()),
@@ -122,8 +129,8 @@ impl<T: Idle> Places<T> {
         )
     }
 
-    /// The first place whose socket is wanted, where each such socket has one of these keys. Sockets that are filed under other keys aren't
-    /// looked at.
+    /// The first place whose socket is wanted, where each such socket has one of these keys. Among more places than four, sockets that are
+    /// filed under other keys aren't looked at.
     pub fn find<W: Wanted<Socket = T>>(
         &self,
         key: u64,
@@ -135,6 +142,9 @@ impl<T: Idle> Places<T> {
         ensures in_range { ForSome result (λ at. at < length self.now) }
     {
         let places = self.storage.as_slice();
+        if places.len() <= FEW {
+            return first_among(places, wanted);
+        }
         let found = nearer(
             first_loose(&self.loose, places, wanted),
             first_with(&self.index, places, key, wanted),
@@ -145,11 +155,14 @@ impl<T: Idle> Places<T> {
         }
     }
 
-    /// Files a place under its socket's key. Without memory for that it stays loose.
+    /// Files a place under its socket's key, unless there are few. Without memory for that it stays loose.
     pub fn file(&mut self, at: usize)
         ensures { self.new ≡ self.old }
     {
-        if at < self.storage.len() && self.index.note(at, key_in(&self.storage[at])) {
+        if self.storage.len() <= FEW || at >= self.storage.len() {
+            return;
+        }
+        if self.index.note(at, key_in(&self.storage[at])) {
             self.loose.rest(at);
         }
     }

@@ -61,10 +61,9 @@ fn found(set: &SocketSet<Keyed>, key: u64, number: u32) -> (Option<usize>, u32) 
     (at, looks.get())
 }
 
-/// A hundred sockets of ten keys: that of place n is number n, and its key is the last digit of n.
-fn hundred(alloc: Global) -> Option<SocketSet<Keyed>> {
-    let mut set = SocketSet::new(ManagedSlice::Owned(Vec::new(alloc)));
-    for number in 0..100 {
+/// Adds sockets of ten keys: the key of a number is its last digit.
+fn add(set: &mut SocketSet<Keyed>, from: u32, to: u32) -> Option<()> {
+    for number in from..to {
         let key = number % 10;
         set.add(Keyed {
             key: key as u64,
@@ -72,13 +71,22 @@ fn hundred(alloc: Global) -> Option<SocketSet<Keyed>> {
         })
         .ok()?;
     }
+    Some(())
+}
+
+/// A hundred such sockets: that of place n is number n.
+fn hundred(alloc: Global) -> Option<SocketSet<Keyed>> {
+    let mut set = SocketSet::new(ManagedSlice::Owned(Vec::new(alloc)));
+    add(&mut set, 0, 100)?;
     Some(set)
 }
 
-/// Each place has its turn, behind which it is filed.
+/// Each place on the agenda has its turn, behind which it is filed.
 fn all_rest(set: &mut SocketSet<Keyed>) {
     for at in 0..set.places.len() {
-        set.places.let_rest(at);
+        if set.places.next_busy(at) == Some(at) {
+            set.places.let_rest(at);
+        }
     }
 }
 
@@ -116,5 +124,20 @@ fn who_was_lent_is_found_by_a_new_key(rt: HostRuntime) -> Result<(), Fail> {
     assert!(rt; found(&set, 77, 93) == (Some(93), 4));
     assert!(rt; found(&set, 3, 43) == (Some(43), 3));
     assert!(rt; found(&set, 3, 13) == (None, 7));
+    Ok(())
+}
+
+/// Of up to four sockets each is looked at; those that rest then are filed once there are more.
+#[test]
+fn few_are_looked_at_one_by_one(rt: HostRuntime) -> Result<(), Fail> {
+    let mut set = SocketSet::new(ManagedSlice::Owned(Vec::new(rt.alloc())));
+    assert!(rt; add(&mut set, 0, 4).is_some());
+    all_rest(&mut set);
+    assert!(rt; found(&set, 3, 3) == (Some(3), 4));
+    assert!(rt; found(&set, 7, 7) == (None, 4));
+    assert!(rt; add(&mut set, 4, 100).is_some());
+    all_rest(&mut set);
+    assert!(rt; found(&set, 3, 3) == (Some(3), 1));
+    assert!(rt; found(&set, 7, 7) == (Some(7), 1));
     Ok(())
 }

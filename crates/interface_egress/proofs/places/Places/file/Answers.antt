@@ -15,5 +15,5 @@ invariant_of-self g c = (c.self.invariant.0, rw noted filed) where
   filed = filed_again g.T.Idle.key c.self.inside.loose c.self.inside.index c.self.inside.storage.items c.self.invariant.1 c.args.at c.index.result.now
       c.rest.new.self
       (slice_get_read c.self.inside.storage.items (length c.self.inside.storage.items) c.args.at c.index.result.now refl
-      (omega (arith, c.if-at-len.true, c.len.ensures, c.self.inside.storage.ok)) c.index.ensures)
+      (omega (arith, c.if-at-len.false, c.len.ensures, c.self.inside.storage.ok)) c.index.ensures)
       (c.note.ensures.is_place c.if-note.true) c.rest.ensures
