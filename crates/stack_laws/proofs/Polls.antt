@@ -24,5 +24,7 @@ pub mod Delivered
 pub mod First
 pub mod Exchanged
 pub mod Inbox
+pub mod Refusals
+pub mod Stays
 pub mod Pieces
 pub mod Solicited

@@ -9,6 +9,7 @@ pub mod Asked
 pub mod Rounds
 pub mod Delivered
 pub mod Inbox
+pub mod Ready
 pub mod Exchanged
 pub mod Partners
 pub mod Moving

@@ -8,4 +8,5 @@ pub mod neighbors;
 pub mod partners;
 pub mod pieces;
 pub mod polls;
+pub mod ready;
 pub mod rest;

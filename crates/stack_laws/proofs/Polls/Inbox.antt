@@ -1,6 +1,6 @@
 -- A poll that comes to a frame which waits among others, and reads the datagram in it.
 use Rattle.std.proofs.Common.{◌≡◌, ◌≢◌, ℕ, zero, suc, ◌+◌, ◌<◌, Bool, true, false, ◌||◌, ◌⊎◌, inl, inr, ℤ, List, [], ◌∷◌, ◌++◌, length, Option, Some, None}
-use Rattle.std.proofs.Common.{is_some, refl, sym, ap, ◌∙◌, subst, arith, append_assoc, append-nil}
+use Rattle.std.proofs.Common.{is_some, refl, sym, ap, ◌∙◌, subst, arith, append_assoc}
 use Rattle.std.specs.List.{list_any, AllByRecursion}
 use Rattle.net_base.specs.Device.{Move, Took, Empty, Emitted, Denied}
 use Rattle.net_base.specs.Packets.{contents}
@@ -44,7 +44,7 @@ use Rattle.stack_laws.specs.Progress.Moves.{AreMoves, is_refused}
 use Rattle.stack_laws.specs.Progress.Queued.{CanGo, GoesInTurn, HasTurn, HasWay, WentOut, frame_under, ports_of, with_ident}
 use Rattle.stack_laws.proofs.Peers.Place.{Found, HoldsAt, found_holds, holds_found}
 use Rattle.stack_laws.proofs.Peers.Taken.{kept}
-use Rattle.stack_laws.proofs.Peers.Udp.{GotMore, got_law}
+use Rattle.stack_laws.proofs.Peers.Udp.{GotMore, got_first, got_law}
 use Rattle.stack_laws.proofs.Polls.Delivered.{waits}
 use Rattle.stack_laws.proofs.Polls.InTurn.{poll_goes}
 
@@ -142,13 +142,12 @@ module _ {E : Type 0} (moves : E → Move → E → Type 0) (frames_at : E → L
       Runs s = Got s × RunsAt u s.host.inner
 
       got_kept : IsKept moves u Got
-      got_kept = kept moves u from (GotMore moves u from v) (got_law moves u from v) m
+      got_kept = kept moves u from ⊥ (GotMore moves u from v) (got_law moves u from v) m
 
       begins : IsUdpAt from.places m v → Got from
       begins is = (
         record { count = zero; steps = refl },
-        found_holds (GotMore moves u from v) from.places m (Is.Udp v) is
-            (record { new = v; more = []; is = refl; bound = refl; behind = sym (append-nil (contents v.received)); were = tt }),
+        found_holds (GotMore moves u from v) from.places m (Is.Udp v) is (got_first moves u from v),
       )
 
       one_in : (s s' : State E) (answer : Option Bool) → Runs s → IngressStep moves u s answer s' → Runs s'

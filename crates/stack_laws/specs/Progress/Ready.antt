@@ -1,0 +1,72 @@
+-- A UDP socket that expects a datagram as a poll begins, and still does when the frame with it is next.
+use Rattle.std.specs.Prelude.{◌≡◌, ℕ, suc, ◌+◌, ◌*◌, ◌≤◌, ◌==◌, ◌&&◌, ℤ, Bool, false, List, ◌∷◌, ◌++◌, length}
+use Rattle.std.specs.List.{list_any, AllByRecursion}
+use Rattle.net_base.specs.Device.{Move}
+use Rattle.net_base.specs.Packets.{Packets, is_full_for, used_places, used_room}
+use Rattle.ip_packet.specs.declared.ip.repr.IpRepr.{IpRepr}
+use Rattle.ip_packet.specs.declared.udp.repr.UdpRepr.{UdpRepr}
+use Rattle.ip_wire.specs.HardwareAddress.{HardwareAddress}
+use Rattle.sockets.specs.Udp.{UdpValue}
+use Rattle.sockets.specs.declared.udp.UdpMetadata.{UdpMetadata}
+use Rattle.sockets.specs.declared.dns.state.State.{State as QueryState}
+use Rattle.sockets.specs.declared.dns.state.State.TheVariants as Dns
+use Rattle.interface_ingress.specs.Delivered.{passes}
+use Rattle.interface_ingress.specs.Packet.{PacketValue}
+use Rattle.interface_ingress.specs.Reassembled.{Slots}
+use Rattle.interface_ingress.specs.Socket.{Socket}
+use Rattle.interface_ingress.specs.Socket.TheVariants as Kind
+use Rattle.interface_tables.specs.Inner.{InnerValue, at_moment}
+use Rattle.interface_egress.specs.declared.socket_meta.Meta.{Meta}
+use Rattle.interface_egress.specs.declared.socket_set.SocketStorage.{SocketStorage}
+use Rattle.interface.specs.State.{State}
+use Rattle.stack_laws.specs.PeerHost.Datagrams.{IsUdpAt}
+use Rattle.stack_laws.specs.PeerHost.Steps.{Reaches}
+use Rattle.stack_laws.specs.Progress.Delivered.{IsExpected}
+use Rattle.stack_laws.specs.Progress.Queued.{frame_under}
+
+-- THE SOCKET
+
+-- a query waits for an answer, and a datagram between these ports can be one: it goes from the port of servers to that of the query
+abbrev pub may_answer : UdpRepr → QueryState → Bool
+may_answer ports Dns.Idle = false
+may_answer ports (Dns.Pending q) = (ports.src_port == 53) && (ports.dst_port == q.port)
+may_answer ports (Dns.Completed found) = false
+may_answer ports Dns.Failed = false
+
+-- the socket is a DNS client with such a query
+abbrev pub waits_for : UdpRepr → Socket → Bool
+waits_for ports (Kind.Dns v) = may_answer ports v.state
+waits_for ports s = false
+
+-- The datagram is for the UDP socket at this place, and would not be for a DNS client, whichever server that asks next.
+pub record IsExpectedThroughout (i : InnerValue) (places : List (SocketStorage Socket)) (to : HardwareAddress) (header : IpRepr) (ports : UdpRepr)
+    (m : ℕ) (meta : Meta) (w : UdpValue) : Type 0 where
+  pub expected : IsExpected i places to header ports m meta w
+  pub no_answer : list_any (passes (waits_for ports)) places ≡ false
+
+-- so it is for the socket at this place, which is bound as it was
+pub record IsStillExpected (i : InnerValue) (places : List (SocketStorage Socket)) (to : HardwareAddress) (header : IpRepr) (ports : UdpRepr)
+    (m : ℕ) (w : UdpValue) : Type 0 where
+  pub meta : Meta
+  pub value : UdpValue
+  pub expected : IsExpected i places to header ports m meta value
+  pub settings : value.settings ≡ w.settings
+
+-- ITS ROOM
+
+-- wherever a poll of this moment that began here has come when a frame of the packet is next, the UDP socket at a place has room for so many bytes
+abbrev pub HasRoomThroughout : {E : Type 0} → (E → Move → E → Type 0) → (E → List (List ℕ)) → ℤ → State E → InnerValue → HardwareAddress
+    → PacketValue → ℕ → ℕ → Type 0
+HasRoomThroughout {E} moves frames_at u r i to p size m =
+    (x : State E) (ident : ℕ) (padding : List ℕ) (more : List (List ℕ)) (v : UdpValue) → Reaches moves u r x
+    → frames_at x.device ≡ (frame_under i ident to p ++ padding) ∷ more → IsUdpAt x.places m v → is_full_for v.received size ≡ false
+
+-- a frame brings no datagram of more bytes, neither whole nor as its last piece: it has no more, and no slot for pieces has
+abbrev pub BringsAtMost : ℕ → Slots → List ℕ → Type 0
+BringsAtMost most slots frame = (length frame ≤ most) × AllByRecursion (λ s. length s.bytes ≤ most) slots
+
+-- A queue has entries and bytes for so many datagrams of at most so many bytes each, and for one more: as a datagram lies unbroken, bytes at the
+-- end of the storage may have to be passed over, once, by an entry of their own.
+pub record HasRoomFor (q : Packets UdpMetadata) (count most : ℕ) : Type 0 where
+  pub entries : used_places q.packets + suc count ≤ q.places
+  pub bytes : used_room q.packets + suc count * most ≤ q.room
