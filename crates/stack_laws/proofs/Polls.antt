@@ -26,5 +26,8 @@ pub mod Exchanged
 pub mod Inbox
 pub mod Refusals
 pub mod Stays
+pub mod Rooms
+pub mod Lengths
+pub mod Ready
 pub mod Pieces
 pub mod Solicited

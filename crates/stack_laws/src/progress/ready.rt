@@ -1,6 +1,9 @@
 //! A socket that expects a datagram as a poll begins still does when the frame with it is next.
 
-ghost use Rattle.std.specs.Prelude.{ℕ, ℤ, List, length};
+ghost use Rattle.std.specs.Prelude.{◌≡◌, ◌≢◌, ℕ, ◌<◌, ◌≤◌, ℤ, Bool, List, ◌∷◌, ◌++◌, length};
+ghost use Rattle.std.specs.List.{AllByRecursion};
+ghost use Rattle.net_base.specs.Packets.{contents};
+ghost use Rattle.ip_packet.specs.Ip.{source_of};
 ghost use Rattle.ip_packet.specs.declared.ip.repr.IpRepr.{IpRepr};
 ghost use Rattle.ip_packet.specs.declared.udp.repr.UdpRepr.{UdpRepr};
 ghost use Rattle.ip_wire.specs.HardwareAddress.{HardwareAddress};
@@ -9,13 +12,15 @@ ghost use Rattle.sockets.specs.declared.udp.UdpMetadata.{UdpMetadata};
 ghost use Rattle.interface_ingress.specs.Packet.{PacketValue};
 ghost use Rattle.interface_tables.specs.Inner.{InnerValue, at_moment};
 ghost use Rattle.interface_egress.specs.declared.socket_meta.Meta.{Meta};
+ghost use Rattle.interface.specs.Polls.{Polls};
+ghost use Rattle.interface.specs.QuietPoll.{HasNoFrame};
 ghost use Rattle.interface.specs.State.{State};
-ghost use Rattle.interface.specs.Taken.{CanRead};
+ghost use Rattle.interface.specs.Taken.{CanRead, HasWidths};
 ghost use Rattle.stack_laws.specs.PeerHost.Steps.{Reaches};
-ghost use Rattle.stack_laws.specs.Progress.Delivered.{reader_of};
-ghost use Rattle.stack_laws.specs.Progress.Inbox.{IsReady};
-ghost use Rattle.stack_laws.specs.Progress.Queued.{ports_of};
-ghost use Rattle.stack_laws.specs.Progress.Ready.{HasRoomThroughout, IsExpectedThroughout, IsStillExpected};
+ghost use Rattle.stack_laws.specs.Progress.Delivered.{RefusesNothing, as_received, reader_of};
+ghost use Rattle.stack_laws.specs.Progress.Inbox.{BringsAmong, IsInbox, IsReady, WaitsAmongThem};
+ghost use Rattle.stack_laws.specs.Progress.Queued.{CanGo, HasTurn, HasWay, ports_of};
+ghost use Rattle.stack_laws.specs.Progress.Ready.{BringsAtMost, HasRoomFor, HasRoomThroughout, IsExpectedThroughout, IsStillExpected};
 
 use net_base::Device;
 
@@ -33,4 +38,33 @@ pub fn expected_datagrams_stay_expected<E: Device>()
         → CanRead i to (reader_of r.host.inner)
         → HasRoomThroughout E.moves frames_at u r i to p (length d.1) m
         → IsReady E.moves frames_at u r i to p settings d m }
+{}
+
+/// Law: within two polls, by what can be seen as each begins: one poll of the one sends the datagram, and one poll of the other, at whose device the frames
+/// wait in order, with its frame behind fewer others than `count`, and which has as many steps, ends with it at the UDP socket that expects it as that poll
+/// begins: behind those that waited there, among others that came. The socket has room for `count` datagrams as long as the frames can bring, and for one more.
+pub fn a_queued_datagram_arrives_where_there_is_room<D: Device, E: Device>()
+    ensures { (frames_at : E → List (List ℕ)) (t u : ℤ) (budget count steps most : ℕ) (s s' : State D) (r r' : State E)
+        (changed changed' : Bool) (n m : ℕ) (meta : Meta) (v w : UdpValue) (before : List (UdpMetadata × List ℕ)) (d : UdpMetadata × List ℕ)
+        (more : List (UdpMetadata × List ℕ)) (to : HardwareAddress) (p : PacketValue)
+        → IsInbox E.moves frames_at
+        → HasWidths (at_moment t s.host.inner)
+        → HasTurn (at_moment t s.host.inner) s.places n v
+        → contents v.queued ≡ before ++ d ∷ more
+        → length before < budget
+        → AllByRecursion (HasWay (at_moment t s.host.inner) v.settings) before
+        → d.0.endpoint.port ≢ 0
+        → CanGo (at_moment t s.host.inner) v.settings d to p
+        → HasNoFrame D.moves t s.device
+        → Polls D.moves t budget s changed s'
+        → RefusesNothing D.moves s.device s'.device
+        → BringsAmong D.moves frames_at (at_moment t s.host.inner) to p s.device s'.device r.device count
+        → count ≤ steps
+        → CanRead (at_moment t s.host.inner) to (reader_of r.host.inner)
+        → IsExpectedThroughout (at_moment u r.host.inner) r.places to p.header (ports_of v.settings d) m meta w
+        → length d.1 ≤ most
+        → AllByRecursion (BringsAtMost most r.host.slots) (frames_at r.device)
+        → HasRoomFor w.received count most
+        → Polls E.moves u steps r changed' r'
+        → WaitsAmongThem r'.places m w (as_received (source_of p.header) v.settings d) }
 {}
