@@ -1,5 +1,5 @@
 -- A poll that comes to a frame which waits among others, whose socket has room whatever these bring.
-use Rattle.std.proofs.Common.{◌≡◌, ◌≢◌, inl, ℕ, zero, suc, ◌+◌, ◌-◌, ◌<◌, ◌≤◌, Bool, true, false, ℤ, List, [], ◌∷◌, ◌++◌, length, Option, Some, None, refl, sym, ap, ◌∙◌}
+use Rattle.std.proofs.Common.{◌≡◌, ◌≢◌, inl, inr, ℕ, zero, suc, ◌+◌, ◌-◌, ◌<◌, ◌≤◌, Bool, true, false, ℤ, List, [], ◌∷◌, ◌++◌, length, take, Option, Some, None, refl, sym, ap, ◌∙◌}
 use Rattle.std.proofs.Common.{subst, arith}
 use Rattle.std.specs.List.{AllByRecursion}
 use Rattle.net_base.specs.ChecksumCapabilities.{ChecksumCapabilities}
@@ -21,7 +21,7 @@ use Rattle.interface_ingress.specs.Delivered.{Places, with_icmpv4, with_icmpv6, 
 use Rattle.interface_ingress.specs.Packet.{PacketValue}
 use Rattle.interface_ingress.specs.Upper.{upper_header, upper_payload}
 use Rattle.interface_tables.specs.Inner.{InnerValue, at_moment}
-use Rattle.interface_egress.specs.Set.{socket_in}
+use Rattle.interface_egress.specs.Set.{socket_at, socket_in}
 use Rattle.interface_egress.specs.declared.socket_meta.Meta.{Meta}
 use Rattle.interface.specs.Ingress.{IngressStep, Takes}
 use Rattle.interface.specs.Polls.{Polls, begun}
@@ -33,7 +33,7 @@ use Rattle.stack_laws.specs.PeerHost.Steps.{Reaches}
 use Rattle.stack_laws.specs.Progress.Delivered.{RefusesNothing, as_received, reader_of}
 use Rattle.stack_laws.specs.Progress.Inbox.{BringsAmong, IsExpectedAt, IsInbox, WaitsAmongThem}
 use Rattle.stack_laws.specs.Progress.Queued.{CanGo, HasTurn, HasWay, frame_under, ports_of}
-use Rattle.stack_laws.specs.Progress.Ready.{BringsAtMost, HasRoomFor, IsExpectedThroughout, IsStillExpected}
+use Rattle.stack_laws.specs.Progress.Ready.{BringsAtMost, HasRoomBehind, HasRoomWhatever, IsExpectedThroughout, IsStillExpected}
 use Rattle.stack_laws.proofs.Peers.Arrivals.{IsOfArrivals, brings_holds}
 use Rattle.stack_laws.proofs.Peers.Place.{AtOr, Found, HoldsAt, at_so, found_holds, holds_found}
 use Rattle.stack_laws.proofs.Polls.Inbox.{Expects, Waits, arrives_where, same_value}
@@ -122,70 +122,106 @@ module _ (most : ℕ) where
 
 -- THE DATAGRAM
 
+never : (f : List ℕ) (more : List (List ℕ)) → f ∷ more ≡ [] → ⊥
+never f more is = cc
+
+no_front : (front : List (List ℕ)) (count : ℕ) → length front < count → count ≡ 1 → front ≡ []
+no_front [] count few one = refl
+no_front (f ∷ front) count few one = absurd (omega (arith, few, one))
+
 module _ {E : Type 0} (moves : E → Move → E → Type 0) (frames_at : E → List (List ℕ)) (inbox : IsInbox moves frames_at) (u : ℤ) (r : State E) (m : ℕ)
     (meta : Meta) (w : UdpValue) (i : InnerValue) (settings : UdpSettings) (d : UdpMetadata × List ℕ) (to : HardwareAddress) (p : PacketValue)
     (is : IsExpectedThroughout (at_moment u r.host.inner) r.places to p.header (ports_of settings d) m meta w)
-    (reads : CanRead i to (reader_of r.host.inner)) (most count : ℕ) (own : length d.1 ≤ most) (has : HasRoomFor w.received count most) where
-  room_less_of : (n extra : ℕ) → HasRoom w.received (n + extra) most → HasRoom w.received n most
-  room_less_of n zero room = subst (λ (k : ℕ). HasRoom w.received k most) (let e : n + zero ≡ n = omega arith in e) room
-  room_less_of n (suc extra) room =
-      room_less_of n extra
-      (room_less w.received (n + extra) most (subst (λ (k : ℕ). HasRoom w.received k most) (let e : n + suc extra ≡ suc (n + extra) = omega arith in e) room))
+    (reads : CanRead i to (reader_of r.host.inner)) (frame : List ℕ) (front behind : List (List ℕ)) where
+  abbrev AtFrame : Type 1
+  AtFrame = Expects moves frames_at u r m i settings d to p frame front behind
 
-  room_for : (n : ℕ) → n ≤ count → HasRoom w.received n most
-  room_for n few =
-      room_less_of n (count - n)
-      (subst (λ (k : ℕ). HasRoom w.received k most) (let e : count ≡ n + (count - n) = omega (arith, few) in e) (inl has))
+  -- where the socket has room
+  expects_at : (x : State E) → Reaches moves u r x → (v : UdpValue) → IsUdpAt x.places m v → is_full_for v.received (length d.1) ≡ false
+      → IsExpectedAt u x i to p.header (ports_of settings d) (length d.1) m
+  expects_at x so v here room =
+      let still : IsStillExpected (at_moment u x.host.inner) x.places to p.header (ports_of settings d) m w =
+      still_expected moves u r to p.header (ports_of settings d) m meta w is x so in
+      let same : still.value ≡ v = same_value still.value v (sym (ap socket_in still.expected.stands) ∙ here) in
+      record {
+        meta = still.meta;
+        value = still.value;
+        expected = still.expected;
+        room = ap (λ (y : UdpValue). is_full_for y.received (length d.1)) same ∙ room;
+        reads = reads_still moves u r to p.header (ports_of settings d) m meta w is x so i reads;
+      }
 
-  frames_short : (front rest : List (List ℕ)) → AllByRecursion (BringsAtMost most r.host.slots) (front ++ rest)
-      → AllByRecursion (λ (f : List ℕ). length f ≤ most) front
-  frames_short [] rest all = tt
-  frames_short (f ∷ front) rest all = (all.0.0, frames_short front rest all.1)
+  -- no frame comes before
+  expects_first : front ≡ [] → is_full_for w.received (length d.1) ≡ false → AtFrame
+  expects_first none room = record {
+    Holds = λ frames x. (frames ≡ []) × (x.places ≡ r.places);
+    keeps = λ f more rest s s' b waits holds step. absurd (never f more holds.0);
+    begins = (none, refl);
+    expects = λ x so next holds.
+        expects_at x so w (ap (λ (places : Places). socket_at places m) holds.1 ∙ ap socket_in is.expected.stands) room;
+  }
 
-  slots_short : (front rest : List (List ℕ)) → AllByRecursion (BringsAtMost most r.host.slots) (front ++ rest) → front ≢ [] → AreShort most r.host.slots
-  slots_short [] rest all some = absurd (some refl)
-  slots_short (f ∷ front) rest all some = all.0.1
+  module _ (count : ℕ) (few : length front < count) (wait : Waits frames_at r.device (front ++ frame ∷ behind))
+      (has : HasRoomWhatever (take count (frames_at r.device)) r.host.slots w.received count (length d.1)) where
+    abbrev most : ℕ
+    most = has.most
 
-  module _ (all : AllByRecursion (BringsAtMost most r.host.slots) (frames_at r.device)) (frame : List ℕ) (front behind : List (List ℕ))
-      (few : length front < count) (wait : Waits frames_at r.device (front ++ frame ∷ behind)) where
-    all_there : AllByRecursion (BringsAtMost most r.host.slots) (front ++ frame ∷ behind)
-    all_there = subst (λ (fs : List (List ℕ)). AllByRecursion (BringsAtMost most r.host.slots) fs) wait all
+    less_by : (n extra : ℕ) → HasRoom w.received (n + extra) most → HasRoom w.received n most
+    less_by n zero room = subst (λ (k : ℕ). HasRoom w.received k most) (let e : n + zero ≡ n = omega arith in e) room
+    less_by n (suc extra) room =
+        less_by n extra
+        (room_less w.received (n + extra) most (subst (λ (k : ℕ). HasRoom w.received k most) (let e : n + suc extra ≡ suc (n + extra) = omega arith in e) room))
+
+    room_for : HasRoom w.received (suc (length front)) most
+    room_for =
+        less_by (suc (length front)) (count - suc (length front))
+        (subst (λ (k : ℕ). HasRoom w.received k most)
+        (let e : count ≡ suc (length front) + (count - suc (length front)) = omega (arith, few) in e) (inl has.room))
+
+    frames_short : (fs rest : List (List ℕ)) (n : ℕ) → length fs < n → AllByRecursion (BringsAtMost most r.host.slots) (take n (fs ++ rest))
+        → AllByRecursion (λ (f : List ℕ). length f ≤ most) fs
+    frames_short [] rest n less all = tt
+    frames_short (f ∷ fs) rest zero less all = absurd (omega (arith, less))
+    frames_short (f ∷ fs) rest (suc n) less all = (all.0.0, frames_short fs rest n (omega (arith, less)) all.1)
+
+    slots_short : (fs rest : List (List ℕ)) (n : ℕ) → length fs < n → AllByRecursion (BringsAtMost most r.host.slots) (take n (fs ++ rest)) → fs ≢ []
+        → AreShort most r.host.slots
+    slots_short [] rest n less all some = absurd (some refl)
+    slots_short (f ∷ fs) rest zero less all some = absurd (omega (arith, less))
+    slots_short (f ∷ fs) rest (suc n) less all some = all.0.1
+
+    all_there : AllByRecursion (BringsAtMost most r.host.slots) (take count (front ++ frame ∷ behind))
+    all_there = subst (λ (fs : List (List ℕ)). AllByRecursion (BringsAtMost most r.host.slots) (take count fs)) wait has.brings
 
     has_first : Has most moves u m front (begun u r)
     has_first = record {
-      frames = frames_short front (frame ∷ behind) all_there;
-      slots = λ some. expired_short most u r.host.slots (slots_short front (frame ∷ behind) all_there some);
+      frames = frames_short front (frame ∷ behind) count few all_there;
+      slots = λ some. expired_short most u r.host.slots (slots_short front (frame ∷ behind) count few all_there some);
       room = found_holds (IsRoomy most (suc (length front))) r.places m (Kind.Udp w) (ap socket_in is.expected.stands)
-          (record { value = w; is = refl; room = room_for (suc (length front)) (omega (arith, few)) });
+          (record { value = w; is = refl; room = room_for });
     }
 
-    expects_at : (x : State E) → Reaches moves u r x → Has most moves u m [] x
-        → IsExpectedAt u x i to p.header (ports_of settings d) (length d.1) m
-    expects_at x so then_has =
-        let still : IsStillExpected (at_moment u x.host.inner) x.places to p.header (ports_of settings d) m w =
-        still_expected moves u r to p.header (ports_of settings d) m meta w is x so in
+    expects_roomy : (x : State E) → Reaches moves u r x → Has most moves u m [] x → IsExpectedAt u x i to p.header (ports_of settings d) (length d.1) m
+    expects_roomy x so then_has =
         let roomy : Found (IsRoomy most 1) x.places m = holds_found (IsRoomy most 1) x.places m then_has.room in
-        let same : still.value ≡ roomy.holds.value =
-        same_value still.value roomy.holds.value
-        (sym (ap socket_in still.expected.stands) ∙ roomy.is ∙ ap (λ (s : Socket). Some s) roomy.holds.is) in
-        record {
-          meta = still.meta;
-          value = still.value;
-          expected = still.expected;
-          room = ap (λ (v : UdpValue). is_full_for v.received (length d.1)) same ∙ takes roomy.holds.value.received 0 most (length d.1) own roomy.holds.room;
-          reads = reads_still moves u r to p.header (ports_of settings d) m meta w is x so i reads;
-        }
+        expects_at x so roomy.holds.value (roomy.is ∙ ap (λ (s : Socket). Some s) roomy.holds.is)
+        (takes roomy.holds.value.received 0 most (length d.1) has.own roomy.holds.room)
 
-    pub expects : Expects moves frames_at u r m i settings d to p frame front behind
-    expects = record {
+    expects_behind : AtFrame
+    expects_behind = record {
       Holds = Has most moves u m;
       keeps = first_taken most moves u m frames_at inbox;
       begins = has_first;
-      expects = λ x so next then_has. expects_at x so then_has;
+      expects = λ x so next then_has. expects_roomy x so then_has;
     }
 
+  pub expects : (count : ℕ) → length front < count → Waits frames_at r.device (front ++ frame ∷ behind)
+      → HasRoomBehind (frames_at r.device) r.host.slots w.received count (length d.1) → AtFrame
+  expects count few wait (inl first) = expects_first (no_front front count few first.0) first.1
+  expects count few wait (inr has) = expects_behind count few wait has
+
 pub arrives_with_room : {D E : Type 0} (out : D → Move → D → Type 0) (moves : E → Move → E → Type 0) (frames_at : E → List (List ℕ)) (t u : ℤ)
-    (budget count steps most : ℕ) (s s' : State D) (r r' : State E) (changed changed' : Bool) (n m : ℕ) (meta : Meta) (v w : UdpValue)
+    (budget count steps : ℕ) (s s' : State D) (r r' : State E) (changed changed' : Bool) (n m : ℕ) (meta : Meta) (v w : UdpValue)
     (before : List (UdpMetadata × List ℕ)) (d : UdpMetadata × List ℕ) (more : List (UdpMetadata × List ℕ)) (to : HardwareAddress) (p : PacketValue)
     → IsInbox moves frames_at
     → HasWidths (at_moment t s.host.inner) → HasTurn (at_moment t s.host.inner) s.places n v → contents v.queued ≡ before ++ d ∷ more
@@ -194,14 +230,13 @@ pub arrives_with_room : {D E : Type 0} (out : D → Move → D → Type 0) (move
     → RefusesNothing out s.device s'.device → BringsAmong out frames_at (at_moment t s.host.inner) to p s.device s'.device r.device count
     → count ≤ steps → CanRead (at_moment t s.host.inner) to (reader_of r.host.inner)
     → IsExpectedThroughout (at_moment u r.host.inner) r.places to p.header (ports_of v.settings d) m meta w
-    → length d.1 ≤ most → AllByRecursion (BringsAtMost most r.host.slots) (frames_at r.device) → HasRoomFor w.received count most
-    → Polls moves u steps r changed' r'
+    → HasRoomBehind (frames_at r.device) r.host.slots w.received count (length d.1) → Polls moves u steps r changed' r'
     → WaitsAmongThem r'.places m w (as_received (source_of p.header) v.settings d)
-arrives_with_room {D} {E} out moves frames_at t u budget count steps most s s' r r' changed changed' n m meta v w before d more to p inbox wide turn queued short
-    ways some can none polls freely brings within reads is own all has polled =
+arrives_with_room {D} {E} out moves frames_at t u budget count steps s s' r r' changed changed' n m meta v w before d more to p inbox wide turn queued short ways
+    some can none polls freely brings within reads is room polled =
     arrives_where out moves frames_at t u budget count steps s s' r r' changed changed' n m v w before d more to p inbox wide turn queued short ways some can none
     polls freely brings within (ap socket_in is.expected.stands)
     (λ ident padding front behind few wait.
-    expects moves frames_at inbox u r m meta w (at_moment t s.host.inner) v.settings d to p is reads most count own has all
-    (frame_under (at_moment t s.host.inner) ident to p ++ padding) front behind few wait)
+    expects moves frames_at inbox u r m meta w (at_moment t s.host.inner) v.settings d to p is reads
+    (frame_under (at_moment t s.host.inner) ident to p ++ padding) front behind count few wait room)
     polled

@@ -1,5 +1,5 @@
 -- A UDP socket that expects a datagram as a poll begins, and still does when the frame with it is next.
-use Rattle.std.specs.Prelude.{◌≡◌, ℕ, suc, ◌+◌, ◌*◌, ◌≤◌, ◌==◌, ◌&&◌, ℤ, Bool, false, List, ◌∷◌, ◌++◌, length}
+use Rattle.std.specs.Prelude.{◌≡◌, ◌⊎◌, ℕ, suc, ◌+◌, ◌*◌, ◌≤◌, ◌==◌, ◌&&◌, ℤ, Bool, false, List, ◌∷◌, ◌++◌, length, take}
 use Rattle.std.specs.List.{list_any, AllByRecursion}
 use Rattle.net_base.specs.Device.{Move}
 use Rattle.net_base.specs.Packets.{Packets, is_full_for, used_places, used_room}
@@ -70,3 +70,16 @@ BringsAtMost most slots frame = (length frame ≤ most) × AllByRecursion (λ s.
 pub record HasRoomFor (q : Packets UdpMetadata) (count most : ℕ) : Type 0 where
   pub entries : used_places q.packets + suc count ≤ q.places
   pub bytes : used_room q.packets + suc count * most ≤ q.room
+
+-- There is room for `count` datagrams, each as long as whatever these frames bring, and as a datagram of so many bytes.
+pub record HasRoomWhatever (frames : List (List ℕ)) (slots : Slots) (q : Packets UdpMetadata) (count size : ℕ) : Type 0 where
+  pub most : ℕ
+  pub own : size ≤ most
+  pub brings : AllByRecursion (BringsAtMost most slots) frames
+  pub room : HasRoomFor q count most
+
+-- There is room for a datagram of so many bytes behind fewer than `count` of the frames that wait: no frame comes before it, and there is room for it
+-- as the queue is; or there is, whatever the frames bring.
+abbrev pub HasRoomBehind : List (List ℕ) → Slots → Packets UdpMetadata → ℕ → ℕ → Type 0
+HasRoomBehind frames slots q count size =
+    ((count ≡ 1) × (is_full_for q size ≡ false)) ⊎ HasRoomWhatever (take count frames) slots q count size

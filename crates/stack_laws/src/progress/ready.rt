@@ -20,7 +20,7 @@ ghost use Rattle.stack_laws.specs.PeerHost.Steps.{Reaches};
 ghost use Rattle.stack_laws.specs.Progress.Delivered.{RefusesNothing, as_received, reader_of};
 ghost use Rattle.stack_laws.specs.Progress.Inbox.{BringsAmong, IsInbox, IsReady, WaitsAmongThem};
 ghost use Rattle.stack_laws.specs.Progress.Queued.{CanGo, HasTurn, HasWay, ports_of};
-ghost use Rattle.stack_laws.specs.Progress.Ready.{BringsAtMost, HasRoomFor, HasRoomThroughout, IsExpectedThroughout, IsStillExpected};
+ghost use Rattle.stack_laws.specs.Progress.Ready.{HasRoomBehind, HasRoomThroughout, IsExpectedThroughout, IsStillExpected};
 
 use net_base::Device;
 
@@ -40,11 +40,11 @@ pub fn expected_datagrams_stay_expected<E: Device>()
         → IsReady E.moves frames_at u r i to p settings d m }
 {}
 
-/// Law: within two polls, by what can be seen as each begins: one poll of the one sends the datagram, and one poll of the other, at whose device the frames
-/// wait in order, with its frame behind fewer others than `count`, and which has as many steps, ends with it at the UDP socket that expects it as that poll
-/// begins: behind those that waited there, among others that came. The socket has room for `count` datagrams as long as the frames can bring, and for one more.
+/// Law: within two polls, by what can be seen as each begins: one poll of the one sends the datagram, and one poll of the other, at whose device the
+/// frames wait in order, ends with it at the UDP socket that expects it as that poll begins, behind those that waited there, among others that came. Its
+/// frame waits behind fewer others than `count`, the poll has as many steps, and the socket has room for it behind what so many frames may bring.
 pub fn a_queued_datagram_arrives_where_there_is_room<D: Device, E: Device>()
-    ensures { (frames_at : E → List (List ℕ)) (t u : ℤ) (budget count steps most : ℕ) (s s' : State D) (r r' : State E)
+    ensures { (frames_at : E → List (List ℕ)) (t u : ℤ) (budget count steps : ℕ) (s s' : State D) (r r' : State E)
         (changed changed' : Bool) (n m : ℕ) (meta : Meta) (v w : UdpValue) (before : List (UdpMetadata × List ℕ)) (d : UdpMetadata × List ℕ)
         (more : List (UdpMetadata × List ℕ)) (to : HardwareAddress) (p : PacketValue)
         → IsInbox E.moves frames_at
@@ -62,9 +62,7 @@ pub fn a_queued_datagram_arrives_where_there_is_room<D: Device, E: Device>()
         → count ≤ steps
         → CanRead (at_moment t s.host.inner) to (reader_of r.host.inner)
         → IsExpectedThroughout (at_moment u r.host.inner) r.places to p.header (ports_of v.settings d) m meta w
-        → length d.1 ≤ most
-        → AllByRecursion (BringsAtMost most r.host.slots) (frames_at r.device)
-        → HasRoomFor w.received count most
+        → HasRoomBehind (frames_at r.device) r.host.slots w.received count (length d.1)
         → Polls E.moves u steps r changed' r'
         → WaitsAmongThem r'.places m w (as_received (source_of p.header) v.settings d) }
 {}
