@@ -1,8 +1,8 @@
 -- A poll that comes to a frame which waits among others, and reads the datagram in it.
-use Rattle.std.proofs.Common.{◌≡◌, ◌≢◌, ℕ, zero, suc, ◌+◌, ◌<◌, ◌≤◌, Bool, true, false, ◌||◌, ◌⊎◌, inl, inr, ℤ, List, [], ◌∷◌, ◌++◌, length, Option, Some, None}
+use Rattle.std.proofs.Common.{◌≡◌, ◌≢◌, ℕ, zero, suc, ◌<◌, ◌≤◌, Bool, true, false, ◌||◌, ◌⊎◌, inl, inr, ℤ, List, [], ◌∷◌, ◌++◌, length, Option, Some, None}
 use Rattle.std.proofs.Common.{is_some, refl, sym, ap, ◌∙◌, subst, arith, append_assoc}
 use Rattle.std.specs.List.{list_any, AllByRecursion}
-use Rattle.net_base.specs.Device.{Move, Took, Empty, Emitted, Denied}
+use Rattle.net_base.specs.Device.{Move, Emitted, Denied}
 use Rattle.net_base.specs.Packets.{contents}
 use Rattle.ip_packet.specs.Ip.{source_of}
 use Rattle.ip_wire.specs.HardwareAddress.{HardwareAddress}

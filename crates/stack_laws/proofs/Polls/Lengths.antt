@@ -1,6 +1,6 @@
 -- How many bytes what a frame brings can have: as many as the frame, or as a slot for pieces.
 use Rattle.std.proofs.Common.{◌≡◌, ℕ, zero, suc, ◌+◌, ◌-◌, ◌^◌, ◌≤◌, Bool, true, false, if◌then◌else◌, ℤ, List, [], ◌∷◌, ◌++◌, length, take, drop, map, Option, Some, None}
-use Rattle.std.proofs.Common.{refl, sym, ap, ◌∙◌, subst, arith, length-append, length-drop}
+use Rattle.std.proofs.Common.{refl, sym, ap, subst, arith, length-append, length-drop}
 use Rattle.std.proofs.lemmas.Bool.Decides.{nat_tests}
 use Rattle.std.proofs.lemmas.List.{length-take}
 use Rattle.std.specs.Prelude.{nat_le, nat_lt, position, is_some, slice_get, slice_set, slice_range}
@@ -39,7 +39,6 @@ use Rattle.interface_tables.specs.declared.key.FragKey.{FragKey}
 use Rattle.interface.specs.Ingress.{Takes}
 use Rattle.interface.specs.State.{State}
 use Rattle.stack_laws.specs.PeerHost.Brought.{IsPacket, whole_in}
-use Rattle.stack_laws.specs.Progress.Ready.{BringsAtMost}
 
 module _ (xs : List ℕ) where
   take_short : (n : ℕ) → length (take n xs) ≤ length xs

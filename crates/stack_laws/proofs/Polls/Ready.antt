@@ -8,18 +8,15 @@ use Rattle.net_base.specs.Packets.{contents, is_full_for}
 use Rattle.ip_packet.specs.Ip.{source_of}
 use Rattle.ip_wire.specs.HardwareAddress.{HardwareAddress}
 use Rattle.ip_wire.specs.IpRepr.{IpRepr}
-use Rattle.ip_wire.specs.TcpHeader.{TcpHeader}
 use Rattle.ip_wire.specs.UdpRepr.{UdpRepr}
 use Rattle.sockets.specs.Context.{ContextValue}
 use Rattle.sockets.specs.Udp.{UdpValue, UdpSettings, metadata_of, process_after}
 use Rattle.sockets.specs.declared.socket.Socket.{Socket}
 use Rattle.sockets.specs.declared.socket.Socket.TheVariants as Kind
 use Rattle.sockets.specs.declared.udp.UdpMetadata.{UdpMetadata}
-use Rattle.interface_ingress.specs.Carried.{IsDatagram}
 use Rattle.interface_ingress.specs.Datagrams.{TakesDatagram}
 use Rattle.interface_ingress.specs.Delivered.{Places, with_icmpv4, with_icmpv6, with_packet, with_segment}
 use Rattle.interface_ingress.specs.Packet.{PacketValue}
-use Rattle.interface_ingress.specs.Upper.{upper_header, upper_payload}
 use Rattle.interface_tables.specs.Inner.{InnerValue, at_moment}
 use Rattle.interface_egress.specs.Set.{socket_at, socket_in}
 use Rattle.interface_egress.specs.declared.socket_meta.Meta.{Meta}
@@ -35,7 +32,7 @@ use Rattle.stack_laws.specs.Progress.Inbox.{BringsAmong, IsExpectedAt, IsInbox, 
 use Rattle.stack_laws.specs.Progress.Queued.{CanGo, HasTurn, HasWay, frame_under, ports_of}
 use Rattle.stack_laws.specs.Progress.Ready.{BringsAtMost, HasRoomBehind, HasRoomWhatever, IsExpectedThroughout, IsStillExpected}
 use Rattle.stack_laws.proofs.Peers.Arrivals.{IsOfArrivals, brings_holds}
-use Rattle.stack_laws.proofs.Peers.Place.{AtOr, Found, HoldsAt, at_so, found_holds, holds_found}
+use Rattle.stack_laws.proofs.Peers.Place.{Found, HoldsAt, at_so, found_holds, holds_found}
 use Rattle.stack_laws.proofs.Polls.Inbox.{Expects, Waits, arrives_where, same_value}
 use Rattle.stack_laws.proofs.Polls.Lengths.{AreShort, brought_short, datagram_short, expired_short, takes_short}
 use Rattle.stack_laws.proofs.Polls.Rooms.{HasRoom, room_behind, room_less, takes}

@@ -51,8 +51,8 @@ use Rattle.ip_wire.specs.Ipv4Repr.{Ipv4Repr}
 use Rattle.ip_wire.specs.Ipv6Repr.{Ipv6Repr}
 use Rattle.ip_wire.specs.TcpHeader.{TcpHeader}
 use Rattle.stack_laws.specs.Progress.Ready.{may_answer, waits_for}
-use Rattle.stack_laws.proofs.Peers.Arrivals.{IsOfArrivals, IsOfPolls}
-use Rattle.stack_laws.proofs.Peers.Udp.{SameIn, same_offered}
+use Rattle.stack_laws.proofs.Peers.Arrivals.{IsOfPolls}
+use Rattle.stack_laws.proofs.Peers.Udp.{same_offered}
 
 -- DHCP: no turn and no message changes the settings
 

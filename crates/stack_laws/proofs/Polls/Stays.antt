@@ -1,5 +1,5 @@
 -- A datagram that a UDP socket expects is expected by it wherever a poll has come.
-use Rattle.std.proofs.Common.{◌≡◌, ℕ, zero, suc, ◌+◌, ◌<◌, Bool, true, false, cond, not, ◌&&◌, ◌||◌, inl, inr, ℤ, List, [], ◌∷◌, ◌++◌, length, get_or, Option, Some, None}
+use Rattle.std.proofs.Common.{◌≡◌, ℕ, zero, suc, ◌+◌, ◌<◌, Bool, true, false, cond, not, ◌&&◌, ◌||◌, inl, inr, ℤ, List, [], ◌∷◌, length, get_or, Option, Some, None}
 use Rattle.std.proofs.Common.{refl, sym, ap, ◌∙◌, subst, arith}
 use Rattle.std.specs.Prelude.{nat_lt, position, slice_get}
 use Rattle.std.specs.List.{list_any, prefix_len}
@@ -25,17 +25,16 @@ use Rattle.sockets.specs.Udp.{UdpValue, UdpSettings}
 use Rattle.sockets.specs.declared.socket.Socket.{Socket}
 use Rattle.sockets.specs.declared.udp.UdpMetadata.{UdpMetadata}
 use Rattle.sockets.specs.declared.socket.Socket.TheVariants as Kind
-use Rattle.interface_ingress.specs.Delivered.{Places, datagram_place, first_place, passes, passes_in}
+use Rattle.interface_ingress.specs.Delivered.{Places, datagram_place, passes, passes_in}
 use Rattle.interface_ingress.specs.Kept.{HasSameSettings}
 use Rattle.interface_ingress.specs.Packet.{PacketValue}
 use Rattle.interface_ingress.specs.Reassembled.{is_astray}
 use Rattle.interface_tables.specs.Inner.{InnerValue, at_moment, context_of, is_address_of, is_all_nodes, is_broadcast_of, is_for_us, is_foreign_loopback}
 use Rattle.interface_tables.specs.Inner.{is_local_broadcast, is_loopback_in, is_loopback_of, is_member_of, is_own, solicits_block}
 use Rattle.interface_egress.specs.Departing.{HasSettingsOf}
-use Rattle.interface_egress.specs.Set.{free, socket_at, socket_in}
+use Rattle.interface_egress.specs.Set.{free, socket_in}
 use Rattle.interface_egress.specs.declared.socket_meta.Meta.{Meta}
 use Rattle.interface_egress.specs.declared.socket_set.Item.{Item}
-use Rattle.interface_egress.specs.declared.socket_set.SocketStorage.{SocketStorage}
 use Rattle.interface.specs.Ingress.{Takes}
 use Rattle.interface.specs.SameHost.{IsSameHost}
 use Rattle.interface.specs.State.{State, at_device}
@@ -44,11 +43,10 @@ use Rattle.interface.proofs.Runs.{receives_same}
 use Rattle.interface.proofs.SameHost.{place_same}
 use Rattle.interface.proofs.Settings.{settings_then}
 use Rattle.stack_laws.specs.PeerHost.Brought.{Came}
-use Rattle.stack_laws.specs.PeerHost.Datagrams.{IsUdpAt}
 use Rattle.stack_laws.specs.PeerHost.Steps.{Reaches, Step, Steps}
 use Rattle.stack_laws.specs.Progress.Delivered.{IsExpected, hears, may_be_sender, reader_of}
-use Rattle.stack_laws.specs.Progress.Inbox.{IsExpectedAt, IsReady}
-use Rattle.stack_laws.specs.Progress.Queued.{frame_under, ports_of}
+use Rattle.stack_laws.specs.Progress.Inbox.{IsReady}
+use Rattle.stack_laws.specs.Progress.Queued.{ports_of}
 use Rattle.stack_laws.specs.Progress.Reached.{udp_place}
 use Rattle.stack_laws.specs.Progress.Ready.{HasRoomThroughout, IsExpectedThroughout, IsStillExpected, waits_for}
 use Rattle.stack_laws.proofs.Peers.Place.{AtOr, Found, HoldsAt, ItemOr, found_holds, holds_found}
