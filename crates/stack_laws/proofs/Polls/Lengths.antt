@@ -21,10 +21,10 @@ use Rattle.ip_wire.specs.Ipv4Repr.{Ipv4Repr}
 use Rattle.ip_wire.specs.Ipv6 as Ipv6
 use Rattle.ip_wire.specs.Ipv6Repr.{Ipv6Repr}
 use Rattle.ip_wire.specs.Udp as Udp
-use Rattle.ipv6_headers.specs.Headers.{go_through, upper_bytes_of}
-use Rattle.ipv6_headers.specs.declared.headers.Behind.{Behind}
-use Rattle.ipv6_headers.specs.declared.headers.Behind.TheVariants as End
 use Rattle.interface_ingress.specs.Arrives.{slots_after}
+use Rattle.interface_ingress.specs.Behind.{Behind}
+use Rattle.interface_ingress.specs.Behind.TheVariants as End
+use Rattle.interface_ingress.specs.Headers.{go_through, upper_bytes_of}
 use Rattle.interface_ingress.specs.Incoming.{IncomingValue, Arp, Ip4, Ip6, IsContent}
 use Rattle.interface_ingress.specs.Reassembled.{PieceValue, Slots, bytes_at, given_up_at, is_piece, is_piece_v6, is_same_datagram, is_taken_in, is_unfit, kept}
 use Rattle.interface_ingress.specs.Reassembled.{part_of, place_in, rebuilt, rebuilt_v6, released, runs_kept, taken_in, uncut, whole_of}

@@ -10,10 +10,6 @@ use Rattle.ip_wire.specs.IpRepr.{IpRepr}
 use Rattle.ip_wire.specs.IpRepr.TheVariants as Ip
 use Rattle.ip_wire.specs.Ipv4Address.{Ipv4Address}
 use Rattle.ip_wire.specs.UdpRepr.{UdpRepr}
-use Rattle.dhcp_wire.specs.declared.message_type.DhcpMessageType.{DhcpMessageType}
-use Rattle.dhcp_wire.specs.declared.message_type.DhcpMessageType.TheVariants as Message
-use Rattle.dhcp_wire.specs.declared.repr.DhcpRepr.{DhcpRepr}
-use Rattle.ip_wire.specs.Ipv4Cidr.{Ipv4Cidr}
 use Rattle.sockets.specs.Context.{ContextValue}
 use Rattle.sockets.specs.Offer as Answer
 use Rattle.sockets.specs.Socket.{Offers, settled, accepts_datagram}
@@ -83,52 +79,57 @@ bound : (v : DhcpValue) (lease : Option Lease) → SameSettings v (DhcpAnswers.b
 bound v None = refl
 bound v (Some lease) = refl
 
-module _ (now : ℤ) (server : ServerInfo) (v : DhcpValue) (m : DhcpRepr) where
-  chosen : SameSettings v (DhcpAnswers.chosen now server v m)
-  chosen =
-      either (is_usable m.your_ip) v (record v {
-        state = S.Requesting (record {
-          retry_at = now;
-          wait = first_wait v.settings.retry.initial_request_timeout;
-          retry = 0;
-          server = server;
-          requested_ip = m.your_ip;
-        });
-      }) v refl refl
+module _ (now : ℤ) (v v' : DhcpValue) (source : Ipv4Address) (payload : List ℕ) (takes : DhcpAnswers.Takes now v source payload v') where
+  abbrev before : DhcpValue
+  before = Dhcps.unoffered v
 
-  offered : (state : ClientState) → SameSettings v (DhcpAnswers.offer_in now server v m state)
-  offered S.Init = refl
-  offered (S.Selecting s) = chosen
-  offered (S.Requesting s) = refl
-  offered (S.Bound lease) = refl
-  offered (S.Renewing lease retry_at) = refl
-  offered (S.Rebinding lease retry_at) = refl
+  module _ (server : ServerInfo) where
+    chosen : SameSettings v (DhcpAnswers.chosen now server before takes.message)
+    chosen =
+        either (is_usable takes.message.your_ip) v (record before {
+          state = S.Requesting (record {
+            retry_at = now;
+            wait = first_wait v.settings.retry.initial_request_timeout;
+            retry = 0;
+            server = server;
+            requested_ip = takes.message.your_ip;
+          });
+        }) before refl refl
 
-  told : (kind : DhcpMessageType) (block : Option Ipv4Cidr) → SameSettings v (DhcpAnswers.told_by kind now server v m block)
-  told Message.Offer block = offered v.state
-  told Message.Ack block =
-      either (DhcpStates.is_asked v.state server) v (DhcpAnswers.bound_to v (lease_in now server m block v.settings.max_lease_duration)) v
-      (bound v (lease_in now server m block v.settings.max_lease_duration)) refl
-  told Message.Nak block = either (DhcpStates.is_asked v.state server && not v.settings.ignore_naks) v (Dhcps.begun v) v refl refl
-  told Message.Discover block = refl
-  told Message.Request block = refl
-  told Message.Decline block = refl
-  told Message.Release block = refl
-  told Message.Inform block = refl
+    offered : (state : ClientState) → SameSettings v (DhcpAnswers.offer_in now server before takes.message state)
+    offered S.Init = refl
+    offered (S.Selecting s) = chosen
+    offered (S.Requesting s) = refl
+    offered (S.Bound lease) = refl
+    offered (S.Renewing lease retry_at) = refl
+    offered (S.Rebinding lease retry_at) = refl
 
-told_from : (o : Option ServerInfo) (now : ℤ) (v : DhcpValue) (m : DhcpRepr) (block : Option Ipv4Cidr) → SameSettings v (DhcpAnswers.told_from o now v m block)
-told_from None now v m block = refl
-told_from (Some server) now v m block = told now server v m m.message_type block
+    acknowledged : SameSettings v (DhcpAnswers.acknowledged now server before takes.message takes.block)
+    acknowledged =
+        either (DhcpStates.is_asked v.state server) v
+        (DhcpAnswers.bound_to before (lease_in now server takes.message takes.block v.settings.max_lease_duration)) before
+        (bound before (lease_in now server takes.message takes.block v.settings.max_lease_duration)) refl
 
-told_dhcp : (now : ℤ) (source : Ipv4Address) (v : DhcpValue) (m : DhcpRepr) (block : Option Ipv4Cidr) → SameSettings v (DhcpAnswers.told now source v m block)
-told_dhcp now source v m block =
-    either (DhcpAnswers.is_answer v m) v (DhcpAnswers.told_from (server_in source m) now v m block) v (told_from (server_in source m) now v m block) refl
+    ends : SameSettings v (DhcpAnswers.refused server before)
+    ends = either (DhcpStates.is_asked v.state server && not v.settings.ignore_naks) v (Dhcps.begun before) before refl refl
+
+    by_type : SameSettings v (DhcpAnswers.told_by takes.message.message_type now server before takes.message takes.block)
+    by_type = let offer = offered v.state in let lease = acknowledged in let end = ends in grind (arith, offer, lease, end)
+
+  from_server : (o : Option ServerInfo) → SameSettings v (DhcpAnswers.told_from o now before takes.message takes.block)
+  from_server None = refl
+  from_server (Some server) = by_type server
+
+  told_dhcp : SameSettings v v'
+  told_dhcp =
+      same_at v (DhcpAnswers.told now source before takes.message takes.block) v' takes.taken
+      (either (DhcpAnswers.is_answer before takes.message) v
+      (DhcpAnswers.told_from (server_in source takes.message) now before takes.message takes.block) before
+      (from_server (server_in source takes.message)) refl)
 
 dhcp_taken : (accepted : Bool) (now : ℤ) (v v' : DhcpValue) (ip : IpRepr) (payload : List ℕ) → DhcpAnswers.ProcessedFrom accepted now v ip payload v'
     → SameSettings v v'
-dhcp_taken true now v v' (Ip.Ipv4 header) payload (inl takes) =
-    same_at v (DhcpAnswers.told now header.src_addr (Dhcps.unoffered v) takes.message takes.block) v' takes.taken
-    (told_dhcp now header.src_addr (Dhcps.unoffered v) takes.message takes.block)
+dhcp_taken true now v v' (Ip.Ipv4 header) payload (inl takes) = told_dhcp now v v' header.src_addr payload takes
 dhcp_taken true now v v' (Ip.Ipv4 header) payload (inr none) = same_at v (Dhcps.unoffered v) v' none.1 refl
 dhcp_taken true now v v' (Ip.Ipv6 header) payload is = same_at v (Dhcps.unoffered v) v' is refl
 dhcp_taken false now v v' ip payload is = same_at v (Dhcps.unoffered v) v' is refl
