@@ -280,7 +280,7 @@ module _ {E : Type 0} (moves : E → Move → E → Type 0) (frames_at : E → L
           ∙ append_assoc (contents w.received ++ was.holds.more) (received ∷ []) end.holds.more;
     }
 
--- one poll sends it
+-- One poll sends it,
 pub sends_it : {D : Type 0} (out : D → Move → D → Type 0) (t : ℤ) (budget : ℕ) (s s' : State D) (changed : Bool) (n : ℕ) (v : UdpValue)
     (before : List (UdpMetadata × List ℕ)) (d : UdpMetadata × List ℕ) (more : List (UdpMetadata × List ℕ)) (to : HardwareAddress) (p : PacketValue)
     → HasTurn (at_moment t s.host.inner) s.places n v → contents v.queued ≡ before ++ d ∷ more → length before < budget
@@ -300,7 +300,7 @@ sends_it {D} out t budget s s' changed n v before d more to p turn queued short 
 went_as : (i : InnerValue) (to : HardwareAddress) (p : PacketValue) (all : List Move) → HasWidths i → WentOut i to p all → WentAs i to p all
 went_as i to p all wide went = record { ident = went.sent.0; wide = went.wide wide.ident; sent = went.sent.1 }
 
--- and one reads it, where the socket expects it when its frame is next
+-- and one reads it where the socket expects it when its frame is next;
 pub arrives_where : {D E : Type 0} (out : D → Move → D → Type 0) (moves : E → Move → E → Type 0) (frames_at : E → List (List ℕ)) (t u : ℤ)
     (budget count steps : ℕ) (s s' : State D) (r r' : State E) (changed changed' : Bool) (n m : ℕ) (v w : UdpValue)
     (before : List (UdpMetadata × List ℕ)) (d : UdpMetadata × List ℕ) (more : List (UdpMetadata × List ℕ)) (to : HardwareAddress) (p : PacketValue)
@@ -325,7 +325,7 @@ arrives_where {D} {E} out moves frames_at t u budget count steps s s' r r' chang
     (record { mtu = wide.mtu; ident = it.went.wide }) it.padding it.before it.behind it.short it.frames (omega (arith, it.few, within))
     (expects it.went.ident it.padding it.before it.behind it.few it.frames)
 
--- as where it is ready
+-- so where it is ready
 pub arrives_in_a_poll : {D E : Type 0} (out : D → Move → D → Type 0) (moves : E → Move → E → Type 0) (frames_at : E → List (List ℕ)) (t u : ℤ)
     (budget steps : ℕ) (s s' : State D) (r r' : State E) (changed changed' : Bool) (n m : ℕ) (v w : UdpValue) (before : List (UdpMetadata × List ℕ))
     (d : UdpMetadata × List ℕ) (more : List (UdpMetadata × List ℕ)) (to : HardwareAddress) (p : PacketValue) → IsInbox moves frames_at

@@ -123,12 +123,12 @@ module _ (q : Packets UdpMetadata) (n most : ℕ) where
     Full = IsFull q.places (used_places q.packets) (window q) (unbroken q) size
 
     never_full : HasRoom q (suc n) most → Full → ⊥
-    never_full (inl has) (inl entries) = absurd (omega (arith, has.entries, entries))
+    never_full (inl has) (inl all) = absurd (omega (arith, has.entries, all))
     never_full (inl has) (inr (inl bytes)) = absurd (omega (arith, has.bytes, bytes, suc-mul (suc n) most, suc-mul n most, short))
-    never_full (inl has) (inr (inr (less, inl entries))) = absurd (omega (arith, has.entries, entries))
+    never_full (inl has) (inr (inr (less, inl all))) = absurd (omega (arith, has.entries, all))
     never_full (inl has) (inr (inr (less, inr bytes))) =
         absurd (omega (arith, has.bytes, less, bytes, suc-mul (suc n) most, suc-mul n most, short))
-    never_full (inr has) (inl entries) = absurd (omega (arith, has.1, entries))
+    never_full (inr has) (inl all) = absurd (omega (arith, has.1, all))
     never_full (inr has) (inr (inl bytes)) = absurd (omega (arith, has.2, bytes, suc-mul n most, short))
     never_full (inr has) (inr (inr (less, more))) = absurd (omega (arith, has.0, has.2, less, suc-mul n most, short))
 

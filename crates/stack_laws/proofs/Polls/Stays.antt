@@ -40,7 +40,7 @@ use Rattle.interface.specs.SameHost.{IsSameHost}
 use Rattle.interface.specs.State.{State, at_device}
 use Rattle.interface.specs.Taken.{CanRead}
 use Rattle.interface.proofs.Runs.{receives_same}
-use Rattle.interface.proofs.SameHost.{place_same}
+use Rattle.interface.proofs.SameHost.{place_same, same_where}
 use Rattle.interface.proofs.Settings.{settings_then}
 use Rattle.stack_laws.specs.PeerHost.Brought.{Came}
 use Rattle.stack_laws.specs.PeerHost.Steps.{Reaches, Step, Steps}
@@ -56,17 +56,6 @@ use Rattle.stack_laws.proofs.Polls.Refusals.{Refuses, not_accepted, refuses_law,
 
 -- THE HOST'S SETTINGS STAY
 
-settings_at : (i i' : InnerValue) → i' ≡ i → HasSettingsOf i i'
-settings_at i i' is = record {
-  hardware = ap (λ (x : InnerValue). x.hardware) is;
-  mtu = ap (λ (x : InnerValue). x.mtu) is;
-  checksums = ap (λ (x : InnerValue). x.checksums) is;
-  addresses = ap (λ (x : InnerValue). x.addresses) is;
-  isn_key = ap (λ (x : InnerValue). x.isn_key) is;
-  any_ip = ap (λ (x : InnerValue). x.any_ip) is;
-  routes = ap (λ (x : InnerValue). x.routes) is;
-}
-
 settings_out : (i i' : InnerValue) → IsSameHost i i' → HasSettingsOf i i'
 settings_out i i' is = record {
   hardware = ap (λ (x : InnerValue). x.hardware) is;
@@ -77,6 +66,9 @@ settings_out i i' is = record {
   any_ip = ap (λ (x : InnerValue). x.any_ip) is;
   routes = ap (λ (x : InnerValue). x.routes) is;
 }
+
+settings_at : (i i' : InnerValue) → i' ≡ i → HasSettingsOf i i'
+settings_at i i' is = settings_out i i' (same_where i i' is)
 
 settings_in : (i i' : InnerValue) → HasSameSettings i i' → HasSettingsOf i i'
 settings_in i i' same = record {

@@ -38,13 +38,13 @@ abbrev pub waits_for : UdpRepr → Socket → Bool
 waits_for ports (Kind.Dns v) = may_answer ports v.state
 waits_for ports s = false
 
--- The datagram is for the UDP socket at this place, and would not be for a DNS client, whichever server that asks next.
+-- The datagram is for the UDP socket at this place, and can answer no query of a DNS client of the host.
 pub record IsExpectedThroughout (i : InnerValue) (places : List (SocketStorage Socket)) (to : HardwareAddress) (header : IpRepr) (ports : UdpRepr)
     (m : ℕ) (meta : Meta) (w : UdpValue) : Type 0 where
   pub expected : IsExpected i places to header ports m meta w
   pub no_answer : list_any (passes (waits_for ports)) places ≡ false
 
--- so it is for the socket at this place, which is bound as it was
+-- it is for the UDP socket at this place, which is bound as this one
 pub record IsStillExpected (i : InnerValue) (places : List (SocketStorage Socket)) (to : HardwareAddress) (header : IpRepr) (ports : UdpRepr)
     (m : ℕ) (w : UdpValue) : Type 0 where
   pub meta : Meta
