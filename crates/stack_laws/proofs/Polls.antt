@@ -28,6 +28,7 @@ pub mod Refusals
 pub mod Stays
 pub mod Rooms
 pub mod Lengths
+pub mod OneMore
 pub mod Ready
 pub mod Pieces
 pub mod Solicited

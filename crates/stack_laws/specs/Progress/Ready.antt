@@ -1,8 +1,8 @@
 -- A UDP socket that expects a datagram as a poll begins, and still does when the frame with it is next.
-use Rattle.std.specs.Prelude.{◌≡◌, ◌⊎◌, ℕ, suc, ◌+◌, ◌*◌, ◌≤◌, ◌==◌, ◌&&◌, ℤ, Bool, false, List, ◌∷◌, ◌++◌, length, take}
+use Rattle.std.specs.Prelude.{◌≡◌, ◌⊎◌, ℕ, suc, ◌+◌, ◌*◌, ◌≤◌, ◌==◌, ◌&&◌, ℤ, Bool, false, List, [], ◌∷◌, ◌++◌, length, take}
 use Rattle.std.specs.List.{list_any, AllByRecursion}
 use Rattle.net_base.specs.Device.{Move}
-use Rattle.net_base.specs.Packets.{Packets, is_full_for, used_places, used_room}
+use Rattle.net_base.specs.Packets.{Packets, contents, is_full_for, used_places, used_room}
 use Rattle.ip_packet.specs.declared.ip.repr.IpRepr.{IpRepr}
 use Rattle.ip_packet.specs.declared.udp.repr.UdpRepr.{UdpRepr}
 use Rattle.ip_wire.specs.HardwareAddress.{HardwareAddress}
@@ -60,6 +60,14 @@ abbrev pub HasRoomThroughout : {E : Type 0} → (E → Move → E → Type 0) �
 HasRoomThroughout {E} moves frames_at u r i to p size m =
     (x : State E) (ident : ℕ) (padding : List ℕ) (more : List (List ℕ)) (v : UdpValue) → Reaches moves u r x
     → frames_at x.device ≡ (frame_under i ident to p ++ padding) ∷ more → IsUdpAt x.places m v → is_full_for v.received size ≡ false
+
+-- the UDP socket at a place is bound as this one, and has what waited there, and one datagram behind it at most
+pub record HasOneMoreAtMost (places : List (SocketStorage Socket)) (m : ℕ) (w : UdpValue) : Type 0 where
+  pub new : UdpValue
+  pub stands : IsUdpAt places m new
+  pub settings : new.settings ≡ w.settings
+  pub received : (contents new.received ≡ contents w.received)
+      ⊎ ((d : UdpMetadata × List ℕ) × (contents new.received ≡ contents w.received ++ d ∷ []))
 
 -- a frame brings no datagram of more bytes, neither whole nor as its last piece: it has no more, and no slot for pieces has
 abbrev pub BringsAtMost : ℕ → Slots → List ℕ → Type 0

@@ -1,6 +1,6 @@
 //! A socket that expects a datagram as a poll begins still does when the frame with it is next.
 
-ghost use Rattle.std.specs.Prelude.{◌≡◌, ◌≢◌, ℕ, ◌<◌, ◌≤◌, ℤ, Bool, List, ◌∷◌, ◌++◌, length};
+ghost use Rattle.std.specs.Prelude.{◌≡◌, ◌≢◌, ℕ, ◌<◌, ◌≤◌, ℤ, Bool, List, ◌∷◌, ◌++◌, length, Option};
 ghost use Rattle.std.specs.List.{AllByRecursion};
 ghost use Rattle.net_base.specs.Packets.{contents};
 ghost use Rattle.ip_packet.specs.Ip.{source_of};
@@ -12,15 +12,17 @@ ghost use Rattle.sockets.specs.declared.udp.UdpMetadata.{UdpMetadata};
 ghost use Rattle.interface_ingress.specs.Packet.{PacketValue};
 ghost use Rattle.interface_tables.specs.Inner.{InnerValue, at_moment};
 ghost use Rattle.interface_egress.specs.declared.socket_meta.Meta.{Meta};
+ghost use Rattle.interface.specs.Ingress.{IngressStep};
 ghost use Rattle.interface.specs.Polls.{Polls};
 ghost use Rattle.interface.specs.QuietPoll.{HasNoFrame};
 ghost use Rattle.interface.specs.State.{State};
 ghost use Rattle.interface.specs.Taken.{CanRead, HasWidths};
+ghost use Rattle.stack_laws.specs.PeerHost.Datagrams.{IsUdpAt};
 ghost use Rattle.stack_laws.specs.PeerHost.Steps.{Reaches};
 ghost use Rattle.stack_laws.specs.Progress.Delivered.{RefusesNothing, as_received, reader_of};
 ghost use Rattle.stack_laws.specs.Progress.Inbox.{BringsAmong, IsInbox, IsReady, WaitsAmongThem};
 ghost use Rattle.stack_laws.specs.Progress.Queued.{CanGo, HasTurn, HasWay, ports_of};
-ghost use Rattle.stack_laws.specs.Progress.Ready.{HasRoomBehind, HasRoomThroughout, IsExpectedThroughout, IsStillExpected};
+ghost use Rattle.stack_laws.specs.Progress.Ready.{HasOneMoreAtMost, HasRoomBehind, HasRoomThroughout, IsExpectedThroughout, IsStillExpected};
 
 use net_base::Device;
 
@@ -38,6 +40,15 @@ pub fn expected_datagrams_stay_expected<E: Device>()
         → CanRead i to (reader_of r.host.inner)
         → HasRoomThroughout E.moves frames_at u r i to p (length d.1) m
         → IsReady E.moves frames_at u r i to p settings d m }
+{}
+
+/// Law: a step of the way in leaves at most one datagram more at a UDP socket, behind those that waited there, which is bound as it was: so the frames that
+/// come before one need room for as many datagrams.
+pub fn frames_bring_one_datagram_at_most<E: Device>()
+    ensures { (u : ℤ) (r r' : State E) (answer : Option Bool) (m : ℕ) (w : UdpValue)
+        → IsUdpAt r.places m w
+        → IngressStep E.moves u r answer r'
+        → HasOneMoreAtMost r'.places m w }
 {}
 
 /// Law: within two polls, by what can be seen as each begins: one poll of the one sends the datagram, and one poll of the other, at whose device the
