@@ -1,9 +1,9 @@
 -- What a step of the way in leaves at a UDP socket: one datagram more at most.
-use Rattle.std.proofs.Common.{◌≡◌, ◌⊎◌, inl, inr, ℕ, Bool, true, false, if◌then◌else◌, ℤ, List, [], ◌∷◌, ◌++◌, length, Option, Some, None, refl, sym, ap, ◌∙◌}
+use Rattle.std.proofs.Common.{◌≡◌, inl, inr, ℕ, Bool, true, false, if◌then◌else◌, ℤ, List, length, Option, Some, None, refl, sym, ap, ◌∙◌}
 use Rattle.std.proofs.Common.{subst}
 use Rattle.net_base.specs.ChecksumCapabilities.{ChecksumCapabilities}
 use Rattle.net_base.specs.Device.{Move}
-use Rattle.net_base.specs.Packets.{contents, is_full_for, appended}
+use Rattle.net_base.specs.Packets.{is_full_for, appended}
 use Rattle.net_containers.proofs.PacketLaws.{contents-appended}
 use Rattle.ip_wire.specs.IpRepr.{IpRepr}
 use Rattle.ip_wire.specs.UdpRepr.{UdpRepr}
@@ -11,14 +11,13 @@ use Rattle.sockets.specs.Context.{ContextValue}
 use Rattle.sockets.specs.Udp.{UdpValue, metadata_of, process_after}
 use Rattle.sockets.specs.declared.socket.Socket.{Socket}
 use Rattle.sockets.specs.declared.socket.Socket.TheVariants as Kind
-use Rattle.sockets.specs.declared.udp.UdpMetadata.{UdpMetadata}
 use Rattle.interface_ingress.specs.Datagrams.{TakesDatagram}
 use Rattle.interface_ingress.specs.Delivered.{Places, with_icmpv4, with_icmpv6, with_packet, with_segment}
 use Rattle.interface.specs.Ingress.{IngressStep, Takes}
 use Rattle.interface.specs.Polls.{begun}
 use Rattle.interface.specs.State.{State}
 use Rattle.stack_laws.specs.PeerHost.Datagrams.{IsUdpAt}
-use Rattle.stack_laws.specs.Progress.Ready.{HasOneMoreAtMost}
+use Rattle.stack_laws.specs.Progress.Ready.{AddsAtMostOne, HasOneMoreAtMost}
 use Rattle.stack_laws.proofs.Peers.Arrivals.{IsOfArrivals, brings_holds}
 use Rattle.stack_laws.proofs.Peers.Place.{Found, HoldsAt, at_so, found_holds, holds_found}
 
@@ -30,8 +29,7 @@ module _ (w : UdpValue) where
     new : UdpValue
     is : s ≡ Kind.Udp new
     settings : new.settings ≡ w.settings
-    received : (contents new.received ≡ contents w.received)
-        ⊎ ((d : UdpMetadata × List ℕ) × (contents new.received ≡ contents w.received ++ d ∷ []))
+    received : AddsAtMostOne w new
 
   unchanged : (s : Socket) → Was s → IsThen s
   unchanged s was = record { new = w; is = was; settings = refl; received = inl refl }
@@ -46,9 +44,10 @@ module _ (w : UdpValue) where
     settings = refl;
     received = by (is_full_for w.received (length bytes));
   } where
-    by : (full : Bool) → (contents (if full then w.received else appended w.received (length bytes) (metadata_of ip udp) bytes) ≡ contents w.received)
-        ⊎ ((d : UdpMetadata × List ℕ)
-        × (contents (if full then w.received else appended w.received (length bytes) (metadata_of ip udp) bytes) ≡ contents w.received ++ d ∷ []))
+    by : (full : Bool) → AddsAtMostOne w (record w {
+      received = if full then w.received else appended w.received (length bytes) (metadata_of ip udp) bytes;
+      offered = None;
+    })
     by true = inl refl
     by false = inr ((metadata_of ip udp, bytes), contents-appended w.received (length bytes) (metadata_of ip udp) bytes)
 

@@ -61,13 +61,17 @@ HasRoomThroughout {E} moves frames_at u r i to p size m =
     (x : State E) (ident : ℕ) (padding : List ℕ) (more : List (List ℕ)) (v : UdpValue) → Reaches moves u r x
     → frames_at x.device ≡ (frame_under i ident to p ++ padding) ∷ more → IsUdpAt x.places m v → is_full_for v.received size ≡ false
 
--- the UDP socket at a place is bound as this one, and has what waited there, and one datagram behind it at most
+-- behind the datagrams that waited at the one socket there is one more at most at the other
+abbrev pub AddsAtMostOne : UdpValue → UdpValue → Type 0
+AddsAtMostOne w new =
+    (contents new.received ≡ contents w.received) ⊎ ((d : UdpMetadata × List ℕ) × (contents new.received ≡ contents w.received ++ d ∷ []))
+
+-- the UDP socket at a place is bound as this one, and has one datagram more at most
 pub record HasOneMoreAtMost (places : List (SocketStorage Socket)) (m : ℕ) (w : UdpValue) : Type 0 where
   pub new : UdpValue
   pub stands : IsUdpAt places m new
   pub settings : new.settings ≡ w.settings
-  pub received : (contents new.received ≡ contents w.received)
-      ⊎ ((d : UdpMetadata × List ℕ) × (contents new.received ≡ contents w.received ++ d ∷ []))
+  pub received : AddsAtMostOne w new
 
 -- a frame brings no datagram of more bytes, neither whole nor as its last piece: it has no more, and no slot for pieces has
 abbrev pub BringsAtMost : ℕ → Slots → List ℕ → Type 0
