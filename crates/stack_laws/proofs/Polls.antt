@@ -29,5 +29,11 @@ pub mod StillNeeded
 pub mod InSilence
 pub mod Exchanged
 pub mod Inbox
+pub mod Refusals
+pub mod Stays
+pub mod Rooms
+pub mod Lengths
+pub mod OneMore
+pub mod Ready
 pub mod Pieces
 pub mod Solicited

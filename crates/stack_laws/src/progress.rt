@@ -8,5 +8,6 @@ pub mod neighbors;
 pub mod partners;
 pub mod pieces;
 pub mod polls;
+pub mod ready;
 pub mod rest;
 pub mod turns;

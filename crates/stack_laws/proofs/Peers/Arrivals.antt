@@ -35,38 +35,50 @@ use Rattle.interface_ingress.specs.Upper.{upper_header, upper_payload}
 use Rattle.interface_ingress.proofs.AtPlace.{changed_here}
 use Rattle.interface_ingress.proofs.Segments.{accepted_there}
 use Rattle.stack_laws.specs.PeerHost.Brought.{IsPacket}
-use Rattle.stack_laws.proofs.Peers.Place.{HoldsItem, HoldsAt, put_holds, set_holds, all_hold}
+use Rattle.stack_laws.proofs.Peers.Place.{ItemOr, AtOr, at_so, put_holds, set_holds, all_hold}
 
--- What a poll may do to a socket keeps it. What comes is in a packet that came so.
-pub record IsOfPolls (Came : ChecksumCapabilities → IpRepr → List ℕ → Type 0) (W : Socket → Type 0) : Type 0 where
-  pub offers : (cx : ContextValue) (s offered : Socket) (answer : Answer.Offer) (sent : Bool) → Offers cx s answer offered → W s → W (settled sent offered)
+-- What comes for a socket, in a packet that came so, makes something hold of it, `Z`, where `W` held.
+pub record IsOfArrivals (Came : ChecksumCapabilities → IpRepr → List ℕ → Type 0) (W Z : Socket → Type 0) : Type 0 where
+  pub same : (s : Socket) → W s → Z s
   pub packet : (ip : IpRepr) (payload : List ℕ) (s : Socket) → W s → W (with_packet ip payload s)
-  pub icmpv4 : (ip : Ipv4Repr) (message : Icmpv4Header) (bytes : List ℕ) (s : Socket) → W s → W (with_icmpv4 ip message bytes s)
-  pub icmpv6 : (ip : Ipv6Repr) (message : MessageValue) (bytes : List ℕ) (s : Socket) → W s → W (with_icmpv6 ip message bytes s)
+  pub icmpv4 : (ip : Ipv4Repr) (message : Icmpv4Header) (bytes : List ℕ) (s : Socket) → W s → Z (with_icmpv4 ip message bytes s)
+  pub icmpv6 : (ip : Ipv6Repr) (message : MessageValue) (bytes : List ℕ) (s : Socket) → W s → Z (with_icmpv6 ip message bytes s)
   pub datagram : (caps : ChecksumCapabilities) (cx : ContextValue) (ip : IpRepr) (payload : List ℕ) (udp : UdpRepr) (bytes : List ℕ) (s s' : Socket)
       → Came caps ip payload → IsDatagram caps (upper_header ip payload) (upper_payload ip payload) udp bytes → accepts_datagram cx s ip udp ≡ true
-      → TakesDatagram cx ip udp bytes s s' → W s → W s'
+      → TakesDatagram cx ip udp bytes s s' → W s → Z s'
   pub segment : (caps : ChecksumCapabilities) (cx : ContextValue) (ip : IpRepr) (payload : List ℕ) (header : TcpHeader) (bytes : List ℕ) (s : Socket)
       → Came caps ip payload → IsSegment caps (upper_header ip payload) (upper_payload ip payload) header bytes
-      → accepts_segment s ip header ≡ true → W s → W (with_segment cx ip header bytes s)
+      → accepts_segment s ip header ≡ true → W s → Z (with_segment cx ip header bytes s)
 
-module _ (Came : ChecksumCapabilities → IpRepr → List ℕ → Type 0) (W : Socket → Type 0) (law : IsOfPolls Came W) (n : ℕ) where
+-- what a poll may do to a socket keeps it
+pub record IsOfPolls (Came : ChecksumCapabilities → IpRepr → List ℕ → Type 0) (W : Socket → Type 0) : Type 0 where
+  pub offers : (cx : ContextValue) (s offered : Socket) (answer : Answer.Offer) (sent : Bool) → Offers cx s answer offered → W s → W (settled sent offered)
+  pub arrives : IsOfArrivals Came W W
+
+module _ (Came : ChecksumCapabilities → IpRepr → List ℕ → Type 0) (F : Type 0) (W Z : Socket → Type 0) (law : IsOfArrivals Came W Z) (n : ℕ) where
   abbrev Holds : Places → Type 0
-  Holds places = HoldsAt W places n
+  Holds places = AtOr F W places n
+
+  -- it holds then
+  abbrev Then : Places → Type 0
+  Then places = AtOr F Z places n
+
+  stays : (places : Places) → Holds places → Then places
+  stays places holds = at_so F W Z law.same places n holds
 
   packets : (ip : IpRepr) (payload : List ℕ) (places : Places) → Holds places → Holds (packet_delivered ip payload places)
-  packets ip payload places holds = all_hold W (λ s. accepts_packet s ip) (with_packet ip payload) (law.packet ip payload) places n holds
+  packets ip payload places holds = all_hold F W W (λ s w. w) (λ s. accepts_packet s ip) (with_packet ip payload) (law.packet ip payload) places n holds
 
-  messages_v4 : (ip : IpRepr) (message : Icmpv4Header) (bytes : List ℕ) (places : Places) → Holds places → Holds (control_v4_places ip message bytes places)
+  messages_v4 : (ip : IpRepr) (message : Icmpv4Header) (bytes : List ℕ) (places : Places) → Holds places → Then (control_v4_places ip message bytes places)
   messages_v4 (Ip.Ipv4 header) message bytes places holds =
-      all_hold W (λ s. accepts_icmpv4 s (Address.Ipv4 header.dst_addr) message bytes) (with_icmpv4 header message bytes)
+      all_hold F W Z law.same (λ s. accepts_icmpv4 s (Address.Ipv4 header.dst_addr) message bytes) (with_icmpv4 header message bytes)
       (law.icmpv4 header message bytes) places n holds
-  messages_v4 (Ip.Ipv6 header) message bytes places holds = holds
+  messages_v4 (Ip.Ipv6 header) message bytes places holds = stays places holds
 
-  messages_v6 : (ip : IpRepr) (message : MessageValue) (bytes : List ℕ) (places : Places) → Holds places → Holds (control_v6_places ip message bytes places)
-  messages_v6 (Ip.Ipv4 header) message bytes places holds = holds
+  messages_v6 : (ip : IpRepr) (message : MessageValue) (bytes : List ℕ) (places : Places) → Holds places → Then (control_v6_places ip message bytes places)
+  messages_v6 (Ip.Ipv4 header) message bytes places holds = stays places holds
   messages_v6 (Ip.Ipv6 header) message bytes places holds =
-      all_hold W (λ s. accepts_icmpv6 s (Address.Ipv6 header.dst_addr) message bytes) (with_icmpv6 header message bytes)
+      all_hold F W Z law.same (λ s. accepts_icmpv6 s (Address.Ipv6 header.dst_addr) message bytes) (with_icmpv6 header message bytes)
       (law.icmpv6 header message bytes) places n holds
 
   -- DATAGRAMS AND SEGMENTS
@@ -74,48 +86,48 @@ module _ (Came : ChecksumCapabilities → IpRepr → List ℕ → Type 0) (W : S
   module _ (caps : ChecksumCapabilities) (ip : IpRepr) (payload : List ℕ) (came : Came caps ip payload) (cx : ContextValue) (places : Places)
       (holds : Holds places) where
     datagram_in : (udp : UdpRepr) (bytes : List ℕ) → IsDatagram caps (upper_header ip payload) (upper_payload ip payload) udp bytes
-        → (o o' : Option (Item Socket)) → passes_in (λ s. accepts_datagram cx s ip udp) o ≡ true → ItemTakes cx ip udp bytes o o' → HoldsItem W o
-        → HoldsItem W o'
-    datagram_in udp bytes is None o' passing takes here = absurd here
+        → (o o' : Option (Item Socket)) → passes_in (λ s. accepts_datagram cx s ip udp) o ≡ true → ItemTakes cx ip udp bytes o o' → ItemOr F W o
+        → ItemOr F Z o'
+    datagram_in udp bytes is None o' passing takes here = absurd (cc)
     datagram_in udp bytes is (Some item) o' passing takes here =
-        subst (HoldsItem W) (sym takes.2) (law.datagram caps cx ip payload udp bytes item.socket takes.0 came is passing takes.1 here)
+        subst (ItemOr F Z) (sym takes.2) (law.datagram caps cx ip payload udp bytes item.socket takes.0 came is passing takes.1 here)
 
     datagram_at : (udp : UdpRepr) (bytes : List ℕ) → IsDatagram caps (upper_header ip payload) (upper_payload ip payload) udp bytes → (o : Option ℕ)
-        → datagram_place cx ip udp places ≡ o → (to : Places) → GivenAt cx ip udp bytes o places to → Holds to
-    datagram_at udp bytes is None at to given = subst Holds (sym given) holds
+        → datagram_place cx ip udp places ≡ o → (to : Places) → GivenAt cx ip udp bytes o places to → Then to
+    datagram_at udp bytes is None at to given = subst Then (sym given) (stays places holds)
     datagram_at udp bytes is (Some at) there to given =
         let first = position-Some (passes (λ s. accepts_datagram cx s ip udp)) places at free there in
         let got : GivenIn cx ip udp bytes at (Some (get_or places at free)) places to =
         subst (λ (o : Option (SocketStorage Socket)). GivenIn cx ip udp bytes at o places to) (slice_get-get_or places at free first.0) given in
-        subst Holds (sym got.2)
-        (put_holds W places at n free got.0 (datagram_in udp bytes is (get_or places at free).inner got.0.inner first.1 got.1) holds)
+        subst Then (sym got.2)
+        (put_holds F W Z law.same places at n free got.0 (datagram_in udp bytes is (get_or places at free).inner got.0.inner first.1 got.1) holds)
 
     segment_at : (header : TcpHeader) (bytes : List ℕ) → IsSegment caps (upper_header ip payload) (upper_payload ip payload) header bytes
         → (o : Option ℕ) → segment_place ip header places ≡ o
-        → Holds (changed_at (with_segment cx ip header bytes) o places)
-    segment_at header bytes is None at = holds
+        → Then (changed_at (with_segment cx ip header bytes) o places)
+    segment_at header bytes is None at = stays places holds
     segment_at header bytes is (Some at) there =
         let first = accepted_there ip header places at free there in
-        subst Holds (sym (changed_here (with_segment cx ip header bytes) places at (get_or places at free) (slice_get-get_or places at free first.0)))
-        (set_holds W (λ s. accepts_segment s ip header) (with_segment cx ip header bytes)
+        subst Then (sym (changed_here (with_segment cx ip header bytes) places at (get_or places at free) (slice_get-get_or places at free first.0)))
+        (set_holds F W Z law.same (λ s. accepts_segment s ip header) (with_segment cx ip header bytes)
         (λ s accepts w. law.segment caps cx ip payload header bytes s came is accepts w) places at n free first.1 holds)
 
     segment_for : (nobody : Bool) (header : TcpHeader) (bytes : List ℕ) → IsSegment caps (upper_header ip payload) (upper_payload ip payload) header bytes
-        → Holds (if nobody then places else segment_delivered cx ip header bytes places)
-    segment_for true header bytes is = holds
+        → Then (if nobody then places else segment_delivered cx ip header bytes places)
+    segment_for true header bytes is = stays places holds
     segment_for false header bytes is = segment_at header bytes is (segment_place ip header places) refl
 
   handed : (i : InnerValue) (places : Places) (ip : IpRepr) (payload : List ℕ) (carried : Option PayloadValue) → Came i.checksums ip payload
       → IsCarriedContent i.checksums (upper_header ip payload) (upper_payload ip payload) carried → (to : Places) → HandsTo i places ip carried to
-      → Holds places → Holds to
-  handed i places ip payload None came is to hands holds = subst Holds (sym hands) holds
-  handed i places ip payload (Some (ControlV4 message bytes)) came is to hands holds = subst Holds (sym hands) (messages_v4 ip message bytes places holds)
-  handed i places ip payload (Some (ControlV6 message bytes)) came is to hands holds = subst Holds (sym hands) (messages_v6 ip message bytes places holds)
-  handed i places ip payload (Some (Bytes bytes)) came is to hands holds = subst Holds (sym hands) holds
+      → Holds places → Then to
+  handed i places ip payload None came is to hands holds = subst Then (sym hands) (stays places holds)
+  handed i places ip payload (Some (ControlV4 message bytes)) came is to hands holds = subst Then (sym hands) (messages_v4 ip message bytes places holds)
+  handed i places ip payload (Some (ControlV6 message bytes)) came is to hands holds = subst Then (sym hands) (messages_v6 ip message bytes places holds)
+  handed i places ip payload (Some (Bytes bytes)) came is to hands holds = subst Then (sym hands) (stays places holds)
   handed i places ip payload (Some (Datagram udp bytes)) came is to hands holds =
       datagram_at i.checksums ip payload came (context_of i) places holds udp bytes is (datagram_place (context_of i) ip udp places) refl to hands
   handed i places ip payload (Some (Segment header bytes)) came is to hands holds =
-      subst Holds (sym hands) (segment_for i.checksums ip payload came (context_of i) places holds (names_nobody i ip) header bytes is)
+      subst Then (sym hands) (segment_for i.checksums ip payload came (context_of i) places holds (names_nobody i ip) header bytes is)
 
   -- PACKETS
 
@@ -132,28 +144,28 @@ module _ (Came : ChecksumCapabilities → IpRepr → List ℕ → Type 0) (W : S
   same_checksums i link ip = renewal_if (is_direct i ip) i link (sender_of ip)
 
   hands : (i : InnerValue) (places : Places) (link : Option EthernetRepr) (ip : IpRepr) (payload : List ℕ) (a : Arrived) → Came i.checksums ip payload
-      → Hands (renewed i link ip) (packet_delivered ip payload places) ip payload (is_taken_raw ip places) a → Holds places → Holds a.places
+      → Hands (renewed i link ip) (packet_delivered ip payload places) ip payload (is_taken_raw ip places) a → Holds places → Then a.places
   hands i places link ip payload a came (carried, is, so) holds =
       handed (renewed i link ip) (packet_delivered ip payload places) ip payload carried
       (subst (λ (caps : ChecksumCapabilities). Came caps ip payload) (sym (same_checksums i link ip)) came) is a.places so.places_are
       (packets ip payload places holds)
 
   v4 : (ours : Bool) (i : InnerValue) (places : Places) (link : Option EthernetRepr) (ip : IpRepr) (payload : List ℕ) (a : Arrived)
-      → (ours ≡ true → Came i.checksums ip payload) → ArrivesV4 ours i places link ip payload a → Holds places → Holds a.places
+      → (ours ≡ true → Came i.checksums ip payload) → ArrivesV4 ours i places link ip payload a → Holds places → Then a.places
   v4 true i places link ip payload a came is holds = hands i places link ip payload a (came refl) is holds
-  v4 false i places link ip payload a came is holds = subst Holds (sym is.places_are) (packets ip payload places holds)
+  v4 false i places link ip payload a came is holds = subst Then (sym is.places_are) (stays (packet_delivered ip payload places) (packets ip payload places holds))
 
   v6 : (ours : Bool) (i : InnerValue) (places : Places) (link : Option EthernetRepr) (ip : IpRepr) (payload : List ℕ) (a : Arrived)
-      → (ours ≡ true → Came i.checksums ip payload) → ArrivesV6 ours i places link ip payload a → Holds places → Holds a.places
+      → (ours ≡ true → Came i.checksums ip payload) → ArrivesV6 ours i places link ip payload a → Holds places → Then a.places
   v6 true i places link ip payload a came is holds = hands i places link ip payload a (came refl) is holds
-  v6 false i places link ip payload a came is holds = subst Holds (sym is.places_are) holds
+  v6 false i places link ip payload a came is holds = subst Then (sym is.places_are) (stays places holds)
 
   -- what is whole behind a frame arrives
   pub brings_holds : (i : InnerValue) (places : Places) (content : Option IncomingValue) (a : Arrived)
       → ((ip : IpRepr) (payload : List ℕ) → IsPacket content ip payload → is_for_us i (destination_of ip) ≡ true → Came i.checksums ip payload)
-      → Brings i places content a → Holds places → Holds a.places
-  brings_holds i places None a came is holds = subst Holds (sym is.places_are) holds
-  brings_holds i places (Some (Arp link packet)) a came is holds = subst Holds (sym is.places_are) holds
+      → Brings i places content a → Holds places → Then a.places
+  brings_holds i places None a came is holds = subst Then (sym is.places_are) (stays places holds)
+  brings_holds i places (Some (Arp link packet)) a came is holds = subst Then (sym is.places_are) (stays places holds)
   brings_holds i places (Some (Ip4 link header piece payload)) a came is holds =
       v4 (is_for_us i (Address.Ipv4 header.dst_addr)) i places link (Ip.Ipv4 header) payload a (came (Ip.Ipv4 header) payload (refl, refl)) is holds
   brings_holds i places (Some (Ip6 link header payload)) a came is holds =

@@ -1,6 +1,9 @@
 -- What a poll does to the socket at a place, from where it began.
 use Rattle.std.proofs.Common.{◌≡◌, ℕ, zero, suc, ℤ, Bool, true, false, inl, inr, List, ◌∷◌, ◌++◌, Option, Some, None, refl, sym, subst}
 use Rattle.net_base.specs.Device.{Move, Took}
+use Rattle.ip_wire.specs.Ip.{destination_of}
+use Rattle.ip_wire.specs.IpRepr.{IpRepr}
+use Rattle.interface.specs.Inner.{is_for_us}
 use Rattle.sockets.specs.declared.socket.Socket.{Socket}
 use Rattle.interface_ingress.specs.Delivered.{Places}
 use Rattle.interface.specs.Ingress.{is_read, Takes, Reads}
@@ -9,53 +12,71 @@ use Rattle.interface.proofs.Kept.{IsKept}
 use Rattle.interface.specs.Polls.{Polls, begun}
 use Rattle.interface.specs.State.{State, at_device}
 use Rattle.interface.proofs.Keep.{polls_keep}
-use Rattle.stack_laws.specs.PeerHost.Brought.{Came}
-use Rattle.stack_laws.specs.PeerHost.Steps.{Step, Reaches}
-use Rattle.stack_laws.proofs.Peers.Place.{HoldsAt, middle_holds}
+use Rattle.stack_laws.specs.PeerHost.Brought.{Came, IsPacket, whole_in}
+use Rattle.stack_laws.specs.PeerHost.Steps.{Step, Steps, Reaches}
+use Rattle.stack_laws.proofs.Peers.Place.{AtOr, HoldsAt, middle_holds}
 use Rattle.stack_laws.proofs.Peers.Arrivals.{IsOfPolls, brings_holds}
 use Rattle.stack_laws.proofs.Peers.Turns.{turn_holds}
 
-module _ {D : Type 0} (moves : D → Move → D → Type 0) (t : ℤ) (from : State D) (W : Socket → Type 0) (law : IsOfPolls (Came moves t from) W) (n : ℕ) where
-  abbrev At : State D → Type 0
-  At s = Reaches moves t from s × HoldsAt W s.places n
+module _ {D : Type 0} (moves : D → Move → D → Type 0) (t : ℤ) (from : State D) where
+  came : (s s' : State D) (frame : List ℕ) (mid : D) → Reaches moves t from s → moves s.device (Took s.host.inner.moment frame) mid → is_read frame ≡ true
+      → (reads : Reads moves frame (at_device s mid) s') → (ip : IpRepr) (payload : List ℕ) → IsPacket (whole_in s reads.0) ip payload
+      → is_for_us s.host.inner (destination_of ip) ≡ true → Came moves t from s.host.inner.checksums ip payload
+  came s s' frame mid so took read reads ip payload packet ours = (
+    record {
+      host = s;
+      reached = so;
+      frame = frame;
+      after = mid;
+      took = took;
+      content = reads.0;
+      reads = reads.1;
+      brings = packet;
+      ours = ours;
+    },
+    refl,
+  )
 
-  -- one step further
-  further : (s s' : State D) → Reaches moves t from s → Step moves t s s' → Reaches moves t from s'
-  further s s' so step = record { count = suc so.count; steps = (s, so.steps, step) }
+  module _ (F : Type 0) (W : Socket → Type 0) (law : IsOfPolls (Came moves t from) W) (n : ℕ) where
+    abbrev At : State D → Type 0
+    At s = Reaches moves t from s × AtOr F W s.places n
 
-  reads : (s s' : State D) (frame : List ℕ) (mid : D) → moves s.device (Took s.host.inner.moment frame) mid → is_read frame ≡ true →
-      Reads moves frame (at_device s mid) s' →
-      At s → HoldsAt W s'.places n
-  reads s s' frame mid took read (content, is, receives) at =
-      subst (λ (places : Places). HoldsAt W places n) (sym receives.2)
-      (brings_holds (Came moves t from) W law n s.host.inner s.places _ receives.0
-      (λ ip payload packet ours. (
-        record {
-          host = s;
-          reached = at.0;
-          frame = frame;
-          after = mid;
-          took = took;
-          content = content;
-          reads = is;
-          brings = packet;
-          ours = ours;
-        },
-        refl,
-      ))
-      receives.1.1 at.1)
+    reads : (s s' : State D) (frame : List ℕ) (mid : D) → moves s.device (Took s.host.inner.moment frame) mid → is_read frame ≡ true →
+        Reads moves frame (at_device s mid) s' →
+        At s → AtOr F W s'.places n
+    reads s s' frame mid took read so at =
+        subst (λ (places : Places). AtOr F W places n) (sym so.2.2)
+        (brings_holds (Came moves t from) F W W law.arrives n s.host.inner s.places _ so.2.0 (came s s' frame mid at.0 took read so) so.2.1.1 at.1)
 
-  takes : (s s' : State D) (answer : Option Bool) → Takes moves s answer s' → At s → HoldsAt W s'.places n
-  takes s s' None is at = subst (λ (x : State D). HoldsAt W x.places n) (sym is.1) at.1
-  takes s s' (Some false) is at = subst (λ (x : State D). HoldsAt W x.places n) (sym is.3) at.1
-  takes s s' (Some true) (frame, mid, took, read, so) at = reads s s' frame mid took read so at
+    takes : (s s' : State D) (answer : Option Bool) → Takes moves s answer s' → At s → AtOr F W s'.places n
+    takes s s' None is at = subst (λ (x : State D). AtOr F W x.places n) (sym is.1) at.1
+    takes s s' (Some false) is at = subst (λ (x : State D). AtOr F W x.places n) (sym is.3) at.1
+    takes s s' (Some true) (frame, mid, took, read, so) at = reads s s' frame mid took read so at
 
-  pub kept : IsKept moves t At
-  kept = record {
-    maintenance = λ s at. (further s (begun t s) at.0 (inl refl), at.1);
-    arrivals = λ s s' answer runs at is. (further s s' at.0 (inr (inl (answer, is))), takes s s' answer is at);
-    pieces = λ h ps x x' l gone runs waits at leaves same. (
-      further (sending_as h x ps) (sending_as h x' ps) at.0 (inr (inr (inl (record {
+    -- one step further
+    pub goes : (s s' : State D) → Step moves t s s' → At s → At s'
+    goes s s' step at = (record { count = suc at.0.count; steps = (s, at.0.steps, step) }, by step) where
+      by : Step moves t s s' → AtOr F W s'.places n
+      by (inl is) = subst (λ (x : State D). AtOr F W x.places n) (sym is) at.1
+      by (inr (inl is)) = takes s s' is.0 is.1 at
+      by (inr (inr (inl piece))) =
+          subst (λ (x : State D). AtOr F W x.places n) (sym piece.is) (subst (λ (x : State D). AtOr F W x.places n) piece.was at.1)
+      by (inr (inr (inr turn))) =
+          subst (λ (x : State D). AtOr F W x.places n) (sym turn.is)
+          (middle_holds F W W (λ (s : Socket). λ w. w) turn.before turn.after turn.place turn.place_after n
+          (turn_holds moves turn.asked (Came moves t from) F W law turn.place turn.place_after turn.from turn.to turn.turned turn.turns)
+          (subst (λ (x : State D). AtOr F W x.places n) turn.was at.1))
+
+    -- what holds of the socket where a poll begins holds wherever it comes
+    pub reached : (count : ℕ) (s : State D) → AtOr F W from.places n → Steps moves t count from s → At s
+    reached zero s holds steps = (record { count = zero; steps = steps }, subst (λ (x : State D). AtOr F W x.places n) (sym steps) holds)
+    reached (suc count) s holds steps = goes steps.0 s steps.2 (reached count steps.0 holds steps.1)
+
+    pub kept : IsKept moves t At
+    kept = record {
+      maintenance = λ s at. goes s (begun t s) (inl refl) at;
+      arrivals = λ s s' answer runs at is. goes s s' (inr (inl (answer, is))) at;
+      pieces = λ h ps x x' l gone runs waits at leaves same. goes (sending_as h x ps) (sending_as h x' ps) (inr (inr (inl (record {
         host = h;
         places = ps;
         from = x;
@@ -67,29 +88,26 @@ module _ {D : Type 0} (moves : D → Move → D → Type 0) (t : ℤ) (from : St
         same = same;
         was = refl;
         is = refl;
-      })))),
-      at.1,
-    );
-    turns = λ asked h before after p p' x x' turned runs at is. (
-      further (sending_as h x (before ++ p ∷ after)) (sending_as h x' (before ++ p' ∷ after)) at.0 (inr (inr (inr (record {
-        host = h;
-        before = before;
-        after = after;
-        place = p;
-        place_after = p';
-        from = x;
-        to = x';
-        asked = asked;
-        turned = turned;
-        turns = is;
-        was = refl;
-        is = refl;
-      })))),
-      middle_holds W before after p p' n (turn_holds moves asked (Came moves t from) W law p p' x x' turned is) at.1,
-    );
-  }
+      })))) at;
+      turns = λ asked h before after p p' x x' turned runs at is.
+          goes (sending_as h x (before ++ p ∷ after)) (sending_as h x' (before ++ p' ∷ after)) (inr (inr (inr (record {
+            host = h;
+            before = before;
+            after = after;
+            place = p;
+            place_after = p';
+            from = x;
+            to = x';
+            asked = asked;
+            turned = turned;
+            turns = is;
+            was = refl;
+            is = refl;
+          })))) at;
+    }
 
   -- what holds of the socket when a poll begins holds when it ends
-  pub polled_holds : (budget : ℕ) (s' : State D) (changed : Bool) → HoldsAt W from.places n → Polls moves t budget from changed s' → HoldsAt W s'.places n
-  polled_holds budget s' changed holds polls =
-      (polls_keep moves t At kept budget from s' changed (record { count = zero; steps = refl }, holds) polls).0.1
+  pub polled_holds : (W : Socket → Type 0) (law : IsOfPolls (Came moves t from) W) (n budget : ℕ) (s' : State D) (changed : Bool)
+      → HoldsAt W from.places n → Polls moves t budget from changed s' → HoldsAt W s'.places n
+  polled_holds W law n budget s' changed holds polls =
+      (polls_keep moves t (At ⊥ W law n) (kept ⊥ W law n) budget from s' changed (record { count = zero; steps = refl }, holds) polls).0.1

@@ -91,15 +91,18 @@ module _ {D : Type 0} (moves : D → Move → D → Type 0) (t : ℤ) (from : St
   led_law : IsOfPolls (Came moves t from) LedTo
   led_law = record {
     offers = offer_led;
-    packet = λ ip payload s led. same_for (with_packet ip payload) (λ u. refl) s led;
-    icmpv4 = λ ip message bytes s led. same_for (with_icmpv4 ip message bytes) (λ u. refl) s led;
-    icmpv6 = λ ip message bytes s led. same_for (with_icmpv6 ip message bytes) (λ u. refl) s led;
-    datagram = λ caps cx ip payload udp bytes s s' came is accepts takes led. record {
-      events = led.events;
-      are = led.are;
-      is = subst (λ (x : Socket). TakesDatagram cx ip udp bytes x s') led.is takes;
+    arrives = record {
+      same = λ s led. led;
+      packet = λ ip payload s led. same_for (with_packet ip payload) (λ u. refl) s led;
+      icmpv4 = λ ip message bytes s led. same_for (with_icmpv4 ip message bytes) (λ u. refl) s led;
+      icmpv6 = λ ip message bytes s led. same_for (with_icmpv6 ip message bytes) (λ u. refl) s led;
+      datagram = λ caps cx ip payload udp bytes s s' came is accepts takes led. record {
+        events = led.events;
+        are = led.are;
+        is = subst (λ (x : Socket). TakesDatagram cx ip udp bytes x s') led.is takes;
+      };
+      segment = segment_led;
     };
-    segment = segment_led;
   }
 
   pub stream_goes_on : (budget n : ℕ) (s' : State D) (changed : Bool) → IsTcpAt from.places n v → Polls moves t budget from changed s' →

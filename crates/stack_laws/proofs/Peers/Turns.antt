@@ -23,7 +23,7 @@ use Rattle.interface_egress.specs.declared.socket_set.SocketStorage.{SocketStora
 use Rattle.interface.specs.Host.{Sender}
 use Rattle.interface.specs.Turn.{PlaceTurns, ItemTurns, TurnsIf, Answers, SendsBy, is_waiting, let_through, is_done}
 use Rattle.interface.specs.declared.turn.Turned.{Turned}
-use Rattle.stack_laws.proofs.Peers.Place.{HoldsItem}
+use Rattle.stack_laws.proofs.Peers.Place.{ItemOr}
 use Rattle.stack_laws.proofs.Peers.Arrivals.{IsOfPolls}
 
 -- an offer that is silent leaves none open
@@ -52,7 +52,7 @@ unsettled (Is.Dhcpv4 v) none = let no_offer : v.offered ≡ None = none_kept v.o
 unsettled (Is.Dns v) none = let no_offer : v.offered ≡ None = none_asked v.offered none in λ k. Is.Dns (record v { offered = sym no_offer k })
 
 module _ {D : Type 0} (moves : D → Move → D → Type 0) (asked : Option IpAddress) (Came : ChecksumCapabilities → IpRepr → List ℕ → Type 0)
-    (W : Socket → Type 0) (law : IsOfPolls Came W) where
+    (F : Type 0) (W : Socket → Type 0) (law : IsOfPolls Came W) where
   silent : (cx : ContextValue) (s offered : Socket) (changed : Bool) → Offers cx s (Offer.Silent changed) offered → W s → W offered
   silent cx s offered changed offers holds =
       subst W (unsettled offered (none_offered (offered_by offered) changed (has_packet s offered cx (Offer.Silent changed) offers)))
@@ -77,12 +77,12 @@ module _ {D : Type 0} (moves : D → Move → D → Type 0) (asked : Option IpAd
   turns false x x' item item' turned holds (answer, offered, offers, is) =
       answers x x' item.socket (record (let_through x.inner item) { socket = offered }) item' (context_for x.inner item.socket) answer turned offers holds is
 
-  items : (x x' : Sender D) (o o' : Option (Item Socket)) (turned : Turned) → ItemTurns moves asked o x turned x' o' → HoldsItem W o → HoldsItem W o'
+  items : (x x' : Sender D) (o o' : Option (Item Socket)) (turned : Turned) → ItemTurns moves asked o x turned x' o' → ItemOr F W o → ItemOr F W o'
   items x x' None None turned is holds = holds
   items x x' (Some item) (Some item') turned is holds = turns (is_waiting x.inner item.meta) x x' item item' turned holds is
   items x x' None (Some item') turned is holds = absurd is
   items x x' (Some item) None turned is holds = absurd is
 
-  pub turn_holds : (p p' : SocketStorage Socket) (x x' : Sender D) (turned : Turned) → PlaceTurns moves asked x p turned x' p' → HoldsItem W p.inner →
-      HoldsItem W p'.inner
+  pub turn_holds : (p p' : SocketStorage Socket) (x x' : Sender D) (turned : Turned) → PlaceTurns moves asked x p turned x' p' → ItemOr F W p.inner →
+      ItemOr F W p'.inner
   turn_holds p p' x x' turned is holds = items x x' p.inner p'.inner turned is holds

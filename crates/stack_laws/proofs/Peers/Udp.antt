@@ -57,7 +57,7 @@ same_left : (u w : UdpValue) (p : Option PacketValue) → w ≡ left_with p u �
 same_left u w None is = record { settings = ap (λ (x : UdpValue). x.settings) is; received = ap (λ (x : UdpValue). x.received) is }
 same_left u w (Some p) is = record { settings = ap (λ (x : UdpValue). x.settings) is; received = ap (λ (x : UdpValue). x.received) is }
 
-same_offered : (cx : ContextValue) (u w : UdpValue) (answer : Answer.Offer) (o : Option (UdpMetadata × List ℕ)) →
+pub same_offered : (cx : ContextValue) (u w : UdpValue) (answer : Answer.Offer) (o : Option (UdpMetadata × List ℕ)) →
     OffersFirst (TakesDatagram cx) u o answer w → SameIn u w
 same_offered cx u w answer None is = record { settings = ap (λ (x : UdpValue). x.settings) is.1; received = ap (λ (x : UdpValue). x.received) is.1 }
 same_offered cx u w answer (Some q) is = same_left u w w.offered is.2
@@ -164,20 +164,26 @@ module _ {D : Type 0} (moves : D → Move → D → Type 0) (t : ℤ) (from : St
   pub got_law : IsOfPolls (Came moves t from) GotMore
   got_law = record {
     offers = offer_got;
-    packet = λ ip payload s got. same_for (with_packet ip payload) (λ u. refl) s got;
-    icmpv4 = λ ip message bytes s got. same_for (with_icmpv4 ip message bytes) (λ u. refl) s got;
-    icmpv6 = λ ip message bytes s got. same_for (with_icmpv6 ip message bytes) (λ u. refl) s got;
-    datagram = datagram_got;
-    segment = λ caps cx ip payload header bytes s came is accepts got. same_for (with_segment cx ip header bytes) (λ u. refl) s got;
+    arrives = record {
+      same = λ s got. got;
+      packet = λ ip payload s got. same_for (with_packet ip payload) (λ u. refl) s got;
+      icmpv4 = λ ip message bytes s got. same_for (with_icmpv4 ip message bytes) (λ u. refl) s got;
+      icmpv6 = λ ip message bytes s got. same_for (with_icmpv6 ip message bytes) (λ u. refl) s got;
+      datagram = datagram_got;
+      segment = λ caps cx ip payload header bytes s came is accepts got. same_for (with_segment cx ip header bytes) (λ u. refl) s got;
+    };
   }
+
+  -- none yet
+  pub got_first : GotMore (Is.Udp v)
+  got_first = record { new = v; more = []; is = refl; bound = refl; behind = sym (append-nil (contents v.received)); were = tt }
 
   pub datagrams_go_on : (budget n : ℕ) (s' : State D) (changed : Bool) → IsUdpAt from.places n v → Polls moves t budget from changed s' →
       DatagramsGoOn moves t from n v s'
   datagrams_go_on budget n s' changed is polls =
-      let start : GotMore (Is.Udp v) = record { new = v; more = []; is = refl; bound = refl; behind = sym (append-nil (contents v.received)); were = tt } in
       let end : Found GotMore s'.places n =
       holds_found GotMore s'.places n
-      (polled_holds moves t from GotMore got_law n budget s' changed (found_holds GotMore from.places n (Is.Udp v) is start) polls) in
+      (polled_holds moves t from GotMore got_law n budget s' changed (found_holds GotMore from.places n (Is.Udp v) is got_first) polls) in
       record {
         new = end.holds.new;
         more = end.holds.more;

@@ -1,8 +1,8 @@
 -- A poll that comes to a frame which waits among others, and reads the datagram in it.
-use Rattle.std.proofs.Common.{◌≡◌, ◌≢◌, ℕ, zero, suc, ◌+◌, ◌<◌, Bool, true, false, ◌||◌, ◌⊎◌, inl, inr, ℤ, List, [], ◌∷◌, ◌++◌, length, Option, Some, None}
-use Rattle.std.proofs.Common.{is_some, refl, sym, ap, ◌∙◌, subst, arith, append_assoc, append-nil}
+use Rattle.std.proofs.Common.{◌≡◌, ◌≢◌, ℕ, zero, suc, ◌<◌, ◌≤◌, Bool, true, false, ◌||◌, ◌⊎◌, inl, inr, ℤ, List, [], ◌∷◌, ◌++◌, length, Option, Some, None}
+use Rattle.std.proofs.Common.{is_some, refl, sym, ap, ◌∙◌, subst, arith, append_assoc}
 use Rattle.std.specs.List.{list_any, AllByRecursion}
-use Rattle.net_base.specs.Device.{Move, Took, Empty, Emitted, Denied}
+use Rattle.net_base.specs.Device.{Move, Emitted, Denied}
 use Rattle.net_base.specs.Packets.{contents}
 use Rattle.ip_packet.specs.Ip.{source_of}
 use Rattle.ip_wire.specs.HardwareAddress.{HardwareAddress}
@@ -38,18 +38,18 @@ use Rattle.interface.proofs.Keep.{in_step_keeps, out_step_keeps}
 use Rattle.interface.proofs.Kept.{IsKept, RunsAt}
 use Rattle.stack_laws.specs.PeerHost.Datagrams.{IsUdpAt}
 use Rattle.stack_laws.specs.PeerHost.Steps.{Reaches}
-use Rattle.stack_laws.specs.Progress.Delivered.{RefusesNothing, WaitsBehind, as_received}
+use Rattle.stack_laws.specs.Progress.Delivered.{RefusesNothing, WaitsBehind, WentAs, as_received}
 use Rattle.stack_laws.specs.Progress.Inbox.{BringsAmong, IsExpectedAt, IsInbox, IsReady, WaitsAmong, WaitsAmongThem}
 use Rattle.stack_laws.specs.Progress.Moves.{AreMoves, is_refused}
 use Rattle.stack_laws.specs.Progress.Queued.{CanGo, GoesInTurn, HasTurn, HasWay, WentOut, frame_under, ports_of, with_ident}
 use Rattle.stack_laws.proofs.Peers.Place.{Found, HoldsAt, found_holds, holds_found}
 use Rattle.stack_laws.proofs.Peers.Taken.{kept}
-use Rattle.stack_laws.proofs.Peers.Udp.{GotMore, got_law}
+use Rattle.stack_laws.proofs.Peers.Udp.{GotMore, got_first, got_law}
 use Rattle.stack_laws.proofs.Polls.Delivered.{waits}
 use Rattle.stack_laws.proofs.Polls.InTurn.{poll_goes}
 
 -- these frames wait at the device
-abbrev Waits : {E : Type 0} → (E → List (List ℕ)) → E → List (List ℕ) → Type 0
+abbrev pub Waits : {E : Type 0} → (E → List (List ℕ)) → E → List (List ℕ) → Type 0
 Waits {E} frames_at device frames = frames_at device ≡ frames
 
 below_none : (n : ℕ) → n < 0 → ⊥
@@ -142,13 +142,12 @@ module _ {E : Type 0} (moves : E → Move → E → Type 0) (frames_at : E → L
       Runs s = Got s × RunsAt u s.host.inner
 
       got_kept : IsKept moves u Got
-      got_kept = kept moves u from (GotMore moves u from v) (got_law moves u from v) m
+      got_kept = kept moves u from ⊥ (GotMore moves u from v) (got_law moves u from v) m
 
       begins : IsUdpAt from.places m v → Got from
       begins is = (
         record { count = zero; steps = refl },
-        found_holds (GotMore moves u from v) from.places m (Is.Udp v) is
-            (record { new = v; more = []; is = refl; bound = refl; behind = sym (append-nil (contents v.received)); were = tt }),
+        found_holds (GotMore moves u from v) from.places m (Is.Udp v) is (got_first moves u from v),
       )
 
       one_in : (s s' : State E) (answer : Option Bool) → Runs s → IngressStep moves u s answer s' → Runs s'
@@ -165,64 +164,83 @@ module _ {E : Type 0} (moves : E → Move → E → Type 0) (frames_at : E → L
       outs (suc n) s s' c c' runs (inr goes) =
           outs n goes.1 s' (c || goes.0) c' (out_step_keeps moves u Got got_kept s goes.1 (Some goes.0) runs goes.2) goes.3
 
-      -- THE POLL COMES TO THE FRAME
+      -- THE POLL COMES TO THE FRAME. What holds of a state and of the frames that wait before this one is kept by reading one of them.
 
-      record Comes (frame : List ℕ) (more : List (List ℕ)) (mid : State E) : Type 0 where
-        x : State E
-        x' : State E
-        left : ℕ
-        c : Bool
-        c' : Bool
-        runs : Runs x
-        wait : Waits frames_at x.device (frame ∷ more)
-        reads : IngressStep moves u x (Some true) x'
-        rest : Repeats (IngressStep moves u) left x' c mid c'
+      module _ (Holds : List (List ℕ) → State E → Type 0) (keeps : (f : List ℕ) (before more : List (List ℕ)) (s s' : State E) (b : Bool) →
+          Waits frames_at s.device (f ∷ more) → Holds (f ∷ before) s → IngressStep moves u s (Some b) s' → Holds before s') where
+        record Comes (frame : List ℕ) (more : List (List ℕ)) (mid : State E) : Type 0 where
+          x : State E
+          x' : State E
+          left : ℕ
+          c : Bool
+          c' : Bool
+          runs : Runs x
+          holds : Holds [] x
+          wait : Waits frames_at x.device (frame ∷ more)
+          reads : IngressStep moves u x (Some true) x'
+          rest : Repeats (IngressStep moves u) left x' c mid c'
 
-      comes : (n : ℕ) (before : List (List ℕ)) (s mid : State E) (c c' : Bool) (frame : List ℕ) (more : List (List ℕ)) → is_read frame ≡ true
-          → Waits frames_at s.device (before ++ frame ∷ more) → length before < n → Runs s → Repeats (IngressStep moves u) n s c mid c' → Comes frame more mid
-      comes zero before s mid c c' frame more short wait few runs steps = absurd (below_none (length before) few)
-      comes (suc n) [] s mid c c' frame more short wait few runs (inl ends) = absurd (never_ends s mid frame more wait ends.0)
-      comes (suc n) [] s mid c c' frame more short wait few runs (inr goes) = record {
-        x = s;
-        x' = goes.1;
-        left = n;
-        c = c || goes.0;
-        c' = c';
-        runs = runs;
-        wait = wait;
-        reads = subst (λ (b : Bool). IngressStep moves u s (Some b) goes.1) (is_true s goes.1 goes.0 frame more wait short goes.2) goes.2;
-        rest = goes.3;
-      }
-      comes (suc n) (f ∷ before) s mid c c' frame more short wait few runs (inl ends) = absurd (never_ends s mid f (before ++ frame ∷ more) wait ends.0)
-      comes (suc n) (f ∷ before) s mid c c' frame more short wait few runs (inr goes) =
-          comes n before goes.1 mid (c || goes.0) c' frame more short (takes s goes.1 goes.0 f (before ++ frame ∷ more) wait goes.2) (omega (arith, few))
-          (one_in s goes.1 (Some goes.0) runs goes.2) goes.3
+        comes : (n : ℕ) (before : List (List ℕ)) (s mid : State E) (c c' : Bool) (frame : List ℕ) (more : List (List ℕ)) → is_read frame ≡ true
+            → Waits frames_at s.device (before ++ frame ∷ more) → length before < n → Runs s → Holds before s
+            → Repeats (IngressStep moves u) n s c mid c' → Comes frame more mid
+        comes zero before s mid c c' frame more short wait few runs holds steps = absurd (below_none (length before) few)
+        comes (suc n) [] s mid c c' frame more short wait few runs holds (inl ends) = absurd (never_ends s mid frame more wait ends.0)
+        comes (suc n) [] s mid c c' frame more short wait few runs holds (inr goes) = record {
+          x = s;
+          x' = goes.1;
+          left = n;
+          c = c || goes.0;
+          c' = c';
+          runs = runs;
+          holds = holds;
+          wait = wait;
+          reads = subst (λ (b : Bool). IngressStep moves u s (Some b) goes.1) (is_true s goes.1 goes.0 frame more wait short goes.2) goes.2;
+          rest = goes.3;
+        }
+        comes (suc n) (f ∷ before) s mid c c' frame more short wait few runs holds (inl ends) =
+            absurd (never_ends s mid f (before ++ frame ∷ more) wait ends.0)
+        comes (suc n) (f ∷ before) s mid c c' frame more short wait few runs holds (inr goes) =
+            comes n before goes.1 mid (c || goes.0) c' frame more short (takes s goes.1 goes.0 f (before ++ frame ∷ more) wait goes.2)
+            (omega (arith, few)) (one_in s goes.1 (Some goes.0) runs goes.2)
+            (keeps f before (before ++ frame ∷ more) s goes.1 goes.0 wait holds goes.2) goes.3
 
 -- THE DATAGRAM
 
-same_value : (a b : UdpValue) → Some (Is.Udp a) ≡ Some (Is.Udp b) → a ≡ b
+pub same_value : (a b : UdpValue) → Some (Is.Udp a) ≡ Some (Is.Udp b) → a ≡ b
 same_value a b is = let inside : Is.Udp a ≡ Is.Udp b = cc in let at : a ≡ b = cc in at
+
+module _ {E : Type 0} (moves : E → Move → E → Type 0) (frames_at : E → List (List ℕ)) (u : ℤ) (r : State E) (m : ℕ) (i : InnerValue)
+    (settings : UdpSettings) (d : UdpMetadata × List ℕ) (to : HardwareAddress) (p : PacketValue) where
+  -- What holds where the poll begins, and is kept as the frames before are read, makes the socket expect the datagram when its frame is next.
+  pub record Expects (frame : List ℕ) (before behind : List (List ℕ)) : Type 1 where
+    pub Holds : List (List ℕ) → State E → Type 0
+    pub keeps : (f : List ℕ) (more rest : List (List ℕ)) (s s' : State E) (b : Bool) → Waits frames_at s.device (f ∷ rest) → Holds (f ∷ more) s
+        → IngressStep moves u s (Some b) s' → Holds more s'
+    pub begins : Holds before (begun u r)
+    pub expects : (x : State E) → Reaches moves u r x → Waits frames_at x.device (frame ∷ behind) → Holds [] x
+        → IsExpectedAt u x i to p.header (ports_of settings d) (length d.1) m
 
 module _ {E : Type 0} (moves : E → Move → E → Type 0) (frames_at : E → List (List ℕ)) (inbox : IsInbox moves frames_at) (u : ℤ) (budget : ℕ)
     (r r' : State E) (changed : Bool) (m : ℕ) (w : UdpValue) (is_udp : IsUdpAt r.places m w) (polls : Polls moves u budget r changed r') (i : InnerValue)
     (settings : UdpSettings) (d : UdpMetadata × List ℕ) (to : HardwareAddress) (p : PacketValue) (some : d.0.endpoint.port ≢ 0)
-    (can : CanGo i settings d to p) (formed : IsWellFormed p) (ready : IsReady moves frames_at u r i to p settings d m) where
+    (can : CanGo i settings d to p) (formed : IsWellFormed p) where
   abbrev received : UdpMetadata × List ℕ
   received = as_received (source_of p.header) settings d
 
   module _ (ident : ℕ) (wide : HasWidths (with_ident i ident)) (padding : List ℕ) (before behind : List (List ℕ))
       (short : is_read (frame_under i ident to p ++ padding) ≡ true)
-      (wait : Waits frames_at r.device (before ++ (frame_under i ident to p ++ padding) ∷ behind)) (few : length before < budget) where
+      (wait : Waits frames_at r.device (before ++ (frame_under i ident to p ++ padding) ∷ behind)) (few : length before < budget)
+      (e : Expects moves frames_at u r m i settings d to p (frame_under i ident to p ++ padding) before behind) where
     abbrev frame : List ℕ
     frame = frame_under i ident to p ++ padding
 
-    coming : Comes moves frames_at inbox u r w m frame behind polls.0
+    coming : Comes moves frames_at inbox u r w m e.Holds e.keeps frame behind polls.0
     coming =
-        comes moves frames_at inbox u r w m budget before (begun u r) polls.0 false polls.1 frame behind short wait few
-        ((got_kept moves frames_at inbox u r w m).maintenance r (begins moves frames_at inbox u r w m is_udp), (refl, refl)) polls.2
+        comes moves frames_at inbox u r w m e.Holds e.keeps budget before (begun u r) polls.0 false polls.1 frame behind short wait few
+        ((got_kept moves frames_at inbox u r w m).maintenance r (begins moves frames_at inbox u r w m is_udp), (refl, refl)) e.begins polls.2
 
     then_expected : IsExpectedAt u coming.x i to p.header (ports_of settings d) (length d.1) m
-    then_expected = ready coming.x ident padding behind coming.runs.0.0 coming.wait
+    then_expected = e.expects coming.x coming.runs.0.0 coming.wait coming.holds
 
     it_waits : WaitsBehind coming.x'.places m then_expected.meta then_expected.value received
     it_waits =
@@ -247,7 +265,7 @@ module _ {E : Type 0} (moves : E → Move → E → Type 0) (frames_at : E → L
           (one_in moves frames_at inbox u r w m coming.x coming.x' (Some true) coming.runs coming.reads).1,
         ) coming.rest) polls.3).0.1
 
-    there : WaitsAmongThem r'.places m w received
+    pub there : WaitsAmongThem r'.places m w received
     there = record {
       new = end.holds.new;
       before = was.holds.more;
@@ -262,7 +280,52 @@ module _ {E : Type 0} (moves : E → Move → E → Type 0) (frames_at : E → L
           ∙ append_assoc (contents w.received ++ was.holds.more) (received ∷ []) end.holds.more;
     }
 
--- one poll sends it, and one reads it
+-- One poll sends it,
+pub sends_it : {D : Type 0} (out : D → Move → D → Type 0) (t : ℤ) (budget : ℕ) (s s' : State D) (changed : Bool) (n : ℕ) (v : UdpValue)
+    (before : List (UdpMetadata × List ℕ)) (d : UdpMetadata × List ℕ) (more : List (UdpMetadata × List ℕ)) (to : HardwareAddress) (p : PacketValue)
+    → HasTurn (at_moment t s.host.inner) s.places n v → contents v.queued ≡ before ++ d ∷ more → length before < budget
+    → AllByRecursion (HasWay (at_moment t s.host.inner) v.settings) before → CanGo (at_moment t s.host.inner) v.settings d to p → HasNoFrame out t s.device
+    → Polls out t budget s changed s' → RefusesNothing out s.device s'.device
+    → (all : List Move) × AreMoves out all s.device s'.device × WentOut (at_moment t s.host.inner) to p all
+sends_it {D} out t budget s s' changed n v before d more to p turn queued short ways can none polls freely = by goes.what
+  where
+    goes : GoesInTurn out (at_moment t s.host.inner) to p s.device s'.device
+    goes = poll_goes out t budget s s' changed n v before d more to p turn queued short ways can none polls
+
+    by : (list_any is_refused goes.all ≡ true) ⊎ WentOut (at_moment t s.host.inner) to p goes.all
+        → (all : List Move) × AreMoves out all s.device s'.device × WentOut (at_moment t s.host.inner) to p all
+    by (inl refused) = absurd (let no_way : true ≡ false = sym refused ∙ freely goes.all goes.are in cc)
+    by (inr went) = (goes.all, goes.are, went)
+
+went_as : (i : InnerValue) (to : HardwareAddress) (p : PacketValue) (all : List Move) → HasWidths i → WentOut i to p all → WentAs i to p all
+went_as i to p all wide went = record { ident = went.sent.0; wide = went.wide wide.ident; sent = went.sent.1 }
+
+-- and one reads it where the socket expects it when its frame is next;
+pub arrives_where : {D E : Type 0} (out : D → Move → D → Type 0) (moves : E → Move → E → Type 0) (frames_at : E → List (List ℕ)) (t u : ℤ)
+    (budget count steps : ℕ) (s s' : State D) (r r' : State E) (changed changed' : Bool) (n m : ℕ) (v w : UdpValue)
+    (before : List (UdpMetadata × List ℕ)) (d : UdpMetadata × List ℕ) (more : List (UdpMetadata × List ℕ)) (to : HardwareAddress) (p : PacketValue)
+    → IsInbox moves frames_at
+    → HasWidths (at_moment t s.host.inner) → HasTurn (at_moment t s.host.inner) s.places n v → contents v.queued ≡ before ++ d ∷ more
+    → length before < budget → AllByRecursion (HasWay (at_moment t s.host.inner) v.settings) before → d.0.endpoint.port ≢ 0
+    → CanGo (at_moment t s.host.inner) v.settings d to p → HasNoFrame out t s.device → Polls out t budget s changed s'
+    → RefusesNothing out s.device s'.device → BringsAmong out frames_at (at_moment t s.host.inner) to p s.device s'.device r.device count
+    → count ≤ steps → IsUdpAt r.places m w
+    → ((ident : ℕ) (padding : List ℕ) (front behind : List (List ℕ)) → length front < count
+    → frames_at r.device ≡ front ++ (frame_under (at_moment t s.host.inner) ident to p ++ padding) ∷ behind
+    → Expects moves frames_at u r m (at_moment t s.host.inner) v.settings d to p
+    (frame_under (at_moment t s.host.inner) ident to p ++ padding) front behind)
+    → Polls moves u steps r changed' r'
+    → WaitsAmongThem r'.places m w (as_received (source_of p.header) v.settings d)
+arrives_where {D} {E} out moves frames_at t u budget count steps s s' r r' changed changed' n m v w before d more to p inbox wide turn queued short ways some can
+    none polls freely brings within is_udp expects reads =
+    let went = sends_it out t budget s s' changed n v before d more to p turn queued short ways can none polls freely in
+    let it : WaitsAmong frames_at r.device count (at_moment t s.host.inner) to p went.0 =
+    brings went.0 went.1 (went_as (at_moment t s.host.inner) to p went.0 wide went.2) in
+    there moves frames_at inbox u steps r r' changed' m w is_udp reads (at_moment t s.host.inner) v.settings d to p some can went.2.formed it.went.ident
+    (record { mtu = wide.mtu; ident = it.went.wide }) it.padding it.before it.behind it.short it.frames (omega (arith, it.few, within))
+    (expects it.went.ident it.padding it.before it.behind it.few it.frames)
+
+-- so where it is ready
 pub arrives_in_a_poll : {D E : Type 0} (out : D → Move → D → Type 0) (moves : E → Move → E → Type 0) (frames_at : E → List (List ℕ)) (t u : ℤ)
     (budget steps : ℕ) (s s' : State D) (r r' : State E) (changed changed' : Bool) (n m : ℕ) (v w : UdpValue) (before : List (UdpMetadata × List ℕ))
     (d : UdpMetadata × List ℕ) (more : List (UdpMetadata × List ℕ)) (to : HardwareAddress) (p : PacketValue) → IsInbox moves frames_at
@@ -273,16 +336,12 @@ pub arrives_in_a_poll : {D E : Type 0} (out : D → Move → D → Type 0) (move
     → IsUdpAt r.places m w → IsReady moves frames_at u r (at_moment t s.host.inner) to p v.settings d m → Polls moves u steps r changed' r'
     → WaitsAmongThem r'.places m w (as_received (source_of p.header) v.settings d)
 arrives_in_a_poll {D} {E} out moves frames_at t u budget steps s s' r r' changed changed' n m v w before d more to p inbox wide turn queued short ways some can
-    none polls freely brings is_udp ready reads = by goes.what
-  where
-    goes : GoesInTurn out (at_moment t s.host.inner) to p s.device s'.device
-    goes = poll_goes out t budget s s' changed n v before d more to p turn queued short ways can none polls
-
-    by : (list_any is_refused goes.all ≡ true) ⊎ WentOut (at_moment t s.host.inner) to p goes.all
-        → WaitsAmongThem r'.places m w (as_received (source_of p.header) v.settings d)
-    by (inl refused) = absurd (let no_way : true ≡ false = sym refused ∙ freely goes.all goes.are in cc)
-    by (inr went) =
-        let it : WaitsAmong frames_at r.device steps (at_moment t s.host.inner) to p goes.all =
-        brings goes.all goes.are (record { ident = went.sent.0; wide = went.wide wide.ident; sent = went.sent.1 }) in
-        there moves frames_at inbox u steps r r' changed' m w is_udp reads (at_moment t s.host.inner) v.settings d to p some can went.formed ready it.went.ident
-        (record { mtu = wide.mtu; ident = it.went.wide }) it.padding it.before it.behind it.short it.frames it.few
+    none polls freely brings is_udp ready reads =
+    arrives_where out moves frames_at t u budget steps steps s s' r r' changed changed' n m v w before d more to p inbox wide turn queued short ways some can none
+    polls freely brings (omega arith) is_udp
+    (λ ident padding front behind few wait. record {
+      Holds = λ frames x. Unit {0};
+      keeps = λ f more rest x x' b waits holds step. tt;
+      begins = tt;
+      expects = λ x so next holds. ready x ident padding behind so next;
+    }) reads
