@@ -1,5 +1,5 @@
 -- Marks that are set, and those that are set then.
-use Rattle.std.proofs.Common.{◌≡◌, ◌⊎◌, inl, inr, ℕ, zero, suc, ◌<◌, Bool, true, List, [], ◌∷◌, ◌++◌, length, refl, ap, arith}
+use Rattle.std.proofs.Common.{◌≡◌, ◌⊎◌, inl, inr, ℕ, zero, suc, ◌<◌, Bool, true, false, List, [], ◌∷◌, ◌++◌, length, refl, ap, arith}
 use Rattle.std.specs.Prelude.{slice_set}
 use Rattle.agenda.specs.Marks.{IsOn}
 
@@ -27,3 +27,11 @@ pub on_within : (marks : List Bool) (i : ℕ) → IsOn marks i → i < length ma
 on_within [] i on = absurd (cc)
 on_within (x ∷ marks) zero on = omega arith
 on_within (x ∷ marks) (suc i) on = let less : i < length marks = on_within marks i on in omega arith
+
+-- of marks of which one is cleared each that is set was
+pub on_cleared : (marks : List Bool) (at i : ℕ) → IsOn (slice_set marks at false) i → IsOn marks i
+on_cleared [] at i on = on
+on_cleared (x ∷ marks) zero zero on = absurd (cc)
+on_cleared (x ∷ marks) zero (suc i) on = on
+on_cleared (x ∷ marks) (suc at) zero on = on
+on_cleared (x ∷ marks) (suc at) (suc i) on = on_cleared marks at i on

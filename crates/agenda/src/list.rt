@@ -1,6 +1,6 @@
 //! A mark for each place.
 ghost use Rattle.std.specs.Prelude.{◌≡◌, ◌⊎◌, ℕ, ◌+◌, ◌<◌, ◌≤◌, ◌^◌, ◌++◌, ◌∷◌, [], true, false, length, slice_set, MatchResult};
-ghost use Rattle.agenda.specs.Marks.{IsBetween, IsNext};
+ghost use Rattle.agenda.specs.Marks.{IsBetween, IsNext, IsWithin};
 ghost use Rattle.agenda.specs.Put.{put};
 
 use std::alloc::{AllocError, Global};
@@ -51,6 +51,8 @@ impl Agenda {
         ensures { self.new ≡ [] }
     {
         self.marks.clear();
+        self.low = 0;
+        self.high = 0;
     }
 
     /// Adds the next place, which is on the agenda.
@@ -79,11 +81,8 @@ impl Agenda {
     {
         if at < self.marks.len() {
             self.marks[at] = false;
-            if at == self.low {
-                self.low = at + 1;
-            }
-            if at + 1 == self.high {
-                self.high = at;
+            if at == self.low || at + 1 == self.high {
+                (self.low, self.high) = narrowed(self.marks.as_slice(), self.low, self.high);
             }
         }
     }
@@ -126,4 +125,19 @@ fn widened(low: usize, high: usize, at: usize) -> (usize, usize)
     } else {
         (at, at + 1)
     }
+}
+
+/// The range without the places at both ends that aren't on the agenda.
+fn narrowed(marks: &[bool], low: usize, high: usize) -> (usize, usize)
+    ensures { IsWithin low high marks.now → IsWithin result.0 result.1 marks.now }
+{
+    let mut low = low;
+    while low < high && low < marks.len() && !marks[low] {
+        low += 1;
+    }
+    let mut high = high;
+    while low < high && high <= marks.len() && !marks[high - 1] {
+        high -= 1;
+    }
+    (low, high)
 }
