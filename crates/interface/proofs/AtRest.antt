@@ -1,5 +1,5 @@
 -- Sockets at rest: none waits for a neighbour or for a moment, and a turn leaves each as it is.
-use Rattle.std.proofs.Common.{◌≡◌, ◌⊎◌, inl, inr, ℕ, zero, suc, ◌+◌, ◌-◌, ◌<◌, ◌≤◌, leb, ℤ, int_lt, Bool, true, false, if◌then◌else◌, ◌&&◌, ◌||◌, List, [], ◌∷◌, ◌++◌, length, take, drop, get_or, Option, Some, None, is_none, refl, sym, ap, ◌∙◌, subst, arith}
+use Rattle.std.proofs.Common.{◌≡◌, ◌⊎◌, inl, inr, ℕ, zero, suc, ◌+◌, ◌-◌, ◌<◌, ◌≤◌, leb, ℤ, int_lt, Bool, true, false, if◌then◌else◌, ◌&&◌, ◌||◌, List, [], ◌∷◌, ◌++◌, length, take, drop, Option, Some, None, is_none, refl, sym, ap, ◌∙◌, subst, arith}
 use Rattle.std.specs.Prelude.{slice_get, position, is_some}
 use Rattle.std.specs.List.{fold, list_any}
 use Rattle.std.proofs.Math.Seq.{drop-cons}
@@ -33,11 +33,6 @@ use Rattle.interface.specs.Turn.{PlaceTurns, ItemTurns, is_heard, let_through, A
 use Rattle.interface.specs.declared.turn.Turned.TheVariants as Turn
 
 -- FROM PLACE TO PLACE
-
-got : {X : Type 0} (xs : List X) (i : ℕ) (d : X) → i < length xs → slice_get xs i ≡ Some (get_or xs i d)
-got [] i d within = absurd (omega (arith, within))
-got (x ∷ xs) zero d within = refl
-got (x ∷ xs) (suc i) d within = got xs i d (omega (arith, within))
 
 nothing_left : {X : Type 0} (xs : List X) (n : ℕ) → length xs ≤ n → drop n xs ≡ []
 nothing_left [] zero past = refl
@@ -98,11 +93,6 @@ module _ {X B : Type 0} (f : B → X → B) (Rests : X → Type 0) (stays : (b :
       one_past n from b xs (λ x is. rest from x (omega arith) (omega arith) is)
       (fold_past n (suc from) b xs (λ i x since less. rest i x (omega (arith, since)) (omega (arith, less)))) (place_or_end xs from)
       ∙ ap (λ k. fold f b (drop k xs)) same
-
-  pub fold_none : (xs : List X) (b : B) → ((i : ℕ) (x : X) → slice_get xs i ≡ Some x → Rests x) → fold f b xs ≡ b
-  fold_none [] b rest = refl
-  fold_none (x ∷ xs) b rest =
-      ap (λ c. fold f c xs) (stays b x (rest 0 x refl)) ∙ fold_none xs b (λ i y is. rest (suc i) y is)
 
 -- WHO IS AT REST
 

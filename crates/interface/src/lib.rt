@@ -24,9 +24,9 @@ pub use by_kind::SocketsByKind;
 pub use host::Interface;
 pub use instant::{earlier, place_instant, poll_instant};
 pub use interface_egress::{
-    AddError, Config, Handles, HardwareAddrError, InterfaceInner, Item, Iter, IterMut, Meta,
+    AddError, Config, Handles, HardwareAddrError, Idle, InterfaceInner, Item, Iter, IterMut, Meta,
     NewError, NotUnicast, Places, Route, RouteTableFull, Routes, SocketHandle, SocketSet,
-    SocketStorage, TABLE_ROOM,
+    SocketStorage, TABLE_ROOM, Wanted,
 };
 pub use listener::Listener;
 pub use passes::pass;
