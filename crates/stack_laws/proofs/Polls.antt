@@ -28,6 +28,7 @@ pub mod Rotates
 pub mod StillNeeded
 pub mod InSilence
 pub mod Exchanged
+pub mod Served
 pub mod Inbox
 pub mod Refusals
 pub mod Stays

@@ -12,5 +12,6 @@ pub mod Delivered
 pub mod Inbox
 pub mod Ready
 pub mod Exchanged
+pub mod Served
 pub mod Partners
 pub mod Moving

@@ -10,4 +10,5 @@ pub mod pieces;
 pub mod polls;
 pub mod ready;
 pub mod rest;
+pub mod served;
 pub mod turns;

@@ -22,7 +22,7 @@ use Rattle.stack_laws.proofs.Polls.Searches.{WaitsAt, asked_last, next_place, ot
 use Rattle.stack_laws.proofs.Polls.Silenced.{counted}
 use Rattle.stack_laws.proofs.Polls.Waited.{step_asks_in_turn}
 
-has_room : (b : Bool) → not b ≡ false → b ≡ true
+pub has_room : (b : Bool) → not b ≡ false → b ≡ true
 has_room true is = refl
 has_room false is = absurd (let clash : true ≡ false = is in cc)
 
