@@ -35,5 +35,7 @@ pub mod Rooms
 pub mod Lengths
 pub mod OneMore
 pub mod Ready
+pub mod Leave
+pub mod Inboxes
 pub mod Pieces
 pub mod Solicited

@@ -4,6 +4,7 @@ pub mod arrivals;
 pub mod datagrams;
 pub mod delivered;
 pub mod excluded;
+pub mod inboxes;
 pub mod neighbors;
 pub mod partners;
 pub mod pieces;

@@ -1,0 +1,71 @@
+//! Devices at which frames wait in order.
+
+ghost use Rattle.std.specs.Prelude.{◌≡◌, ◌≢◌, ℕ, ◌<◌, ◌≤◌, ℤ, Bool, IsTrue, List, [], ◌∷◌, ◌++◌, length, option_to_list};
+ghost use Rattle.std.specs.List.{AllByRecursion};
+ghost use Rattle.net_base.specs.Device.{gives_tokens};
+ghost use Rattle.net_base.specs.Packets.{contents};
+ghost use Rattle.ip_packet.specs.Ip.{source_of};
+ghost use Rattle.ip_wire.specs.HardwareAddress.{HardwareAddress};
+ghost use Rattle.sockets.specs.Udp.{UdpValue};
+ghost use Rattle.sockets.specs.declared.udp.UdpMetadata.{UdpMetadata};
+ghost use Rattle.interface_ingress.specs.Packet.{PacketValue};
+ghost use Rattle.interface_tables.specs.Inner.{at_moment};
+ghost use Rattle.interface_egress.specs.declared.socket_meta.Meta.{Meta};
+ghost use Rattle.interface.specs.Polls.{Polls};
+ghost use Rattle.interface.specs.QuietPoll.{HasNoFrame};
+ghost use Rattle.interface.specs.State.{State};
+ghost use Rattle.interface.specs.Taken.{CanRead, HasWidths};
+ghost use Rattle.lan_base.specs.Port.{PortValue, PortMove, has_leave};
+ghost use Rattle.tun_host.specs.Link.Drain.{DrainValue, DrainMove};
+ghost use Rattle.stack_laws.specs.Progress.Delivered.{RefusesNothing, as_received, reader_of};
+ghost use Rattle.stack_laws.specs.Progress.Inbox.{BringsAmong, IsInbox, IsInboxWhile, WaitsAmongThem};
+ghost use Rattle.stack_laws.specs.Progress.Queued.{CanGo, HasTurn, HasWay, ports_of};
+ghost use Rattle.stack_laws.specs.Progress.Ready.{HasRoomBehind, IsExpectedThroughout};
+
+use net_base::Device;
+
+/// Law: while it gives leave to send, a port of the simulated link has the frames that wait at it in order: a look finds the first and takes it alone,
+/// what goes out leaves them, and no move of a port gives it leave.
+pub fn ports_are_inboxes()
+    ensures { IsInboxWhile PortMove (λ (p : PortValue). has_leave p.link) (λ (p : PortValue). p.link.waiting) }
+{}
+
+/// Law: why leave is asked for: each frame that a port takes costs it room, and without room it hands out no frame; so whatever frames are named as those
+/// that a look at a port always finds, there are none.
+pub fn no_port_is_an_inbox_without_leave()
+    ensures { (frames_at : PortValue → List (List ℕ)) (p : PortValue) → IsInbox PortMove frames_at → frames_at p ≡ [] }
+{}
+
+/// Law: so has a drain, the device between a reader and a writer, its one packet. A loopback has not, as what it sends comes in behind what waits.
+pub fn drains_are_inboxes()
+    ensures { IsInboxWhile DrainMove (λ (d : DrainValue). gives_tokens d.refusals) (λ (d : DrainValue). option_to_list d.waiting) }
+{}
+
+/// Law: within two polls a queued datagram arrives at a device that gives leave to the end of the second poll: one poll of the one host sends the
+/// datagram, and one poll of the other, at whose device the frames wait in order while it gives leave, ends with it at the UDP socket that expects it as
+/// that poll begins, behind those that waited there, among others that came. Its frame waits behind fewer others than `count`, the poll has as many
+/// steps, and the socket has room for it behind what so many frames may bring.
+pub fn a_queued_datagram_arrives_while_there_is_leave<D: Device, E: Device>()
+    ensures { (gives_leave : E → Bool) (frames_at : E → List (List ℕ)) (t u : ℤ) (budget count steps : ℕ) (s s' : State D) (r r' : State E)
+        (changed changed' : Bool) (n m : ℕ) (meta : Meta) (v w : UdpValue) (before : List (UdpMetadata × List ℕ)) (d : UdpMetadata × List ℕ)
+        (more : List (UdpMetadata × List ℕ)) (to : HardwareAddress) (p : PacketValue)
+        → IsInboxWhile E.moves gives_leave frames_at
+        → IsTrue (gives_leave r'.device)
+        → HasWidths (at_moment t s.host.inner)
+        → HasTurn (at_moment t s.host.inner) s.places n v
+        → contents v.queued ≡ before ++ d ∷ more
+        → length before < budget
+        → AllByRecursion (HasWay (at_moment t s.host.inner) v.settings) before
+        → d.0.endpoint.port ≢ 0
+        → CanGo (at_moment t s.host.inner) v.settings d to p
+        → HasNoFrame D.moves t s.device
+        → Polls D.moves t budget s changed s'
+        → RefusesNothing D.moves s.device s'.device
+        → BringsAmong D.moves frames_at (at_moment t s.host.inner) to p s.device s'.device r.device count
+        → count ≤ steps
+        → CanRead (at_moment t s.host.inner) to (reader_of r.host.inner)
+        → IsExpectedThroughout (at_moment u r.host.inner) r.places to p.header (ports_of v.settings d) m meta w
+        → HasRoomBehind (frames_at r.device) r.host.slots w.received count (length d.1)
+        → Polls E.moves u steps r changed' r'
+        → WaitsAmongThem r'.places m w (as_received (source_of p.header) v.settings d) }
+{}
