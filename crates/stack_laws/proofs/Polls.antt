@@ -37,5 +37,6 @@ pub mod OneMore
 pub mod Ready
 pub mod Leave
 pub mod Inboxes
+pub mod SomeRooms
 pub mod Pieces
 pub mod Solicited

@@ -11,4 +11,5 @@ pub mod pieces;
 pub mod polls;
 pub mod ready;
 pub mod rest;
+pub mod rooms;
 pub mod turns;

@@ -1,12 +1,16 @@
 -- Devices at which frames wait in order.
-use Rattle.std.proofs.Common.{◌≡◌, ℕ, zero, suc, ◌+◌, ◌-◌, ◌<◌, ◌^◌, Bool, true, ◌&&◌, ltb, IsTrue, ℤ, pos, List, [], ◌∷◌, ◌++◌, Option, Some, None, option_to_list}
+use Rattle.std.proofs.Common.{◌≡◌, ℕ, zero, suc, ◌+◌, ◌-◌, ◌<◌, ◌≤◌, ◌^◌, Bool, true, false, not, ◌||◌, ltb, IsTrue, ℤ, pos, List, [], ◌∷◌, ◌++◌, Option, Some, None, option_to_list}
 use Rattle.std.proofs.Common.{refl, sym, ap, ◌∙◌, arith}
 use Rattle.std.proofs.lemmas.Bool.{and_from, and_parts, lt-ltb, ltb-true}
+use Rattle.std.specs.List.{list_any}
 use Rattle.net_base.specs.Device.{Move, Took, Empty, Allowed, Emitted, Denied, gives_tokens}
 use Rattle.lan_base.specs.Port.{PortValue, PortMove, has_leave, ready_after}
 use Rattle.tun_host.specs.Link.Drain.{DrainValue, DrainMove}
+use Rattle.interface.specs.QuietPoll.{HasNoFrame}
+use Rattle.lan.proofs.Worlds.PortMoves.{counting_ports}
+use Rattle.stack_laws.specs.Progress.Delivered.{RefusesNothing}
 use Rattle.stack_laws.specs.Progress.Inbox.{IsInbox, IsInboxWhile}
-use Rattle.stack_laws.specs.Progress.Moves.{goes_out}
+use Rattle.stack_laws.specs.Progress.Moves.{AreMoves, goes_out, is_refused}
 
 abbrev Frames : Type 0
 Frames = List (List ℕ)
@@ -59,6 +63,53 @@ ports = record {
   out = port_out;
   had = port_had;
 }
+
+pub ports_are_bare : (t : ℤ) (p : PortValue) → waiting p ≡ [] → HasNoFrame PortMove t p
+ports_are_bare t p none frame other goes = none_waits frame (waiting other) (sym (ap waiting goes.1) ∙ none)
+
+-- A PORT REFUSES NOTHING WHILE IT GIVES LEAVE
+
+abbrev refusals : PortValue → ℕ
+refusals p = p.link.refusals
+
+record Between (old new : PortValue) : Type 0 where
+  counted : refusals old ≤ refusals new
+  has : IsTrue (leave new) → IsTrue (leave old)
+
+between : (all : List Move) (old new : PortValue) → AreMoves PortMove all old new → Between old new
+between [] old new goes = record { counted = let same = ap refusals goes in omega (arith, same); has = λ given. sym (ap leave goes) ∙ given }
+between (m ∷ more) old new goes =
+    let rest : Between goes.0 new = between more goes.0 new goes.2 in
+    record {
+      counted =
+          let first = counting_ports.kept old goes.0 m goes.1 in
+          let then_ = rest.counted in
+          omega (arith, first, then_);
+      has = λ given. port_had old goes.0 m goes.1 (rest.has given);
+    }
+
+one_taken : (old new : PortValue) (m : Move) → PortMove old m new → refusals new ≤ refusals old → IsTrue (leave old) → is_refused m ≡ false
+one_taken old new (Took t frame) goes none has = refl
+one_taken old new (Empty t) goes none has = refl
+one_taken old new (Allowed t given) goes none has = ap not (goes.1 ∙ has)
+one_taken old new (Emitted frame) goes none has = refl
+one_taken old new (Denied len) goes none has = let more = counting_ports.denied old new len goes in absurd (omega (arith, more, none))
+
+all_taken : (all : List Move) (old new : PortValue) → refusals new ≤ refusals old → IsTrue (leave new) → AreMoves PortMove all old new
+    → list_any is_refused all ≡ false
+all_taken [] old new none given goes = refl
+all_taken (m ∷ more) old new none given goes =
+    let rest : Between goes.0 new = between more goes.0 new goes.2 in
+    let first = counting_ports.kept old goes.0 m goes.1 in
+    let later = rest.counted in
+    ap (λ (b : Bool). b || list_any is_refused more)
+    (one_taken old goes.0 m goes.1 (omega (arith, later, none)) (port_had old goes.0 m goes.1 (rest.has given)))
+    ∙ all_taken more goes.0 new (omega (arith, first, none)) given goes.2
+
+pub refuse_nothing : (old new : PortValue) → refusals new ≡ refusals old → IsTrue (leave new) → RefusesNothing PortMove old new
+refuse_nothing old new same given all goes = all_taken all old new (omega (arith, same)) given goes
+
+-- WITHOUT LEAVE
 
 -- a port that took a frame of no bytes
 abbrev sent : PortValue → PortValue

@@ -30,6 +30,12 @@ pub fn ports_are_inboxes()
     ensures { IsInboxWhile PortMove (λ (p : PortValue). has_leave p.link) (λ (p : PortValue). p.link.waiting) }
 {}
 
+/// Law: such a port refuses nothing where it gives leave to the end and counts no refusal; and it has no frame while none waits.
+pub fn ports_refuse_nothing()
+    ensures refuses { (old new : PortValue) → new.link.refusals ≡ old.link.refusals → IsTrue (has_leave new.link) → RefusesNothing PortMove old new }
+    ensures no_frame { (t : ℤ) (p : PortValue) → p.link.waiting ≡ [] → HasNoFrame PortMove t p }
+{}
+
 /// Law: why leave is asked for: each frame that a port takes costs it room, and without room it hands out no frame; so whatever frames are named as those
 /// that a look at a port always finds, there are none.
 pub fn no_port_is_an_inbox_without_leave()
