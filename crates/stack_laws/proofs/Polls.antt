@@ -37,6 +37,7 @@ pub mod OneMore
 pub mod Ready
 pub mod Leave
 pub mod Inboxes
+pub mod BetweenPorts
 pub mod SomeRooms
 pub mod Pieces
 pub mod Solicited

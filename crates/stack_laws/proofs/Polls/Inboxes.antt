@@ -4,15 +4,18 @@ use Rattle.std.proofs.Common.{refl, sym, ap, ◌∙◌, arith}
 use Rattle.std.proofs.lemmas.Bool.{and_from, and_parts, lt-ltb, ltb-true}
 use Rattle.std.specs.List.{list_any}
 use Rattle.net_base.specs.Device.{Move, Took, Empty, Allowed, Emitted, Denied, gives_tokens}
+use Rattle.net_base.specs.Loopback.{LoopbackValue, LoopbackMove}
+use Rattle.net_base.specs.Medium.TheVariants as Medium
 use Rattle.lan_base.specs.Port.{PortValue, PortMove, has_leave, ready_after}
 use Rattle.tun_host.specs.Link.Drain.{DrainValue, DrainMove}
 use Rattle.interface.specs.QuietPoll.{HasNoFrame}
 use Rattle.lan.proofs.Worlds.PortMoves.{counting_ports}
 use Rattle.stack_laws.specs.Progress.Delivered.{RefusesNothing}
-use Rattle.stack_laws.specs.Progress.Inbox.{IsInbox, IsInboxWhile}
+use Rattle.stack_laws.specs.Progress.Inbox.{IsInbox}
+use Rattle.stack_laws.specs.Progress.Leave.{IsInboxWhile}
 use Rattle.stack_laws.specs.Progress.Moves.{AreMoves, goes_out, is_refused}
 
-abbrev Frames : Type 0
+abbrev pub Frames : Type 0
 Frames = List (List ℕ)
 
 parts_are : (a b : List ℕ) (xs ys : Frames) → a ∷ xs ≡ b ∷ ys → (a ≡ b) × (xs ≡ ys)
@@ -29,10 +32,10 @@ fewer_refused n gives = below (2 ^ 64) (ltb-true (n + 1 + 1) (2 ^ 64) gives)
 
 -- PORTS
 
-abbrev waiting : PortValue → Frames
+abbrev pub waiting : PortValue → Frames
 waiting p = p.link.waiting
 
-abbrev leave : PortValue → Bool
+abbrev pub leave : PortValue → Bool
 leave p = has_leave p.link
 
 room_before : (room : ℕ) → ltb 0 (room - 1) ≡ true → ltb 0 room ≡ true
@@ -169,3 +172,12 @@ drains = record {
   out = drain_out;
   had = drain_had;
 }
+
+-- LOOPBACKS
+
+-- a loopback with these frames on their way
+abbrev loopback : Frames → LoopbackValue
+loopback frames = record { queue = frames; refusals = 0; medium = Medium.Ip }
+
+pub no_loopback : (gives_leave : LoopbackValue → Bool) → IsInboxWhile LoopbackMove gives_leave (λ (l : LoopbackValue). l.queue) → ⊥
+no_loopback gives_leave inbox = none_waits [] [] (inbox.out (loopback []) (loopback ([] ∷ [])) (Emitted []) refl refl)

@@ -16,7 +16,8 @@ use Rattle.interface.specs.State.{State}
 use Rattle.interface.specs.Taken.{CanRead, HasWidths}
 use Rattle.interface.proofs.Mapping.{IsMapped, polls_there}
 use Rattle.stack_laws.specs.Progress.Delivered.{RefusesNothing, as_received, reader_of}
-use Rattle.stack_laws.specs.Progress.Inbox.{BringsAmong, IsInbox, IsInboxWhile, WaitsAmongThem}
+use Rattle.stack_laws.specs.Progress.Inbox.{BringsAmong, IsInbox, WaitsAmongThem}
+use Rattle.stack_laws.specs.Progress.Leave.{IsInboxWhile}
 use Rattle.stack_laws.specs.Progress.Queued.{CanGo, HasTurn, HasWay, ports_of}
 use Rattle.stack_laws.specs.Progress.Ready.{HasRoomBehind, IsExpectedThroughout}
 use Rattle.stack_laws.proofs.Polls.Ready.{arrives_with_room}

@@ -1,5 +1,5 @@
 -- Room for a datagram behind the frames before its own, on numerals.
-use Rattle.std.proofs.Common.{◌≡◌, inl, inr, ℕ, ◌≤◌, List, [], ◌∷◌, length, refl, arith}
+use Rattle.std.proofs.Common.{◌≡◌, inl, inr, ℕ, List, [], ◌∷◌, length, refl, arith}
 use Rattle.net_base.specs.Packets.{Packets, packets_in}
 use Rattle.sockets.specs.declared.udp.UdpMetadata.{UdpMetadata}
 use Rattle.interface_ingress.specs.Reassembled.{Slots}

@@ -1,5 +1,5 @@
 -- Frames that wait at a device in order, and a poll that reads them.
-use Rattle.std.specs.Prelude.{◌≡◌, ℕ, ◌<◌, ℤ, Bool, true, false, IsTrue, List, ◌∷◌, ◌++◌, length}
+use Rattle.std.specs.Prelude.{◌≡◌, ℕ, ◌<◌, ℤ, true, false, List, [], ◌∷◌, ◌++◌, length}
 use Rattle.net_base.specs.Device.{Move, Took, Empty}
 use Rattle.net_base.specs.Packets.{contents, is_full_for}
 use Rattle.ip_packet.specs.declared.ip.repr.IpRepr.{IpRepr}
@@ -28,16 +28,6 @@ pub record IsInbox {E : Type 0} (moves : E → Move → E → Type 0) (frames_at
       → (other ≡ frame) × (frames_at new ≡ more)
   pub found : (old new : E) (t : ℤ) (frame : List ℕ) (more : List (List ℕ)) → frames_at old ≡ frame ∷ more → moves old (Empty t) new → ⊥
   pub out : (old new : E) (m : Move) → goes_out m ≡ true → moves old m new → frames_at new ≡ frames_at old
-
--- The same of a device that may give no leave to send, as one whose queue is full, and then hands out no frame: while it gives leave, a look finds the
--- first of them. No move gives it leave: where it has leave behind a move, it had it before.
-pub record IsInboxWhile {E : Type 0} (moves : E → Move → E → Type 0) (gives_leave : E → Bool) (frames_at : E → List (List ℕ)) : Type 0 where
-  pub first : (old new : E) (t : ℤ) (frame other : List ℕ) (more : List (List ℕ)) → frames_at old ≡ frame ∷ more → moves old (Took t other) new
-      → (other ≡ frame) × (frames_at new ≡ more)
-  pub found : (old new : E) (t : ℤ) (frame : List ℕ) (more : List (List ℕ)) → IsTrue (gives_leave old) → frames_at old ≡ frame ∷ more
-      → moves old (Empty t) new → ⊥
-  pub out : (old new : E) (m : Move) → goes_out m ≡ true → moves old m new → frames_at new ≡ frames_at old
-  pub had : (old new : E) (m : Move) → moves old m new → IsTrue (gives_leave new) → IsTrue (gives_leave old)
 
 -- a frame in which the packet went waits at a device, with whatever padding, behind fewer others than a poll has steps; and it isn't too long to be
 -- read
