@@ -32,7 +32,7 @@ pub fn ports_are_inboxes()
     ensures { IsInboxWhile PortMove (λ (p : PortValue). has_leave p.link) (λ (p : PortValue). p.link.waiting) }
 {}
 
-/// Law: such a port refuses nothing where it gives leave to the end and counts no refusal; and it has no frame while none waits.
+/// Law: a port refuses nothing on its way to where it counts no refusal more and still gives leave; and it has no frame while none waits.
 pub fn ports_refuse_nothing()
     ensures refuses { (old new : PortValue) → new.link.refusals ≡ old.link.refusals → IsTrue (has_leave new.link) → RefusesNothing PortMove old new }
     ensures no_frame { (t : ℤ) (p : PortValue) → p.link.waiting ≡ [] → HasNoFrame PortMove t p }
@@ -91,7 +91,7 @@ pub fn a_queued_datagram_arrives_while_there_is_leave<D: Device, E: Device>()
 {}
 
 /// Law: so of two hosts at ports of the simulated link, by what each port holds: no frame waits at the one, which counts no refusal in its poll and gives
-/// leave to the end; the link brings whatever it sent in that poll; and the other gives leave to the end of its own poll.
+/// leave to its end; the link brings whatever it sent in that poll; and the other gives leave to the end of its own poll.
 pub fn a_queued_datagram_arrives_between_ports()
     ensures { (t u : ℤ) (budget count steps : ℕ) (s s' r r' : State PortValue) (changed changed' : Bool) (n m : ℕ) (meta : Meta) (v w : UdpValue)
         (before : List (UdpMetadata × List ℕ)) (d : UdpMetadata × List ℕ) (more : List (UdpMetadata × List ℕ)) (to : HardwareAddress) (p : PacketValue)
