@@ -51,12 +51,12 @@ pub fn no_port_is_an_inbox_without_leave()
     ensures { (frames_at : PortValue → List (List ℕ)) (p : PortValue) → IsInbox PortMove frames_at → frames_at p ≡ [] }
 {}
 
-/// Law: so has a drain, the device between a reader and a writer, its one packet.
+/// Law: while it gives leave, a drain, the device between a reader and a writer, has its one packet so: a look finds it, and what goes out leaves it.
 pub fn drains_are_inboxes()
     ensures { IsInboxWhile DrainMove (λ (d : DrainValue). gives_tokens d.refusals) (λ (d : DrainValue). option_to_list d.waiting) }
 {}
 
-/// Law: a loopback has no frames so, whatever leave it gives: what goes out comes in, behind what waits.
+/// Law: of a loopback that isn't so, whatever leave it gives: what goes out comes in, behind what waits.
 pub fn a_loopback_is_no_inbox()
     ensures { (gives_leave : LoopbackValue → Bool) → IsInboxWhile LoopbackMove gives_leave (λ (l : LoopbackValue). l.queue) → ⊥ }
 {}
@@ -90,7 +90,7 @@ pub fn a_queued_datagram_arrives_while_there_is_leave<D: Device, E: Device>()
         → WaitsAmongThem r'.places m w (as_received (source_of p.header) v.settings d) }
 {}
 
-/// Law: so of two hosts at ports of the simulated link, by what each port holds: no frame waits at the one, which counts no refusal in its poll and gives
+/// Law: of two hosts at ports of the simulated link it arrives by what each port holds: no frame waits at the one, which counts no refusal in its poll and gives
 /// leave to its end; the link brings whatever it sent in that poll; and the other gives leave to the end of its own poll.
 pub fn a_queued_datagram_arrives_between_ports()
     ensures { (t u : ℤ) (budget count steps : ℕ) (s s' r r' : State PortValue) (changed changed' : Bool) (n m : ℕ) (meta : Meta) (v w : UdpValue)
