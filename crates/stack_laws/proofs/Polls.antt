@@ -36,5 +36,9 @@ pub mod Rooms
 pub mod Lengths
 pub mod OneMore
 pub mod Ready
+pub mod Leave
+pub mod Inboxes
+pub mod BetweenPorts
+pub mod SomeRooms
 pub mod Pieces
 pub mod Solicited

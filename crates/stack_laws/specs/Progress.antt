@@ -10,6 +10,7 @@ pub mod Rounds
 pub mod Turns
 pub mod Delivered
 pub mod Inbox
+pub mod Leave
 pub mod Ready
 pub mod Exchanged
 pub mod Served

@@ -1,0 +1,98 @@
+-- A datagram that is queued at a host at one port arrives at the host at another.
+use Rattle.std.proofs.Common.{◌≡◌, ◌≢◌, inl, inr, ℕ, ◌<◌, ◌≤◌, ℤ, Bool, IsTrue, List, [], ◌∷◌, ◌++◌, length, sym, ap, ◌∙◌, subst, append_assoc, append-nil}
+use Rattle.std.specs.List.{AllByRecursion}
+use Rattle.net_base.specs.Device.{Move, Took, Empty, Allowed, Emitted, Denied}
+use Rattle.net_base.specs.Packets.{contents}
+use Rattle.ip_packet.specs.Ip.{source_of}
+use Rattle.ip_wire.specs.HardwareAddress.{HardwareAddress}
+use Rattle.lan_base.specs.Port.{PortValue, PortMove}
+use Rattle.sockets.specs.Udp.{UdpValue}
+use Rattle.sockets.specs.declared.udp.UdpMetadata.{UdpMetadata}
+use Rattle.interface_ingress.specs.Packet.{PacketValue}
+use Rattle.interface_tables.specs.Inner.{InnerValue, at_moment}
+use Rattle.interface_egress.specs.declared.socket_meta.Meta.{Meta}
+use Rattle.interface.specs.Polls.{Polls}
+use Rattle.interface.specs.State.{State}
+use Rattle.interface.specs.Taken.{CanRead, HasWidths}
+use Rattle.stack_laws.specs.Progress.Delivered.{as_received, reader_of}
+use Rattle.stack_laws.specs.Progress.Inbox.{BringsAmong, WaitsAmongThem}
+use Rattle.stack_laws.specs.Progress.Leave.{BringsWhatWent, LiesAmong}
+use Rattle.stack_laws.specs.Progress.Moves.{AreMoves}
+use Rattle.stack_laws.specs.Progress.Queued.{CanGo, HasTurn, HasWay, Sends, frame_under, ports_of}
+use Rattle.stack_laws.specs.Progress.Ready.{HasRoomBehind, IsExpectedThroughout}
+use Rattle.stack_laws.proofs.Polls.Inboxes.{Frames, leave, ports, ports_are_bare, refuse_nothing, waiting}
+use Rattle.stack_laws.proofs.Polls.Leave.{arrives_with_leave}
+
+-- the frames that went
+abbrev emitted : List Move → Frames
+emitted [] = []
+emitted (Took t frame ∷ more) = emitted more
+emitted (Empty t ∷ more) = emitted more
+emitted (Allowed t given ∷ more) = emitted more
+emitted (Emitted frame ∷ more) = frame ∷ emitted more
+emitted (Denied len ∷ more) = emitted more
+
+abbrev sent_by : PortValue → Frames
+sent_by p = p.link.sent
+
+behind : (old mid new : PortValue) (front rest : Frames) → sent_by mid ≡ sent_by old ++ front → sent_by new ≡ sent_by mid ++ rest
+    → sent_by new ≡ sent_by old ++ (front ++ rest)
+behind old mid new front rest first later = later ∙ ap (λ (fs : Frames). fs ++ rest) first ∙ append_assoc (sent_by old) front rest
+
+same : (old mid new : PortValue) (rest : Frames) → sent_by mid ≡ sent_by old → sent_by new ≡ sent_by mid ++ rest → sent_by new ≡ sent_by old ++ rest
+same old mid new rest first later = later ∙ ap (λ (fs : Frames). fs ++ rest) first
+
+went_behind : (all : List Move) (old new : PortValue) → AreMoves PortMove all old new → sent_by new ≡ sent_by old ++ emitted all
+went_behind [] old new goes = ap sent_by goes ∙ sym (append-nil (sent_by old))
+went_behind (Took t frame ∷ more) old new goes =
+    same old goes.0 new (emitted more) (sym (ap sent_by goes.1.1)) (went_behind more goes.0 new goes.2)
+went_behind (Empty t ∷ more) old new goes = same old goes.0 new (emitted more) (ap sent_by goes.1.0) (went_behind more goes.0 new goes.2)
+went_behind (Allowed t given ∷ more) old new goes = same old goes.0 new (emitted more) (ap sent_by goes.1.0) (went_behind more goes.0 new goes.2)
+went_behind (Emitted frame ∷ more) old new goes =
+    behind old goes.0 new (frame ∷ []) (emitted more) (ap sent_by goes.1) (went_behind more goes.0 new goes.2)
+went_behind (Denied len ∷ more) old new goes = same old goes.0 new (emitted more) (ap sent_by goes.1.0) (went_behind more goes.0 new goes.2)
+
+module _ (P : List ℕ → Type 0) where
+  later : (m : Move) (more : List Move) → AllByRecursion P (emitted (m ∷ more)) → AllByRecursion P (emitted more)
+  later (Took t frame) more all = all
+  later (Empty t) more all = all
+  later (Allowed t given) more all = all
+  later (Emitted frame) more all = all.1
+  later (Denied len) more all = all
+
+  of_sent : (frame : List ℕ) (moves : List Move) → Sends frame moves → AllByRecursion P (emitted moves) → P frame
+  of_sent frame [] goes all = absurd goes
+  of_sent frame (m ∷ more) (inl is) all = (subst (λ (x : Move). AllByRecursion P (emitted (x ∷ more))) is all).0
+  of_sent frame (m ∷ more) (inr goes) all = of_sent frame more goes (later m more all)
+
+pub brought : (i : InnerValue) (to : HardwareAddress) (p : PacketValue) (old new other : PortValue) (count : ℕ) → BringsWhatWent old new other count
+    → BringsAmong PortMove waiting i to p old new other count
+brought i to p old new other count brings all goes went = record {
+  went = went;
+  padding = lies.padding;
+  before = lies.before;
+  behind = lies.behind;
+  frames = lies.frames;
+  few = lies.few;
+  short = lies.short;
+}
+  where
+    lies : LiesAmong (waiting other) count (frame_under i went.ident to p)
+    lies =
+        of_sent (LiesAmong (waiting other) count) (frame_under i went.ident to p) all went.sent (brings (emitted all) (went_behind all old new goes))
+
+pub arrives_between : (t u : ℤ) (budget count steps : ℕ) (s s' r r' : State PortValue) (changed changed' : Bool) (n m : ℕ) (meta : Meta) (v w : UdpValue)
+    (before : List (UdpMetadata × List ℕ)) (d : UdpMetadata × List ℕ) (more : List (UdpMetadata × List ℕ)) (to : HardwareAddress) (p : PacketValue)
+    → HasWidths (at_moment t s.host.inner) → HasTurn (at_moment t s.host.inner) s.places n v → contents v.queued ≡ before ++ d ∷ more
+    → length before < budget → AllByRecursion (HasWay (at_moment t s.host.inner) v.settings) before → d.0.endpoint.port ≢ 0
+    → CanGo (at_moment t s.host.inner) v.settings d to p → waiting s.device ≡ [] → Polls PortMove t budget s changed s'
+    → s'.device.link.refusals ≡ s.device.link.refusals → IsTrue (leave s'.device) → BringsWhatWent s.device s'.device r.device count
+    → count ≤ steps → CanRead (at_moment t s.host.inner) to (reader_of r.host.inner)
+    → IsExpectedThroughout (at_moment u r.host.inner) r.places to p.header (ports_of v.settings d) m meta w
+    → HasRoomBehind (waiting r.device) r.host.slots w.received count (length d.1) → Polls PortMove u steps r changed' r' → IsTrue (leave r'.device)
+    → WaitsAmongThem r'.places m w (as_received (source_of p.header) v.settings d)
+arrives_between t u budget count steps s s' r r' changed changed' n m meta v w before d more to p wide turn queued short ways some can none polls same_count given
+    brings within reads is room polled leaves =
+    arrives_with_leave PortMove PortMove leave waiting t u budget count steps s s' r r' changed changed' n m meta v w before d more to p ports leaves wide turn
+    queued short ways some can (ports_are_bare t s.device none) polls (refuse_nothing s.device s'.device same_count given)
+    (brought (at_moment t s.host.inner) to p s.device s'.device r.device count brings) within reads is room polled
