@@ -1,4 +1,4 @@
-use Rattle.std.proofs.Common.{◌≡◌, ℤ, List, ℕ, Option, Result, Err, IfSome, option_map, sym, subst}
+use Rattle.std.proofs.Common.{◌≡◌, ℤ, List, ℕ, Option, Result, Err, IfSome, option_map, ap, sym, ◌∙◌, subst}
 use Rattle.std.specs.Io.KnownBytes.{Appends}
 use Rattle.std.proofs.lemmas.Result.{err_from_is_err_and}
 use Rattle.net_base.specs.Time.{IsMoment}
@@ -41,6 +41,13 @@ returns-in_err-current g c =
           (refused_at now next c.loop.invariant.2.past c.loop.last c.in-Some.now (option_map state_of c.loop.host) c.next_turn.new.packet.items
           c.in_err-current.field-0.0 comes c.in_err-current.ensures.refused));
     }
+
+-- a turn whose answer can't be written
+pub returns-in_err-answer_turn : goal.returns-in_err-answer_turn
+returns-in_err-answer_turn g c =
+    let p = err_from_is_err_and c.from_residual-in_err-answer_turn.result c.from_residual-in_err-answer_turn.ensures.1 in
+    let same : c.from_residual-in_err-answer_turn.result ≡ Err c.in_err-answer_turn.field-0.0 = cc (p.1, p.2) in
+    record { served = λ not. absurd (not (same ∙ ap Err c.in_err-answer_turn.ensures.error)); }
 
 -- one turn more
 pub loop-preserved : goal.loop-preserved
