@@ -47,7 +47,7 @@ pub returns-in_err-answer_turn : goal.returns-in_err-answer_turn
 returns-in_err-answer_turn g c =
     let p = err_from_is_err_and c.from_residual-in_err-answer_turn.result c.from_residual-in_err-answer_turn.ensures.1 in
     let same : c.from_residual-in_err-answer_turn.result ≡ Err c.in_err-answer_turn.field-0.0 = cc (p.1, p.2) in
-    record { served = λ not. absurd (not (same ∙ ap Err c.in_err-answer_turn.ensures.error)); }
+    record { served = λ not. absurd (not (same ∙ ap Err c.in_err-answer_turn.ensures.error)) }
 
 -- one turn more
 pub loop-preserved : goal.loop-preserved
