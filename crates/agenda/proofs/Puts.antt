@@ -13,11 +13,14 @@ module _ {X : Type 0} where
   put_behind [] x = refl
   put_behind (y ∷ ys) x = ap (λ (zs : List X). y ∷ zs) (put_behind ys x)
 
-  pub put_beyond : (ys : List X) (at : ℕ) (x : X) → length ys < at → put at x ys ≡ ys
-  put_beyond [] zero x beyond = absurd (omega (arith, beyond))
-  put_beyond [] (suc at) x beyond = refl
-  put_beyond (y ∷ ys) zero x beyond = absurd (omega (arith, beyond))
-  put_beyond (y ∷ ys) (suc at) x beyond = ap (λ (zs : List X). y ∷ zs) (put_beyond ys at x (omega (arith, beyond)))
+  pub put_more : (ys : List X) (z x : X) → slice_set (ys ++ z ∷ []) (length ys) x ≡ ys ++ x ∷ []
+  put_more [] z x = refl
+  put_more (y ∷ ys) z x = ap (λ (zs : List X). y ∷ zs) (put_more ys z x)
+
+  pub set_beyond : (ys : List X) (at : ℕ) (x : X) → length ys ≤ at → slice_set ys at x ≡ ys
+  set_beyond [] at x beyond = refl
+  set_beyond (y ∷ ys) zero x beyond = absurd (omega (arith, beyond))
+  set_beyond (y ∷ ys) (suc at) x beyond = ap (λ (zs : List X). y ∷ zs) (set_beyond ys at x (omega (arith, beyond)))
 
   -- what stands there already
   pub put_same : (ys : List X) (at : ℕ) (x d : X) → at < length ys → get_or ys at d ≡ x → put at x ys ≡ ys

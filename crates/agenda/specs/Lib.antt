@@ -1,3 +1,4 @@
+pub mod Bits
 pub mod Keys
 pub mod Links
 pub mod Marks

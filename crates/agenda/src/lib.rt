@@ -7,6 +7,7 @@
 
 ghost use Rattle.std.specs.Prelude.{◌≡◌};
 
+mod bits;
 mod chains;
 mod index;
 mod list;

@@ -1,30 +1,33 @@
 //! A mark for each place.
-ghost use Rattle.std.specs.Prelude.{◌≡◌, ◌⊎◌, ℕ, ◌+◌, ◌<◌, ◌≤◌, ◌^◌, ◌++◌, ◌∷◌, [], true, false, length, slice_set, MatchResult};
-ghost use Rattle.agenda.specs.Marks.{IsBetween, IsNext, IsWithin};
+ghost use Rattle.std.specs.Prelude.{◌≡◌, ◌⊎◌, Bool, ◌++◌, ◌∷◌, [], ◌/◌, ◌<◌, ◌≤◌, IfOk, true, false, length, slice_set, MatchResult};
+ghost use Rattle.agenda.specs.Bits.{AreLengthened};
+ghost use Rattle.agenda.specs.Marks.{IsNext};
 ghost use Rattle.agenda.specs.Put.{put};
 
+use crate::bits;
 use std::alloc::{AllocError, Global};
 use std::marker::Model;
 
 /// A mark for each of the first places, which says whether it is on the agenda.
 ///
-/// Between which places those on the agenda lie is kept, so that few among many are found at once.
+/// A mark is a bit of a word, and so is whether a word has one that is set: so who is next is found among thousands of places without a look
+/// at each.
 #[derive(Debug, Drop)]
 pub struct Agenda {
-    marks: Vec<bool>,
-    low: usize,
-    high: usize,
+    len: usize,
+    words: Vec<u64>,
+    groups: Vec<u64>,
 }
 
 impl Model for Agenda {
     ghost use Rattle.std.specs.Prelude.{Bool, List};
-    ghost use Rattle.agenda.specs.Marks.{IsWithin};
+    ghost use Rattle.agenda.specs.Bits.{HaveRoom, marks_of};
 
     ghost Value = { List Bool };
 
-    ghost view = { λ a. a.marks.items };
+    ghost view = { λ a. marks_of a.words.items a.len };
 
-    ghost invariant = { λ a. IsWithin a.low a.high a.marks.items };
+    ghost invariant = { λ a. HaveRoom a.len a.words.items a.groups.items };
 }
 
 impl Agenda {
@@ -33,9 +36,9 @@ impl Agenda {
         ensures { result ≡ [] }
     {
         Agenda {
-            marks: Vec::new(alloc),
-            low: 0,
-            high: 0,
+            len: 0,
+            words: Vec::new(alloc),
+            groups: Vec::new(alloc),
         }
     }
 
@@ -43,25 +46,24 @@ impl Agenda {
     pub fn len(&self) -> usize
         ensures { result ≡ length self.now }
     {
-        self.marks.len()
+        self.len
     }
 
     /// Forgets all places.
     pub fn clear(&mut self)
         ensures { self.new ≡ [] }
     {
-        self.marks.clear();
-        self.low = 0;
-        self.high = 0;
+        self.len = 0;
+        self.words.clear();
+        self.groups.clear();
     }
 
     /// Adds the next place, which is on the agenda.
     pub fn push(&mut self) -> Result<(), AllocError>
         ensures { MatchResult result (λ u. self.new ≡ self.old ++ true ∷ []) (λ e. self.new ≡ self.old) }
     {
-        let at = self.marks.len();
-        self.marks.push(true)?;
-        (self.low, self.high) = widened(self.low, self.high, at);
+        self.add()?;
+        self.put_on(self.len - 1);
         Ok(())
     }
 
@@ -69,9 +71,9 @@ impl Agenda {
     pub fn put_on(&mut self, at: usize)
         ensures { self.new ≡ slice_set self.old at true }
     {
-        if at < self.marks.len() {
-            self.marks[at] = true;
-            (self.low, self.high) = widened(self.low, self.high, at);
+        if at < self.len {
+            bits::insert(&mut self.words, at);
+            bits::insert(&mut self.groups, at / 64);
         }
     }
 
@@ -79,23 +81,24 @@ impl Agenda {
     pub fn take_off(&mut self, at: usize)
         ensures { self.new ≡ slice_set self.old at false }
     {
-        if at < self.marks.len() {
-            self.marks[at] = false;
-            if at == self.low || at + 1 == self.high {
-                (self.low, self.high) = narrowed(self.marks.as_slice(), self.low, self.high);
-            }
+        if at >= self.len {
+            return;
+        }
+        if bits::remove(&mut self.words, at) {
+            bits::remove(&mut self.groups, at / 64);
         }
     }
 
     /// Takes a place off the agenda; the one behind the last is added so. Without memory for that nothing changes.
-    #[tactic(auto, using(crate::proofs::Puts::put_within, crate::proofs::Puts::put_behind, crate::proofs::Puts::put_beyond))]
     pub fn rest(&mut self, at: usize)
         ensures { (self.new ≡ put at false self.old) ⊎ (self.new ≡ self.old) }
     {
-        if at < self.marks.len() {
+        if at == self.len {
+            if let Ok(()) = self.add() {
+                self.take_off(at);
+            }
+        } else {
             self.take_off(at);
-        } else if at == self.marks.len() {
-            let _added = self.marks.push(false);
         }
     }
 
@@ -103,41 +106,31 @@ impl Agenda {
     pub fn next(&self, from: usize) -> Option<usize>
         ensures { IsNext from self.now result }
     {
-        let end = self.high.min(self.marks.len());
-        let mut at = from.max(self.low);
-        while at < end {
-            if self.marks[at] {
-                return Some(at);
-            }
-            at += 1;
+        match bits::next_grouped(&self.words, &self.groups, from) {
+            Some(at) => if at < self.len { Some(at) } else { None },
+            None => None,
         }
-        None
+    }
+
+    /// Adds the next place. Whether it is on the agenda isn't said.
+    fn add(&mut self) -> Result<(), AllocError>
+        ensures { MatchResult result (λ u. (x : Bool) × (self.new ≡ self.old ++ x ∷ [])) (λ e. self.new ≡ self.old) }
+    {
+        let len = self.len.checked_add(1).ok_or(AllocError)?;
+        lengthen(&mut self.groups, self.len / 64)?;
+        lengthen(&mut self.words, self.len)?;
+        self.len = len;
+        Ok(())
     }
 }
 
-/// The least range that has this one, and a place.
-fn widened(low: usize, high: usize, at: usize) -> (usize, usize)
-    requires { at + 1 < 2 ^ 64 }
-    ensures { (i : ℕ) → (IsBetween low high i ⊎ (i ≡ at)) → IsBetween result.0 result.1 i }
+/// Adds a word, if there is none for this number.
+fn lengthen(words: &mut Vec<u64>, at: usize) -> Result<(), AllocError>
+    ensures lengthened { AreLengthened at words.old.items words.new.items }
+    ensures room { at / 64 ≤ length words.old.items → IfOk result (λ u. at / 64 < length words.new.items) }
 {
-    if low < high {
-        (low.min(at), high.max(at + 1))
-    } else {
-        (at, at + 1)
+    if at / 64 >= words.len() {
+        words.push(0)?;
     }
-}
-
-/// The range without the places at both ends that aren't on the agenda.
-fn narrowed(marks: &[bool], low: usize, high: usize) -> (usize, usize)
-    ensures { IsWithin low high marks.now → IsWithin result.0 result.1 marks.now }
-{
-    let mut low = low;
-    while low < high && low < marks.len() && !marks[low] {
-        low += 1;
-    }
-    let mut high = high;
-    while low < high && high <= marks.len() && !marks[high - 1] {
-        high -= 1;
-    }
-    (low, high)
+    Ok(())
 }

@@ -1,11 +1,15 @@
-use Rattle.std.proofs.Common.{arith, ◌≡◌, ℕ, ◌⊎◌, inl, inr, subst, List, Bool, length}
-use Rattle.agenda.specs.Marks.{IsOn, IsBetween}
-use Rattle.agenda.proofs.Ranges.{on_more}
+use Rattle.std.proofs.Common.{arith, ◌≡◌, ◌-◌, ◌∷◌, ◌++◌, [], true, sym, ap, ◌∙◌, List, Bool, ℕ, length, length-append}
+use Rattle.std.specs.Prelude.{slice_set}
+use Rattle.agenda.proofs.Marked.{length_marks}
+use Rattle.agenda.proofs.Puts.{put_more}
 use Rattle.agenda.proofs.list.Agenda.push.Goals as goal
 
-pub invariant_of-self-2 : goal.invariant_of-self-2
-invariant_of-self-2 c = λ i on. c.widened.ensures i (known i (on_more c.self.inside.marks.items i (subst (λ (xs : List Bool). IsOn xs i) (c.in_ok-push.ensures.items) on))) where
-  known : (i : ℕ) → IsOn c.self.inside.marks.items i ⊎ (i ≡ length c.self.inside.marks.items)
-      → IsBetween c.self.inside.low c.self.inside.high i ⊎ (i ≡ c.len-at.result)
-  known i (inl on) = inl (c.self.invariant i on)
-  known i (inr same) = inr (omega (arith, same, c.len-at.ensures, c.push.ensures.len))
+pub returns : goal.returns
+returns c =
+    let x : Bool = c.in_ok-add.ensures.0 in
+    let added : c.add.new.self ≡ c.args.self.now ++ x ∷ [] = c.in_ok-add.ensures.1 in
+    let count : c.put_on.inside.len ≡ length (c.args.self.now ++ x ∷ [])
+    = sym (length_marks c.put_on.inside.words.items c.put_on.inside.len) ∙ ap length (c.put_on.view_is ∙ added) in
+    let place : c.put_on.inside.len - 1 ≡ length c.args.self.now = omega (arith, count, length-append c.args.self.now (x ∷ [])) in
+    c.put_on-2.ensures ∙ ap (λ (marks : List Bool). slice_set marks (c.put_on.inside.len - 1) true) added
+    ∙ ap (λ (at : ℕ). slice_set (c.args.self.now ++ x ∷ []) at true) place ∙ put_more c.args.self.now x true

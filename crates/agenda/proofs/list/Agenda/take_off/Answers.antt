@@ -1,10 +1,16 @@
-use Rattle.std.proofs.Common.{◌≡◌, List, Bool, false, sym, subst}
+use Rattle.std.proofs.Common.{arith, false, sym, ap, ◌∙◌, List, Bool}
 use Rattle.std.specs.Prelude.{slice_set}
-use Rattle.agenda.specs.Marks.{IsWithin}
-use Rattle.agenda.proofs.Ranges.{on_cleared}
+use Rattle.agenda.proofs.Marked.{marks_with, marks_beyond}
 use Rattle.agenda.proofs.list.Agenda.take_off.Goals as goal
 
-pub invariant_of-self-then-at-self : goal.invariant_of-self-then-at-self
-invariant_of-self-then-at-self c = subst (λ (marks : List Bool). IsWithin c.narrowed.result.0 c.narrowed.result.1 marks) c.as_slice.ensures.value
-    (c.narrowed.ensures (subst (λ (marks : List Bool). IsWithin c.self.inside.low c.self.inside.high marks) (sym c.as_slice.ensures.value)
-    (λ i on. c.self.invariant i (on_cleared c.self.inside.marks.items c.args.at i on))))
+pub returns-then-at-self : goal.returns-then-at-self
+returns-then-at-self c = sym c.self.view_is ∙ sym (marks_beyond c.args.at c.self.inside.len false c.self.inside.words.items (omega (arith, c.if-at-self.true)))
+    ∙ ap (λ (marks : List Bool). slice_set marks c.args.at false) c.self.view_is
+
+pub returns-then-remove : goal.returns-then-remove
+returns-then-remove c = sym (marks_with c.args.at c.self.inside.len false c.self.inside.words.items c.remove.new.words.items c.remove.ensures.without)
+    ∙ ap (λ (marks : List Bool). slice_set marks c.args.at false) c.self.view_is
+
+pub returns-else-remove : goal.returns-else-remove
+returns-else-remove c = sym (marks_with c.args.at c.self.inside.len false c.self.inside.words.items c.remove.new.words.items c.remove.ensures.without)
+    ∙ ap (λ (marks : List Bool). slice_set marks c.args.at false) c.self.view_is
