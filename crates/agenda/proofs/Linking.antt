@@ -5,11 +5,6 @@ use Rattle.std.specs.Prelude.{slice_get, slice_set}
 use Rattle.agenda.specs.Keys.{IsNextWith}
 
 module _ {X : Type 0} where
-  pub got_within : (xs : List X) (i : ℕ) (x : X) → slice_get xs i ≡ Some x → i < length xs
-  got_within [] i x got = absurd (cc)
-  got_within (y ∷ xs) zero x got = omega arith
-  got_within (y ∷ xs) (suc i) x got = let less : i < length xs = got_within xs i x got in omega arith
-
   -- what is set is there
   pub set_here : (xs : List X) (at : ℕ) (x : X) → at < length xs → slice_get (slice_set xs at x) at ≡ Some x
   set_here [] at x within = absurd (omega (arith, within))

@@ -2,9 +2,10 @@
 use Rattle.std.proofs.Common.{◌≡◌, ◌≢◌, ◌⊎◌, inl, inr, ℕ, zero, suc, ◌<◌, ◌≤◌, List, [], ◌∷◌, ◌++◌, length, Option, Some, None, refl, sym, ap, ◌∙◌, subst, arith}
 use Rattle.std.proofs.lemmas.Bool.{cases_lt, cases_eq}
 use Rattle.std.specs.Prelude.{slice_get, slice_set}
+use Rattle.std.proofs.lemmas.Option.{slice_get_within}
 use Rattle.agenda.specs.Keys.{IsNextWith}
 use Rattle.agenda.specs.Links.{AreLinked, AreLinkedFrom, IsLastBefore, first_with, link_behind, links_with}
-use Rattle.agenda.proofs.Linking.{got_within, set_here, set_elsewhere, length_set, of_set, stays_next, skips, later, sooner, arrives, stays_before, stays_behind}
+use Rattle.agenda.proofs.Linking.{set_here, set_elsewhere, length_set, of_set, stays_next, skips, later, sooner, arrives, stays_before, stays_behind}
 
 length_first_with : (bucket : ℕ) (place link : Option ℕ) (first : List (Option ℕ)) → length (first_with bucket place link first) ≡ length first
 length_first_with bucket None link first = length_set first bucket link
@@ -57,7 +58,7 @@ module _ (all : List ℕ) (first links : List (Option ℕ)) (linked : AreLinked 
     by : ((bucket ≡ old) × (next ≡ link)) ⊎ ((bucket ≢ old) × (slice_get first bucket ≡ Some link)) → IsNextWith bucket 0 (slice_set all at (length first)) link
     by (inl here) = subst (λ (b : ℕ). IsNextWith b 0 (slice_set all at (length first)) link) (sym here.0)
         (subst (λ (o : Option ℕ). IsNextWith old 0 (slice_set all at (length first)) o) here.1 (led_here 0 (omega arith) (λ i since less. last i less)))
-    by (inr else) = others bucket 0 link (got_within first bucket link else.1)
+    by (inr else) = others bucket 0 link (slice_get_within first bucket link else.1)
         (off_other all at bucket old 0 link is_in else.0 (linked.begin bucket link else.1)) (linked.begin bucket link else.1)
 
   begin_some : (p : ℕ) → IsLastBefore all old at (Some p) → (bucket : ℕ) (link : Option ℕ) → slice_get first bucket ≡ Some link
@@ -67,9 +68,9 @@ module _ (all : List ℕ) (first links : List (Option ℕ)) (linked : AreLinked 
     is = linked.begin bucket link got
 
     by : (bucket ≡ old) ⊎ (bucket ≡ old → ⊥) → IsNextWith bucket 0 (slice_set all at (length first)) link
-    by (inl same) = others bucket 0 link (got_within first bucket link got)
+    by (inl same) = others bucket 0 link (slice_get_within first bucket link got)
         (off_past all at bucket 0 p link (omega arith) last.0 (last.1 ∙ ap Some (sym same)) is) is
-    by (inr apart) = others bucket 0 link (got_within first bucket link got) (off_other all at bucket old 0 link is_in apart is) is
+    by (inr apart) = others bucket 0 link (slice_get_within first bucket link got) (off_other all at bucket old 0 link is_in apart is) is
 
   go_on_none : IsLastBefore all old at None → (i bucket : ℕ) (link : Option ℕ) → i ≢ at → slice_get all i ≡ Some bucket → bucket < length first
       → slice_get links i ≡ Some link → IsNextWith bucket (suc i) (slice_set all at (length first)) link
@@ -129,7 +130,7 @@ module _ (all : List ℕ) (first links : List (Option ℕ)) (linked : AreLinked 
 module _ (all : List ℕ) (first links : List (Option ℕ)) (linked : AreLinked all first links) (at to : ℕ)
     (outside : slice_get all at ≡ Some (length first)) (known : to < length first) where
   within : at < length all
-  within = got_within all at (length first) outside
+  within = slice_get_within all at (length first) outside
 
   not_in : slice_get all at ≡ Some to → ⊥
   not_in got = let same : to ≡ length first = same_bucket all at at to (length first) got outside refl in absurd (omega (arith, same, known))
@@ -160,12 +161,12 @@ module _ (all : List ℕ) (first links : List (Option ℕ)) (linked : AreLinked 
     by : ((bucket ≡ to) × (Some at ≡ link)) ⊎ ((bucket ≢ to) × (slice_get first bucket ≡ Some link)) → IsNextWith bucket 0 (slice_set all at to) link
     by (inl here) = moved_to bucket 0 link here.0
         (subst (λ (o : Option ℕ). IsNextWith to 0 (slice_set all at to) o) here.1 (arrives all to at 0 within (omega arith) (λ i since less. last i less)))
-    by (inr else) = in_others bucket 0 link (got_within first bucket link else.1) else.0 (linked.begin bucket link else.1)
+    by (inr else) = in_others bucket 0 link (slice_get_within first bucket link else.1) else.0 (linked.begin bucket link else.1)
   enter_begin (Some p) last bucket link got = by (cases_eq bucket to) where
     by : (bucket ≡ to) ⊎ (bucket ≡ to → ⊥) → IsNextWith bucket 0 (slice_set all at to) link
     by (inl same) = moved_to bucket 0 link same (stays_up_to p 0 link (omega arith) last.0 last.1
         (subst (λ (b : ℕ). IsNextWith b 0 all link) same (linked.begin bucket link got)))
-    by (inr apart) = in_others bucket 0 link (got_within first bucket link got) apart (linked.begin bucket link got)
+    by (inr apart) = in_others bucket 0 link (slice_get_within first bucket link got) apart (linked.begin bucket link got)
 
   -- the place that it leads to
   enter_behind : (right behind : Option ℕ) → IsLastBefore all to at right → link_behind to right first links ≡ Some behind
@@ -224,7 +225,7 @@ module _ (all : List ℕ) (first links : List (Option ℕ)) (linked : AreLinked 
     elsewhere apart (inr else) = inr (else.0, (set_elsewhere links p i (Some at) apart ∙ else.1))
 
     by : ((i ≡ p) × (Some at ≡ link)) ⊎ ((i ≢ p) × (slice_get (slice_set links at behind) i ≡ Some link)) → Wanted
-    by (inl here) = let in_links : p < length links = omega (arith, linked.each, got_within all p to last.1) in
+    by (inl here) = let in_links : p < length links = omega (arith, linked.each, slice_get_within all p to last.1) in
         inr (
           (λ same. absurd (omega (arith, same, here.0, last.0))),
           (ap (slice_get (slice_set links p (Some at))) here.0 ∙ (set_here links p (Some at) in_links ∙ ap Some here.1)),
@@ -291,7 +292,7 @@ changed all first links at from to left right next behind linked is_in apart kno
     (links_with right (Some at) (slice_set (links_with left next links) at behind))) (set_again all at (length first) to)
     (put_in (slice_set all at (length first)) (first_with from left next first) (links_with left next links)
     (left_out all first links linked at from next is_in known_from leads left last_left) at to
-    (set_here all at (length first) (got_within all at from is_in) ∙ ap Some (sym same_size)) (subst (λ (n : ℕ). to < n) (sym same_size) known_to)
+    (set_here all at (length first) (slice_get_within all at from is_in) ∙ ap Some (sym same_size)) (subst (λ (n : ℕ). to < n) (sym same_size) known_to)
     right behind (before_set all to at (length first) right last_right)
     (behind_apart all first links at from to left right next behind apart last_left last_right is)) where
       same_size : length (first_with from left next first) ≡ length first
@@ -342,14 +343,14 @@ one_in_none : (all : List ℕ) (first links : List (Option ℕ)) (link : Option 
     → AreLinked (all ++ length first ∷ []) first (links ++ link ∷ [])
 one_in_none all first links link linked = record {
   each = length_more links link ∙ (ap suc linked.each ∙ sym (length_more all (length first)));
-  begin = λ bucket next got. next_of_more all bucket (length first) 0 next (λ same. absurd (omega (arith, same, got_within first bucket next got)))
+  begin = λ bucket next got. next_of_more all bucket (length first) 0 next (λ same. absurd (omega (arith, same, slice_get_within first bucket next got)))
       (linked.begin bucket next got);
   go_on = λ i bucket next since got in_range got_link. by i bucket next in_range (of_more all (length first) bucket i got) (of_more links link next i got_link);
 } where
   by : (i bucket : ℕ) (next : Option ℕ) → bucket < length first → ((i ≡ length all) × (length first ≡ bucket)) ⊎ (slice_get all i ≡ Some bucket)
       → ((i ≡ length links) × (link ≡ next)) ⊎ (slice_get links i ≡ Some next) → IsNextWith bucket (suc i) (all ++ length first ∷ []) next
   by i bucket next in_range (inl last) any = absurd (omega (arith, last.1, in_range))
-  by i bucket next in_range (inr before) (inl last) = absurd (omega (arith, last.0, linked.each, got_within all i bucket before))
+  by i bucket next in_range (inr before) (inl last) = absurd (omega (arith, last.0, linked.each, slice_get_within all i bucket before))
   by i bucket next in_range (inr before) (inr link_before) = next_of_more all bucket (length first) (suc i) next
       (λ same. absurd (omega (arith, same, in_range))) (linked.go_on i bucket next (omega arith) before in_range link_before)
 
@@ -393,8 +394,8 @@ pub none_linked : (all : List ℕ) (first links : List (Option ℕ)) → length 
 none_linked all first links each none = record {
   each = each;
   begin = λ bucket link got. subst (λ (o : Option ℕ). IsNextWith bucket (length all) all o) (sym (none bucket link got))
-      (λ i since is. absurd (omega (arith, since, got_within all i bucket is)));
-  go_on = λ i bucket link since got in_range got_link. absurd (omega (arith, since, got_within all i bucket got));
+      (λ i since is. absurd (omega (arith, since, slice_get_within all i bucket is)));
+  go_on = λ i bucket link since got in_range got_link. absurd (omega (arith, since, slice_get_within all i bucket got));
 }
 
 -- the places from one earlier on, where that leads to where its bucket began, and its bucket begins with it

@@ -1,11 +1,11 @@
 -- How far a walk along a bucket's links has come.
 use Rattle.std.proofs.Common.{◌≡◌, ◌⊎◌, inl, inr, ℕ, zero, suc, ◌-◌, ◌++◌, ◌<◌, ◌≤◌, List, [], ◌∷◌, length, Option, Some, None, refl, sym, ap, ◌∙◌, subst, arith}
 use Rattle.std.proofs.lemmas.Bool.{cases_lt, cases_eq}
-use Rattle.std.proofs.lemmas.Option.{slice_get_read}
+use Rattle.std.proofs.lemmas.Option.{slice_get_read, slice_get_within}
 use Rattle.std.specs.Prelude.{slice_get, slice_set, get_or}
 use Rattle.agenda.specs.Keys.{IsNextWith}
 use Rattle.agenda.specs.Links.{AreLinked, BeginsAt, IsLastBefore, IsIn, bucket_of, buckets, first_with, link_behind, links_with}
-use Rattle.agenda.proofs.Linking.{got_within, length_set}
+use Rattle.agenda.proofs.Linking.{length_set}
 use Rattle.agenda.proofs.Relinked.{pushed}
 
 -- each place has a bucket
@@ -64,7 +64,7 @@ pub nearer : (bucket place size : ℕ) (all : List ℕ) (link next : Option ℕ)
 nearer bucket place size all link next same less here is = subst (λ (o : Option ℕ). left_to_go size next < left_to_go size o) (sym here) (by next is) where
   by : (next : Option ℕ) → IsNextWith bucket (suc place) all next → left_to_go size next < size - place
   by None is = omega (arith, less)
-  by (Some further) is = omega (arith, less, is.0, same, got_within all further bucket is.1)
+  by (Some further) is = omega (arith, less, is.0, same, slice_get_within all further bucket is.1)
 
 -- FOR A KEY
 
@@ -200,7 +200,7 @@ pub led_from : (keys : List ℕ) (first links : List (Option ℕ)) (key at : ℕ
 led_from keys first links key at link linked got some is = linked.go_on at (bucket_of (length first) key) link (omega arith)
     (in_bucket (length first) key at keys got) (bucket_within (length first) key some)
     (slice_get_read links (length links) at link refl
-    (omega (arith, linked.each, length_buckets (length first) keys, got_within keys at key got)) is)
+    (omega (arith, linked.each, length_buckets (length first) keys, slice_get_within keys at key got)) is)
 
 -- the keys of places that are linked
 abbrev pub IsIndex : List ℕ → List (Option ℕ) → List (Option ℕ) → Type 0

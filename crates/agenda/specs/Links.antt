@@ -20,6 +20,10 @@ pub record AreLinkedFrom (from : ℕ) (all : List ℕ) (first links : List (Opti
 abbrev pub AreLinked : List ℕ → List (Option ℕ) → List (Option ℕ) → Type 0
 AreLinked all first links = AreLinkedFrom 0 all first links
 
+-- places with these keys, by their buckets
+abbrev pub AreChained : List ℕ → List (Option ℕ) → List (Option ℕ) → Type 0
+AreChained keys first links = AreLinked (buckets (length first) keys) first links
+
 -- the last place of the bucket before this one, or none
 abbrev pub IsLastBefore : List ℕ → ℕ → ℕ → Option ℕ → Type 0
 IsLastBefore all bucket at (Some last) =

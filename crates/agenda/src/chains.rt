@@ -1,7 +1,7 @@
 //! Places in buckets.
 ghost use Rattle.std.specs.Prelude.{◌≡◌, ◌≢◌, ℕ, ◌<◌, ◌≤◌, ◌++◌, ◌∷◌, [], length, slice_get, slice_set, Option, Some, None, MatchResult, OnOk};
 ghost use Rattle.std.specs.Option.{ForSome};
-ghost use Rattle.agenda.specs.Links.{AreLinked, BeginsAt, IsLastBefore, IsIn, bucket_of, buckets, first_with, link_behind, links_with};
+ghost use Rattle.agenda.specs.Links.{AreChained, AreLinked, BeginsAt, IsLastBefore, IsIn, bucket_of, buckets, first_with, link_behind, links_with};
 
 use std::alloc::{AllocError, Global};
 
@@ -36,7 +36,7 @@ impl Chains {
     /// The first place that has this key, of this one and those that it leads to.
     pub(crate) fn with_key(&self, keys: &[u64], key: u64, begin: Option<usize>) -> Option<usize>
         requires some { 0 < length self.now.first.items }
-        requires linked { AreLinked (buckets (length self.now.first.items) keys.now) self.now.first.items self.now.links.items }
+        requires linked { AreChained keys.now self.now.first.items self.now.links.items }
         requires begin { ForSome begin (IsIn (buckets (length self.now.first.items) keys.now) (bucket_of (length self.now.first.items) key)) }
         ensures { BeginsAt key keys.now begin result }
     {
@@ -52,7 +52,7 @@ impl Chains {
 
     /// The last place of a bucket before this one.
     pub(crate) fn last_before(&self, keys: &[u64], bucket: usize, at: usize) -> Option<usize>
-        requires linked { AreLinked (buckets (length self.now.first.items) keys.now) self.now.first.items self.now.links.items }
+        requires linked { AreChained keys.now self.now.first.items self.now.links.items }
         requires bucket { bucket < length self.now.first.items }
         requires at { at ≤ length keys.now }
         ensures { IsLastBefore (buckets (length self.now.first.items) keys.now) bucket at result }
@@ -96,7 +96,7 @@ impl Chains {
 
     /// Takes a place from one bucket into another.
     pub(crate) fn change(&mut self, keys: &[u64], at: usize, from: usize, to: usize)
-        requires linked { AreLinked (buckets (length self.old.first.items) keys.now) self.old.first.items self.old.links.items }
+        requires linked { AreChained keys.now self.old.first.items self.old.links.items }
         requires is_in { IsIn (buckets (length self.old.first.items) keys.now) from at }
         requires other { from ≢ to }
         requires from { from < length self.old.first.items }
@@ -115,7 +115,7 @@ impl Chains {
 
     /// Adds a place to a bucket, behind all others.
     pub(crate) fn push(&mut self, keys: &[u64], bucket: usize) -> Result<(), AllocError>
-        requires linked { AreLinked (buckets (length self.old.first.items) keys.now) self.old.first.items self.old.links.items }
+        requires linked { AreChained keys.now self.old.first.items self.old.links.items }
         requires bucket { bucket < length self.old.first.items }
         ensures size { length self.new.first.items ≡ length self.old.first.items }
         ensures linked { MatchResult result
@@ -132,8 +132,8 @@ impl Chains {
 
     /// Makes more buckets where there are as many places, if there is memory for them.
     pub(crate) fn make_room(&mut self, keys: &[u64]) -> Result<(), AllocError>
-        requires linked { AreLinked (buckets (length self.old.first.items) keys.now) self.old.first.items self.old.links.items }
-        ensures linked { AreLinked (buckets (length self.new.first.items) keys.now) self.new.first.items self.new.links.items }
+        requires linked { AreChained keys.now self.old.first.items self.old.links.items }
+        ensures linked { AreChained keys.now self.new.first.items self.new.links.items }
         ensures some { OnOk result (0 < length self.new.first.items) }
         ensures size { length self.old.first.items ≤ length self.new.first.items }
     {

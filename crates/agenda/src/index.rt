@@ -19,14 +19,14 @@ pub struct Index {
 
 impl Model for Index {
     ghost use Rattle.std.specs.Prelude.{List, ℕ, length, ◌<◌};
-    ghost use Rattle.agenda.specs.Links.{AreLinked, buckets};
+    ghost use Rattle.agenda.specs.Links.{AreChained};
 
     ghost Value = { List ℕ };
 
     ghost view = { λ x. x.keys.items };
 
     ghost invariant = { λ x.
-        AreLinked (buckets (length x.chains.first.items) x.keys.items) x.chains.first.items x.chains.links.items
+        AreChained x.keys.items x.chains.first.items x.chains.links.items
         × ((at : ℕ) → at < length x.keys.items → 0 < length x.chains.first.items) };
 }
 

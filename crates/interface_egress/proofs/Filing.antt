@@ -4,6 +4,7 @@ use Rattle.std.proofs.lemmas.Bool.{cases_lt, cases_eq}
 use Rattle.std.proofs.lemmas.Bool.Decides.{leb_tells}
 use Rattle.std.specs.Prelude.{slice_get, position}
 use Rattle.std.specs.List.{position_or_len}
+use Rattle.std.proofs.lemmas.Option.{slice_get_within}
 use Rattle.agenda.specs.Keys.{IsNextWith}
 use Rattle.agenda.specs.Marks.{IsNext, IsOn}
 use Rattle.agenda.specs.Put.{put}
@@ -12,7 +13,7 @@ use Rattle.interface_egress.specs.AtRest.{first_of}
 use Rattle.interface_egress.specs.Filed.{AreFiled, IsFirstAmong, IsLoose, IsUnder, has, has_in, key_in, key_of, nearer}
 use Rattle.interface_egress.specs.declared.socket_set.Item.{Item}
 use Rattle.interface_egress.specs.declared.socket_set.SocketStorage.{SocketStorage}
-use Rattle.interface_egress.proofs.Resting.{off, got_within}
+use Rattle.interface_egress.proofs.Resting.{off}
 
 -- POSITIONS
 
@@ -124,11 +125,11 @@ module _ {T : Type 0} (test : T → Bool) (ps : List (SocketStorage T)) where
         fails i place less got false so = so
 
         by : position_or_len (has test) ps ≡ at → Some at ≡ position (has test) ps
-        by here = let within : at < length ps = got_within ps at first.0.0 first.0.1 in grind (arith, here, within)
+        by here = let within : at < length ps = slice_get_within ps at first.0.0 first.0.1 in grind (arith, here, within)
 
   pub within_places : (K : ℕ → Type 0) (found : Option ℕ) → IsFirstAmong K test ps found → (at : ℕ) → found ≡ Some at → at < length ps
   within_places K None none at same = absurd (cc)
-  within_places K (Some n) first at same = let here : n ≡ at = cc in subst (λ (m : ℕ). m < length ps) here (got_within ps n first.0.0 first.0.1)
+  within_places K (Some n) first at same = let here : n ≡ at = cc in subst (λ (m : ℕ). m < length ps) here (slice_get_within ps n first.0.0 first.0.1)
 
 -- FILED PLACES
 
@@ -177,11 +178,11 @@ module _ {T : Type 0} (key : T → ℕ) (loose : List Bool) (keys : List ℕ) (p
     λ i q off got. by i q got off (cases_eq i at),
     lengths change,
     (let less : length (put at (key_in key place) keys) ≤ max (length keys) (suc at) = length_put keys at (key_in key place) in
-        let within : at < length ps = got_within ps at place here in omega (arith, less, within, filed.2)),
+        let within : at < length ps = slice_get_within ps at place here in omega (arith, less, within, filed.2)),
   ) where
     lengths : (loose' ≡ put at false loose) ⊎ (loose' ≡ loose) → length loose' ≤ length ps
     lengths (inl new) = let less : length (put at false loose) ≤ max (length loose) (suc at) = length_put loose at false in
-        let within : at < length ps = got_within ps at place here in
+        let within : at < length ps = slice_get_within ps at place here in
         subst (λ (ms : List Bool). length ms ≤ length ps) (sym new) (omega (arith, less, within, filed.1))
     lengths (inr same) = subst (λ (ms : List Bool). length ms ≤ length ps) (sym same) filed.1
 
@@ -232,7 +233,7 @@ module _ {P : Type 0} (key : ℕ) (keys : List ℕ) (passes : P → Bool) (ps : 
   fewer_left at size link next within few here is = subst (λ (o : Option ℕ). places_left size next < places_left size o) (sym here) (by next is) where
     by : (next : Option ℕ) → IsNextWith key (suc at) keys next → places_left size next < size - at
     by None is = omega (arith, within)
-    by (Some further) is = omega (arith, within, is.0, few, got_within keys further key is.1)
+    by (Some further) is = omega (arith, within, is.0, few, slice_get_within keys further key is.1)
 
 -- THE FIRST PLACE WHOSE SOCKET IS WANTED
 

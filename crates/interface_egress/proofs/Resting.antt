@@ -1,6 +1,7 @@
 -- Places at rest, by the marks that are kept of them.
 use Rattle.std.proofs.Common.{◌≡◌, ◌⊎◌, inl, inr, ℕ, zero, suc, ◌+◌, ◌^◌, ◌<◌, ◌≤◌, max, nat_lt, if◌then◌else◌, Bool, true, false, List, [], ◌∷◌, length, Option, Some, None, refl, sym, subst, arith}
 use Rattle.std.proofs.lemmas.Bool.Decides.{leb_tells}
+use Rattle.std.proofs.lemmas.Option.{slice_get_within}
 use Rattle.std.specs.Prelude.{slice_get}
 use Rattle.agenda.specs.Marks.{IsNext, IsOn}
 use Rattle.interface_egress.specs.AtRest.{AreAtRest, IsNextBusy, first_of, is_at_rest}
@@ -12,11 +13,6 @@ off [] i within not_on = absurd (omega (arith, within))
 off (true ∷ marks) zero within not_on = absurd (not_on refl)
 off (false ∷ marks) zero within not_on = refl
 off (x ∷ marks) (suc i) within not_on = off marks i (omega (arith, within)) not_on
-
-pub got_within : {X : Type 0} (xs : List X) (i : ℕ) (x : X) → slice_get xs i ≡ Some x → i < length xs
-got_within [] i x got = absurd (cc)
-got_within (y ∷ xs) zero x got = omega arith
-got_within (y ∷ xs) (suc i) x got = let less : i < length xs = got_within xs i x got in omega arith
 
 module _ {T : Type 0} (idle : T → Bool) (marks : List Bool) (ps : List (SocketStorage T)) (rests : AreAtRest idle marks ps) where
   -- places that are marked, and not on the agenda
@@ -39,7 +35,7 @@ module _ {T : Type 0} (idle : T → Bool) (marks : List Bool) (ps : List (Socket
         → Chosen (nat_lt (max from (length marks)) (length ps))
     by (inl less) = subst Chosen (sym less.0) (omega arith, omega (arith, less.1), within)
     by (inr not_less) =
-        subst Chosen (sym not_less.0) (λ i place since got. within i place since (omega (arith, not_less.1, got_within ps i place got)) got)
+        subst Chosen (sym not_less.0) (λ i place since got. within i place since (omega (arith, not_less.1, slice_get_within ps i place got)) got)
 
 -- the number of a place behind it fits
 pub next_fits : {T : Type 0} (idle : T → Bool) (ps : List (SocketStorage T)) (from n : ℕ) (next : Option ℕ) → IsNextBusy idle from ps next

@@ -1,6 +1,7 @@
 -- Whoever something arrived for is found by the keys that it tells.
 use Rattle.std.proofs.Common.{◌≡◌, ◌⊎◌, inl, inr, ℕ, ◌&&◌, not, nat_lt, if◌then◌else◌, Bool, true, false, List, [], ◌∷◌, length, Option, Some, None, is_some, position, refl, sym, ap, ◌∙◌, arith}
 use Rattle.std.specs.List.{list_any, position_or_len}
+use Rattle.std.proofs.lemmas.Bool.{and_parts}
 use Rattle.ip_wire.specs.IpRepr.{IpRepr}
 use Rattle.ip_wire.specs.TcpHeader.{TcpHeader}
 use Rattle.ip_wire.specs.UdpRepr.{UdpRepr}
@@ -13,14 +14,6 @@ use Rattle.sockets.specs.declared.socket.Socket.{Socket}
 use Rattle.sockets.specs.declared.socket.Socket.TheVariants as Kind
 use Rattle.sockets.proofs.Found.{of_connection, of_datagram, of_segment}
 use Rattle.interface_ingress.specs.Delivered.{is_connected, is_listener}
-
-left : (a b : Bool) → (a && b) ≡ true → a ≡ true
-left true b so = refl
-left false b so = absurd cc
-
-right : (a b : Bool) → (a && b) ≡ true → b ≡ true
-right true b so = so
-right false b so = absurd cc
 
 either : (a b k : ℕ) → (k ≡ a) ⊎ (k ≡ b) → (k ≡ a) ⊎ (Some b ≡ Some k)
 either a b k (inl one) = inl one
@@ -41,8 +34,8 @@ off false so = refl
 pub of_connected : (s : Socket) (ip : IpRepr) (header : TcpHeader) → is_connected s ip header ≡ true
     → (key_of s ≡ of_ports header.dst_port header.src_port) ⊎ (None ≡ Some (key_of s))
 of_connected (Kind.Tcp v) ip header so = inl (of_connection v ip header (off (is_listening v.block.state)
-    (left (not (is_listening v.block.state)) (accepts_segment (Kind.Tcp v) ip header) so))
-    (right (not (is_listening v.block.state)) (accepts_segment (Kind.Tcp v) ip header) so))
+    (and_parts (not (is_listening v.block.state)) (accepts_segment (Kind.Tcp v) ip header) so).0)
+    (and_parts (not (is_listening v.block.state)) (accepts_segment (Kind.Tcp v) ip header) so).1)
 of_connected other ip header so = absurd cc
 
 -- one that passes is found where any does

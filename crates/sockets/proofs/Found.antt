@@ -1,5 +1,6 @@
 -- What arrives tells the key of whoever accepts it.
 use Rattle.std.proofs.Common.{◌≡◌, ◌⊎◌, inl, inr, ℕ, ◌==◌, ◌&&◌, if◌then◌else◌, Bool, true, false, Option, Some, None, refl, sym, ap, ◌∙◌, arith}
+use Rattle.std.proofs.lemmas.Bool.{and_parts}
 use Rattle.ip_wire.specs.Ip.{destination_of, source_of}
 use Rattle.ip_wire.specs.IpRepr.{IpRepr}
 use Rattle.ip_wire.specs.TcpHeader.{TcpHeader}
@@ -20,14 +21,6 @@ use Rattle.sockets.specs.Socket.{accepts_datagram, accepts_segment}
 use Rattle.sockets.specs.declared.socket.Socket.{Socket}
 use Rattle.sockets.specs.declared.socket.Socket.TheVariants as Kind
 
-left : (a b : Bool) → (a && b) ≡ true → a ≡ true
-left true b so = refl
-left false b so = absurd cc
-
-right : (a b : Bool) → (a && b) ≡ true → b ≡ true
-right true b so = so
-right false b so = absurd cc
-
 equal : (m n : ℕ) → (m == n) ≡ true → m ≡ n
 equal m n so = grind (arith)
 
@@ -37,13 +30,13 @@ pair_ports : (pair : Option EndpointPair) (ip : IpRepr) (header : TcpHeader) →
 pair_ports None ip header so = absurd cc
 pair_ports (Some pair) ip header so =
     ap (λ (own : ℕ). of_ports own pair.remote_port)
-    (equal pair.local_port header.dst_port (left (pair.local_port == header.dst_port) (pair.remote_port == header.src_port) ports))
+    (equal pair.local_port header.dst_port (and_parts (pair.local_port == header.dst_port) (pair.remote_port == header.src_port) ports).0)
     ∙ ap (of_ports header.dst_port)
-    (equal pair.remote_port header.src_port (right (pair.local_port == header.dst_port) (pair.remote_port == header.src_port) ports)) where
+    (equal pair.remote_port header.src_port (and_parts (pair.local_port == header.dst_port) (pair.remote_port == header.src_port) ports).1) where
       ports : ((pair.local_port == header.dst_port) && (pair.remote_port == header.src_port)) ≡ true
-      ports = right (is_same_address (remote_of pair.addresses) (source_of ip)) ((pair.local_port == header.dst_port) && (pair.remote_port == header.src_port))
-          (right (is_same_address (local_of pair.addresses) (destination_of ip))
-          (is_same_address (remote_of pair.addresses) (source_of ip) && ((pair.local_port == header.dst_port) && (pair.remote_port == header.src_port))) so)
+      ports = (and_parts (is_same_address (remote_of pair.addresses) (source_of ip)) ((pair.local_port == header.dst_port) && (pair.remote_port == header.src_port))
+          (and_parts (is_same_address (local_of pair.addresses) (destination_of ip))
+          (is_same_address (remote_of pair.addresses) (source_of ip) && ((pair.local_port == header.dst_port) && (pair.remote_port == header.src_port))) so).1).1
 
 -- a connection is found by both ports
 connected : (state : State) (b : Block) (ip : IpRepr) (header : TcpHeader) → is_listening state ≡ false → accepts_in state b ip header ≡ true
@@ -55,7 +48,7 @@ connected other b ip header off so = pair_ports b.names.pair ip header so
 -- a listener by its own
 listening : (b : Block) (ip : IpRepr) (header : TcpHeader) → accepts_in In.Listen b ip header ≡ true
     → of_listeners b.names.listen.port ≡ of_listeners header.dst_port
-listening b ip header so = ap of_listeners (equal b.names.listen.port header.dst_port (left (b.names.listen.port == header.dst_port) _ so))
+listening b ip header so = ap of_listeners (equal b.names.listen.port header.dst_port (and_parts (b.names.listen.port == header.dst_port) _ so).0)
 
 of_either : (b : Block) (ip : IpRepr) (header : TcpHeader) (state : State) → b.state ≡ state → accepts_in state b ip header ≡ true
     → (of_block b ≡ of_ports header.dst_port header.src_port) ⊎ (of_block b ≡ of_listeners header.dst_port)
@@ -78,7 +71,7 @@ of_connection v ip header off so =
 pub of_datagram : (cx : ContextValue) (s : Socket) (ip : IpRepr) (udp : UdpRepr) → accepts_datagram cx s ip udp ≡ true
     → (key_of s ≡ of_port udp.dst_port) ⊎ (key_of s ≡ of_clients)
 of_datagram cx (Kind.Udp v) ip udp so = inl (ap of_port (equal v.settings.endpoint.port udp.dst_port
-    (left (v.settings.endpoint.port == udp.dst_port) (Udps.takes_address cx v.settings.endpoint.addr (destination_of ip)) (right (Udps.is_open v) _ so))))
+    (and_parts (v.settings.endpoint.port == udp.dst_port) (Udps.takes_address cx v.settings.endpoint.addr (destination_of ip)) (and_parts (Udps.is_open v) _ so).1).0))
 of_datagram cx (Kind.Dhcpv4 v) ip udp so = inr refl
 of_datagram cx (Kind.Dns v) ip udp so = inr refl
 of_datagram cx other ip udp so = absurd cc

@@ -1,7 +1,6 @@
 use Rattle.std.proofs.Common.{◌<◌, length, arith}
-use Rattle.std.proofs.lemmas.Option.{slice_get_read}
+use Rattle.std.proofs.lemmas.Option.{slice_get_read, slice_get_within}
 use Rattle.agenda.specs.Links.{buckets}
-use Rattle.agenda.proofs.Linking.{got_within}
 use Rattle.agenda.proofs.Relinked.{changed}
 use Rattle.agenda.proofs.chains.Chains.change.Goals as goal
 
@@ -9,7 +8,7 @@ pub returns-clause-linked : goal.returns-clause-linked
 returns-clause-linked c =
     let size = length c.args.self.now.first.items in
     let within : c.args.at < length c.args.self.now.links.items =
-    omega (arith, c.requires.linked.each, got_within (buckets size c.args.keys.now) c.args.at c.args.from c.requires.is_in) in
+    omega (arith, c.requires.linked.each, slice_get_within (buckets size c.args.keys.now) c.args.at c.args.from c.requires.is_in) in
     let linked = changed (buckets size c.args.keys.now) c.args.self.now.first.items c.args.self.now.links.items
     c.args.at c.args.from c.args.to c.last_before-left.result c.last_before-right.result c.index-next.result.now c.link_behind-behind.result
     c.requires.linked c.requires.is_in c.requires.other c.requires.from c.requires.to c.last_before-left.ensures c.last_before-right.ensures

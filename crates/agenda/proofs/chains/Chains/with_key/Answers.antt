@@ -1,9 +1,8 @@
 use Rattle.std.proofs.Common.{◌≡◌, ◌∙◌, ◌<◌, suc, length, List, ℕ, Option, Some, sym, subst, ap, arith}
-use Rattle.std.proofs.lemmas.Option.{slice_get_read, slice_get-get_or, get_or_from_slice_get}
+use Rattle.std.proofs.lemmas.Option.{slice_get_read, slice_get-get_or, get_or_from_slice_get, slice_get_within}
 use Rattle.std.specs.Prelude.{slice_get}
 use Rattle.agenda.specs.Keys.{IsNextWith}
 use Rattle.agenda.specs.Links.{bucket_of, buckets, IsIn}
-use Rattle.agenda.proofs.Linking.{got_within}
 use Rattle.agenda.proofs.Walks.{IsSought, sought_on, sought_here, nearer, sought_in, length_buckets, bucket_within}
 use Rattle.agenda.proofs.chains.Chains.with_key.Goals as goal
 
@@ -24,7 +23,7 @@ module _ (c : goal.After-link-in-Some-1) where
   is_in = sought_in c.args.keys.now all bucket c.args.key c.in-Some.at c.args.begin c.requires.begin here
 
   within : c.in-Some.at < length c.args.keys.now
-  within = omega (arith, got_within all c.in-Some.at bucket is_in, length_buckets size c.args.keys.now)
+  within = omega (arith, slice_get_within all c.in-Some.at bucket is_in, length_buckets size c.args.keys.now)
 
   leads : slice_get c.args.self.now.links.items c.in-Some.at ≡ Some c.index-link.result.now
   leads = slice_get_read c.args.self.now.links.items (length c.args.self.now.links.items) c.in-Some.at c.index-link.result.now (cc)
@@ -64,5 +63,5 @@ returns-then-keys-at c = sought_here c.args.keys.now all bucket c.args.key c.in-
       within = omega (
         arith,
         length_buckets (length c.args.self.now.first.items) c.args.keys.now,
-        got_within all c.in-Some.at bucket (sought_in c.args.keys.now all bucket c.args.key c.in-Some.at c.args.begin c.requires.begin here),
+        slice_get_within all c.in-Some.at bucket (sought_in c.args.keys.now all bucket c.args.key c.in-Some.at c.args.begin c.requires.begin here),
       )
