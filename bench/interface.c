@@ -12,7 +12,7 @@ uint32_t bench_idle(uint16_t sockets, uint32_t polls);
 uint32_t bench_trips(const uint8_t *payload, size_t len, uint8_t *out, size_t out_len, size_t mtu, uint32_t trips, bool polls);
 uint32_t bench_trips_at_once(const uint8_t *payload, size_t len, uint8_t *out, size_t out_len, size_t mtu, uint32_t trips);
 uint64_t bench_stream(const uint8_t *text, size_t len, uint8_t *out, size_t out_len, size_t mtu, size_t room, uint64_t total, bool check,
-                      bool calm, uint16_t idle);
+                      bool calm, uint16_t idle, bool client);
 uint64_t bench_frames(const uint8_t *text, size_t len, uint8_t *out, size_t out_len, size_t mtu, size_t room, uint64_t total, bool calm, bool back);
 
 enum { ROUNDS = 9, PERIOD = 65521, READ = 65536, TEXT = READ + PERIOD, BUFFER = 262144 };
@@ -66,20 +66,20 @@ static double trips(size_t len, size_t mtu, uint32_t count, enum way way) {
 // Bytes a second.
 static double stream(size_t mtu, size_t room, uint64_t total, bool check, bool calm, uint16_t idle_sockets) {
     double start = now();
-    uint64_t came = bench_stream(text, TEXT, out, READ, mtu, room, total, check, calm, idle_sockets);
+    uint64_t came = bench_stream(text, TEXT, out, READ, mtu, room, total, check, calm, idle_sockets, false);
     double took = now() - start;
     if (came < total) fail("other bytes were read, or the transfer stood still");
     return came / took;
 }
 
-// Bytes a second among so many idle sockets of both hosts, without what making the hosts takes.
-static double among(uint16_t sockets, uint64_t total) {
+// Bytes a second among so many idle sockets of both hosts, and behind a client of DHCP, without what making the hosts takes.
+static double among(uint16_t sockets, uint64_t total, bool client) {
     double start = now();
-    uint64_t came = bench_stream(text, TEXT, out, READ, 1500, 65536, total, true, false, sockets);
+    uint64_t came = bench_stream(text, TEXT, out, READ, 1500, 65536, total, true, false, sockets, client);
     double took = now() - start;
     if (came < total) fail("other bytes were read, or the transfer stood still");
     start = now();
-    bench_stream(text, TEXT, out, READ, 1500, 65536, 0, true, false, sockets);
+    bench_stream(text, TEXT, out, READ, 1500, 65536, 0, true, false, sockets, client);
     return came / (took - (now() - start));
 }
 
@@ -166,10 +166,10 @@ static void show_stream(size_t mtu, size_t room, bool calm) {
            calm ? ", Nagle and a delay" : "", best / 1e6, (mtu - 40) / best * 1e9, acks(mtu, room, 16 * MIB, calm));
 }
 
-static void show_among(uint16_t sockets) {
+static void show_among(uint16_t sockets, bool client) {
     double best = 0;
-    for (int r = 0; r < ROUNDS; r++) keep_best(&best, among(sockets, sockets > 1000 ? 2048 * MIB : 64 * MIB));
-    printf("MTU  1500, among %5u idle sockets: %7.1f MB/s\n", sockets, best / 1e6);
+    for (int r = 0; r < ROUNDS; r++) keep_best(&best, among(sockets, sockets > 1000 ? 2048 * MIB : 64 * MIB, client));
+    printf("MTU  1500, among %5u idle sockets%s: %7.1f MB/s\n", sockets, client ? ", behind a client of DHCP" : "", best / 1e6);
 }
 
 // What a run allocates, and one of 16 times its length.
@@ -209,8 +209,8 @@ static void one(char **word, int count) {
         printf("%.1f\n", stream(n[0], n[1], n[2] * MIB, false, calm, 0) / 1e6);
     } else if (count == 4 && (!strcmp(word[0], "acks") || !strcmp(word[0], "calm_acks"))) {
         printf("%.1f\n", acks(n[0], n[1], n[2] * MIB, word[0][0] == 'c'));
-    } else if (count == 3 && !strcmp(word[0], "among")) {
-        printf("%.1f\n", among((uint16_t)n[0], n[1] * MIB) / 1e6);
+    } else if (count == 3 && (!strcmp(word[0], "among") || !strcmp(word[0], "behind"))) {
+        printf("%.1f\n", among((uint16_t)n[0], n[1] * MIB, word[0][0] == 'b') / 1e6);
     } else if (count == 4 && !strcmp(word[0], "trips")) {
         printf("%.0f\n", trips(n[0], n[1], (uint32_t)n[2], STEPS));
     } else if (count == 4 && !strcmp(word[0], "polled")) {
@@ -223,7 +223,7 @@ static void one(char **word, int count) {
         printf("%.1f\n", idle((uint16_t)n[0], (uint32_t)n[1]));
     } else {
         fail("interface [stream MTU ROOM MIB | calm MTU ROOM MIB | acks MTU ROOM MIB | calm_acks MTU ROOM MIB | among SOCKETS MIB"
-             " | trips LENGTH MTU COUNT | polled LENGTH MTU COUNT | at_once LENGTH MTU COUNT | idle SOCKETS POLLS | limit LENGTH ROOM COPIES MIB]");
+             " | behind SOCKETS MIB | trips LENGTH MTU COUNT | polled LENGTH MTU COUNT | at_once LENGTH MTU COUNT | idle SOCKETS POLLS | limit LENGTH ROOM COPIES MIB]");
     }
 }
 
@@ -248,9 +248,10 @@ int main(int argc, char **argv) {
     show_stream(1500, 262144, false);
     show_stream(65535, 262144, false);
     show_stream(65535, 262144, true);
-    show_among(1);
-    show_among(100);
-    show_among(10000);
+    show_among(1, false);
+    show_among(100, false);
+    show_among(10000, false);
+    show_among(10000, true);
     puts("allocations of a whole run, the making of both hosts among them");
     show_allocations();
     return 0;
