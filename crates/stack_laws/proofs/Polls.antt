@@ -40,5 +40,6 @@ pub mod Leave
 pub mod Inboxes
 pub mod BetweenPorts
 pub mod SomeRooms
+pub mod SomeHosts
 pub mod Pieces
 pub mod Solicited

@@ -14,5 +14,6 @@ pub mod Leave
 pub mod Ready
 pub mod Exchanged
 pub mod Served
+pub mod Numerals
 pub mod Partners
 pub mod Moving
