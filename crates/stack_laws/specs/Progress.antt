@@ -15,5 +15,6 @@ pub mod Ready
 pub mod Exchanged
 pub mod Served
 pub mod Numerals
+pub mod OnEthernet
 pub mod Partners
 pub mod Moving

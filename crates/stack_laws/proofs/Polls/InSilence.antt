@@ -41,7 +41,7 @@ abbrev Place : Type 0
 Place = SocketStorage Socket
 
 -- in this host the silence lasts
-abbrev IsSilent : InnerValue → Type 0
+abbrev pub IsSilent : InnerValue → Type 0
 IsSilent i = int_lt i.moment i.neighbors.silent ≡ true
 
 -- it asks for nobody
@@ -97,11 +97,11 @@ module _ {D : Type 0} (moves : D → Move → D → Type 0) (turn : Option IpAdd
     item_keeps None (Some item') turned turns = absurd turns
     item_keeps (Some item) None turned turns = absurd turns
 
-    place_keeps : (p p' : Place) (turned : Turned) → PlaceTurns moves turn s p turned s' p' → Keeps
+    pub place_keeps : (p p' : Place) (turned : Turned) → PlaceTurns moves turn s p turned s' p' → Keeps
     place_keeps p p' turned turns = item_keeps p.inner p'.inner turned turns
 
   -- the silence lasts in the next turn
-  still_silent : (i j : InnerValue) → IsSameHost i j → j.neighbors ≡ i.neighbors → IsSilent i → IsSilent j
+  pub still_silent : (i j : InnerValue) → IsSameHost i j → j.neighbors ≡ i.neighbors → IsSilent i → IsSilent j
   still_silent i j same kept silent =
       ap (λ (m : ℤ). int_lt m j.neighbors.silent) (ap (λ (x : InnerValue). x.moment) same)
       ∙ ap (λ (m : ℤ). int_lt i.moment m) (ap (λ (c : CacheValue). c.silent) kept) ∙ silent

@@ -1,20 +1,31 @@
 //! What the laws of queued datagrams ask for is met, on numerals.
 
-ghost use Rattle.std.specs.Prelude.{◌≡◌, ◌≢◌, true, IsTrue, [], ◌∷◌, length, None};
+ghost use Rattle.std.specs.Prelude.{◌≡◌, ◌≢◌, true, IsTrue, List, [], ◌∷◌, length, slice_get, None, Some};
+ghost use Rattle.std.specs.List.{AllByRecursion};
 ghost use Rattle.net_base.specs.Packets.{contents};
 ghost use Rattle.ip_packet.specs.Ip.{source_of};
 ghost use Rattle.ip_wire.specs.HardwareAddress.TheVariants as Hardware;
+ghost use Rattle.ip_wire.specs.IpAddress.TheVariants as Address;
+ghost use Rattle.interface.specs.Egress.{EgressStep};
 ghost use Rattle.interface.specs.Polls.{Polls};
 ghost use Rattle.interface.specs.Taken.{CanRead, HasWidths};
 ghost use Rattle.interface_tables.specs.Inner.{at_moment};
+ghost use Rattle.lan.specs.declared.at_link.history.event.Side.TheVariants.{A, B};
 ghost use Rattle.lan_base.specs.Port.{PortMove, has_leave};
-ghost use Rattle.stack_laws.specs.Progress.Delivered.{as_received, reader_of};
+ghost use Rattle.stack_laws.specs.Progress.Delivered.{WaitsBehind, as_received, reader_of};
 ghost use Rattle.stack_laws.specs.Progress.Inbox.{WaitsAmongThem};
 ghost use Rattle.stack_laws.specs.Progress.Leave.{BringsWhatWent};
 ghost use Rattle.stack_laws.specs.Progress.Numerals.{datagram, expecting, now, packet, queuing, reached, relieved, sender};
+ghost use Rattle.stack_laws.specs.Progress.OnEthernet as Ethernets;
+ghost use Rattle.stack_laws.specs.Progress.OnEthernet.{FourSteps, TwoSteps, datagram_to, exchange_of, for_b, hops, in_vain, knowing_nobody, second, station};
+ghost use Rattle.stack_laws.specs.Progress.OnEthernet.{knowing_b, steps_of, tenth};
 ghost use Rattle.stack_laws.specs.Progress.Queued.{CanGo, HasTurn, ports_of};
 ghost use Rattle.stack_laws.specs.Progress.Ready.{HasRoomBehind, IsExpectedThroughout};
+ghost use Rattle.stack_laws.specs.Progress.Rounds.{AreRounds, IsOneOf, PassesOver, Round};
+ghost use Rattle.stack_laws.specs.Progress.Served.{CanDeliver, WaitsForHop, first_of};
+ghost use Rattle.stack_laws.specs.Progress.Turns.{AreInOrder, IsAskedFor, IsWaitedFor};
 ghost use Rattle.stack_laws.specs.Worlds.Datagrams.{bound_b, queued_a};
+ghost use Rattle.stack_laws.specs.Worlds.Hosts.{address};
 
 /// Law: there are two hosts at ports of the simulated link, on a medium of bare packets, that meet all that `a_queued_datagram_arrives_between_ports` asks
 /// for: abc is queued at the one, goes in one step of its poll, and is read in one step of the other's, where it then waits.
@@ -36,4 +47,53 @@ pub fn two_hosts_meet_what_a_queued_datagram_asks_for()
     ensures hears { Polls PortMove now 1 expecting true reached }
     ensures their_leave { IsTrue (has_leave reached.device.link) }
     ensures arrives { WaitsAmongThem reached.places 0 bound_b (as_received (source_of packet.header) queued_a.settings datagram) }
+{}
+
+/// Law: there are hosts on one Ethernet that meet what `a_neighbor_has_its_turn` and `a_waiting_datagram_arrives` ask of the steps of the one: two of its
+/// sockets wait, the first for B, whose first question was lost, the other for an address that nobody has, which comes first. So do the rounds of
+/// `turns_come_round`.
+pub fn a_host_meets_what_waiting_datagrams_ask_for()
+    ensures begins { EgressStep PortMove (second 0) knowing_nobody None in_vain }
+    ensures steps { TwoSteps }
+    ensures order { (t : TwoSteps) → AreInOrder PortMove (steps_of t) }
+    ensures waited { (t : TwoSteps) → AllByRecursion (IsWaitedFor PortMove (Address.Ipv4 (address B)) hops) (steps_of t) }
+    ensures waits { (t : TwoSteps)
+        → AllByRecursion (WaitsForHop PortMove hops 0 for_b (datagram_to (address B)) (Address.Ipv4 (address B)) Ethernets.packet) (steps_of t) }
+    ensures ours { IsOneOf (Address.Ipv4 (address B)) hops }
+    ensures asks { (t : TwoSteps) → IsAskedFor PortMove (Address.Ipv4 (address B)) (steps_of t) }
+    ensures rounds { (rounds : List Round) × (length rounds ≡ 1) × AreRounds rounds
+        × AllByRecursion (PassesOver (Address.Ipv4 (address B)) (Some (second 1)) hops) rounds }
+{}
+
+/// Law: and what `a_waiting_datagram_arrives` asks of an exchange is met by one that begins with the second of these steps: B answers, and reads abc.
+pub fn a_neighbor_meets_what_an_exchange_asks_for()
+    ensures steps { FourSteps }
+    ensures among { (t : TwoSteps) (f : FourSteps) → slice_get (steps_of t) 1 ≡ Some (first_of (exchange_of t f)) }
+    ensures delivers { (t : TwoSteps) (f : FourSteps)
+        → CanDeliver (exchange_of t f) (station A) (station B) (address A) (address B) Ethernets.packet for_b.settings (datagram_to (address B)) 0
+        (record { waiting = None }) bound_b }
+    ensures arrives { WaitsBehind Ethernets.reached.places 0 (record { waiting = None }) bound_b
+        (as_received (source_of Ethernets.packet.header) for_b.settings (datagram_to (address B))) }
+{}
+
+/// Law: as soon as A knows B, both meet on Ethernet what `a_queued_datagram_arrives_between_ports` asks for, too.
+pub fn neighbors_meet_what_a_queued_datagram_asks_for()
+    ensures widths { HasWidths (at_moment (tenth 2) knowing_b.host.inner) }
+    ensures turn { HasTurn (at_moment (tenth 2) knowing_b.host.inner) knowing_b.places 0 for_b }
+    ensures queued { contents for_b.queued ≡ datagram_to (address B) ∷ [] }
+    ensures port { (datagram_to (address B)).0.endpoint.port ≢ 0 }
+    ensures goes { CanGo (at_moment (tenth 2) knowing_b.host.inner) for_b.settings (datagram_to (address B)) (Hardware.Ethernet (station B)) Ethernets.packet }
+    ensures bare { knowing_b.device.link.waiting ≡ [] }
+    ensures sends { Polls PortMove (tenth 2) 1 knowing_b true Ethernets.relieved }
+    ensures refuses { Ethernets.relieved.device.link.refusals ≡ knowing_b.device.link.refusals }
+    ensures leave { IsTrue (has_leave Ethernets.relieved.device.link) }
+    ensures brings { BringsWhatWent knowing_b.device Ethernets.relieved.device Ethernets.expecting.device 1 }
+    ensures reads { CanRead (at_moment (tenth 2) knowing_b.host.inner) (Hardware.Ethernet (station B)) (reader_of Ethernets.expecting.host.inner) }
+    ensures expected { IsExpectedThroughout (at_moment (tenth 3) Ethernets.expecting.host.inner) Ethernets.expecting.places (Hardware.Ethernet (station B))
+        Ethernets.packet.header (ports_of for_b.settings (datagram_to (address B))) 0 (record { waiting = None }) bound_b }
+    ensures room { HasRoomBehind Ethernets.expecting.device.link.waiting Ethernets.expecting.host.slots bound_b.received 1 (length (datagram_to (address B)).1) }
+    ensures hears { Polls PortMove (tenth 3) 1 Ethernets.expecting true Ethernets.reached }
+    ensures their_leave { IsTrue (has_leave Ethernets.reached.device.link) }
+    ensures arrives { WaitsAmongThem Ethernets.reached.places 0 bound_b
+        (as_received (source_of Ethernets.packet.header) for_b.settings (datagram_to (address B))) }
 {}
