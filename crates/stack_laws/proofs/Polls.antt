@@ -26,6 +26,7 @@ pub mod Searches
 pub mod Waited
 pub mod Rotates
 pub mod StillNeeded
+pub mod Known
 pub mod InSilence
 pub mod StillFirst
 pub mod Exchanged

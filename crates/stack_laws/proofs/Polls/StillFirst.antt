@@ -1,6 +1,5 @@
 -- Whoever is asked for in a step of the way out, a datagram whose next hop isn't known stays the first of its socket.
-use Rattle.std.proofs.Common.{◌≡◌, ℕ, zero, suc, ◌+◌, Bool, true, false, not, ◌&&◌, ◌||◌, if◌then◌else◌, ◌⊎◌, inl, inr, ℤ, int_lt, List, [], ◌∷◌, ◌++◌, length, arith, append_assoc, length-append}
-use Rattle.std.proofs.Common.{Option, Some, None, is_some, refl, sym, ap, ◌∙◌, subst}
+use Rattle.std.proofs.Common.{◌≡◌, ℕ, zero, suc, ◌+◌, Bool, true, false, not, ◌&&◌, ◌||◌, if◌then◌else◌, ◌⊎◌, inl, inr, ℤ, int_lt, List, [], ◌∷◌, ◌++◌, length, arith, append_assoc, length-append, Option, Some, None, is_some, refl, sym, ap, ◌∙◌, subst}
 use Rattle.std.specs.Prelude.{nat_lt, slice_get}
 use Rattle.net_base.specs.Device.{Move}
 use Rattle.net_base.specs.Packets.{contents}
@@ -10,31 +9,25 @@ use Rattle.ip_wire.specs.HardwareAddress.{HardwareAddress}
 use Rattle.ip_wire.specs.HardwareAddress.TheVariants as Hardware
 use Rattle.ip_wire.specs.Ip.{destination_of}
 use Rattle.ip_wire.specs.IpAddress.{IpAddress}
-use Rattle.ip_wire.specs.IpRepr.{IpRepr}
 use Rattle.sockets.specs.SocketValue as Datagrams
 use Rattle.sockets.specs.Offers.{left_with}
 use Rattle.sockets.specs.Udp.{UdpValue, UdpSettings, TakesDatagram}
 use Rattle.sockets.specs.declared.udp.UdpMetadata.{UdpMetadata}
-use Rattle.interface_ingress.specs.Offer as Answer
-use Rattle.interface_ingress.specs.Offer.TheVariants as Offer
 use Rattle.interface_ingress.specs.Packet.{PacketValue}
 use Rattle.interface_ingress.specs.Socket.{Socket}
 use Rattle.interface_ingress.specs.Socket.TheVariants as Kind
-use Rattle.interface_ingress.specs.Sockets.{offered_by}
 use Rattle.interface_tables.specs.Best.{at_place}
-use Rattle.interface_tables.specs.Inner.{InnerValue, at_moment, all_stations, context_of, group_station, has_neighbor, is_crowded, is_known_hop, is_known_on, is_local_broadcast}
-use Rattle.interface_tables.specs.Inner.{link_address, link_by, link_of_hop, link_on, next_hop}
+use Rattle.interface_tables.specs.Inner.{InnerValue, at_moment, all_stations, context_of, group_station, has_neighbor, is_crowded, is_known_hop, is_known_on, is_local_broadcast, link_address, link_by, link_of_hop, link_on, next_hop}
 use Rattle.interface_tables.specs.Neighbor.{CacheValue, answer_by, has_failed, is_found, lookup, place_of, requested, search_room, unless_failed}
 use Rattle.interface_tables.specs.declared.link.LinkAddress.{LinkAddress}
 use Rattle.interface_tables.specs.declared.link.LinkAddress.TheVariants as Link
 use Rattle.interface_tables.specs.declared.neighbor.Answer.{Answer}
 use Rattle.interface_tables.specs.declared.neighbor.Answer.TheVariants as Known
 use Rattle.interface_tables.specs.declared.neighbor.Neighbor.{Neighbor}
-use Rattle.interface_egress.specs.Departing.{host_after}
 use Rattle.interface_egress.specs.Departure.{target_of}
 use Rattle.interface_egress.specs.GoesOut.{Asked, GoesOut}
 use Rattle.interface_egress.specs.Meta.{freed, has_waited, missed, neighbor_by}
-use Rattle.interface_egress.specs.Plan.{never_leaves, plan_by, plan_of}
+use Rattle.interface_egress.specs.Plan.{never_leaves, plan_by}
 use Rattle.interface_egress.specs.declared.frame.Question.{Question}
 use Rattle.interface_egress.specs.declared.plan.Plan.{Plan}
 use Rattle.interface_egress.specs.declared.plan.Plan.TheVariants as Way
@@ -44,15 +37,13 @@ use Rattle.interface_egress.specs.declared.socket_set.Item.{Item}
 use Rattle.interface_egress.specs.declared.socket_set.SocketStorage.{SocketStorage}
 use Rattle.interface_egress.specs.declared.way_out.Sent.{Sent}
 use Rattle.interface_egress.specs.declared.way_out.Sent.TheVariants as Outcome
-use Rattle.interface_egress.proofs.Changes.{changes}
 use Rattle.interface.specs.Awaited.{turn_of}
 use Rattle.interface.specs.Egress.{EgressStep, sending}
 use Rattle.interface.specs.Host.{Sender}
 use Rattle.interface.specs.Pass.{Pass, Passed}
 use Rattle.interface.specs.SameHost.{IsSameHost}
 use Rattle.interface.specs.State.{State}
-use Rattle.interface.specs.Turn.{Answers, ItemTurns, Leaves, PlaceTurns, SendsBy, TurnsIf, crowded_time, held, is_given_up, is_heard, is_known, is_out_of_turn}
-use Rattle.interface.specs.Turn.{is_waiting, let_through, outcome_by, plan_at, settled_by, waits_until}
+use Rattle.interface.specs.Turn.{ItemTurns, Leaves, PlaceTurns, TurnsIf, crowded_time, held, is_given_up, is_heard, is_known, is_out_of_turn, is_waiting, let_through, outcome_by, plan_at, settled_by, waits_until}
 use Rattle.interface.specs.WayOut.{Egress}
 use Rattle.interface.specs.declared.turn.Turned.{Turned}
 use Rattle.interface.specs.declared.turn.Turned.TheVariants as Turn
@@ -64,6 +55,7 @@ use Rattle.stack_laws.proofs.Polls.Asks.{asks_plan, asks_under}
 use Rattle.stack_laws.proofs.Polls.First.{host_then, same_address}
 use Rattle.stack_laws.proofs.Polls.Goes.{kept, stands_at}
 use Rattle.stack_laws.proofs.Polls.InSilence.{IsSilent, place_keeps, still_silent}
+use Rattle.stack_laws.proofs.Polls.Known.{KeepsOrAsks, place_leaves}
 use Rattle.stack_laws.proofs.Polls.OurLeave.{OursLeaves, our_leave}
 use Rattle.stack_laws.proofs.Polls.Passes.{clears_same}
 use Rattle.stack_laws.proofs.Polls.Searches.{others_fail_so}
@@ -80,54 +72,6 @@ no_one = None
 
 abbrev place_with : Option (Item Socket) → Place
 place_with o = record { inner = o }
-
--- WHAT A TURN LEAVES OF WHAT IS KNOWN OF NEIGHBOURS: all, or all but a question
-
-abbrev KeepsOrAsks : InnerValue → CacheValue → Type 0
-KeepsOrAsks i c = (c ≡ i.neighbors) ⊎ ((other : IpAddress) × (c ≡ requested i.neighbors other i.moment))
-
-after : (plan : Plan) (sent : Sent) (h : IpRepr) (i : InnerValue) → KeepsOrAsks i (host_after plan sent h i).neighbors
-after (Way.Ask q) Outcome.Waits h i = inr (target_of q, refl)
-after (Way.Ask q) Outcome.Gone h i = inl refl
-after (Way.Ask q) Outcome.Dropped h i = inl refl
-after (Way.Ask q) Outcome.Busy h i = inl refl
-after (Way.Ask q) Outcome.Refused h i = inl refl
-after Way.Drop sent h i = inl refl
-after Way.NoRoute sent h i = inl refl
-after Way.Wait sent h i = inl refl
-after Way.Busy sent h i = inl refl
-after (Way.Go to) sent h i = inl refl
-after (Way.Cut to) sent h i = inl refl
-
-module _ {D : Type 0} (moves : D → Move → D → Type 0) (turn : Option IpAddress) (s s' : Sender D) where
-  abbrev Leave : Type 0
-  Leave = KeepsOrAsks s.inner s'.inner.neighbors
-
-  leaves_leave : (m : Meta) (p : PacketValue) (sent : Sent) → Leaves moves turn s m p sent s' → Leave
-  leaves_leave m p sent (inl rests) = inl (ap (λ (i : InnerValue). i.neighbors) rests.2)
-  leaves_leave m p sent (inr goes) =
-      subst (λ (c : CacheValue). KeepsOrAsks s.inner c)
-      (sym (ap (λ (i : InnerValue). i.neighbors) (changes moves goes.0 s'.device s.inner s'.inner s.left s'.left p (is_some s.left) sent goes.2).1))
-      (after (plan_of s.inner (is_some s.left) p.header) sent p.header s.inner)
-
-  sends_leave : (o : Option PacketValue) (item item' : Item Socket) (changed : Bool) (turned : Turned)
-      → SendsBy moves turn o s item changed turned s' item' → Leave
-  sends_leave None item item' changed turned sends = absurd sends
-  sends_leave (Some p) item item' changed turned sends = leaves_leave item.meta sends.0 sends.3.0 sends.3.1
-
-  answers_leave : (answer : Answer.Offer) (item item' : Item Socket) (turned : Turned) → Answers moves turn answer s item turned s' item' → Leave
-  answers_leave (Offer.Silent changed) item item' turned answers = inl (ap (λ (x : Sender D). x.inner.neighbors) answers.1)
-  answers_leave (Offer.Packet changed) item item' turned answers = sends_leave (offered_by item.socket) item item' changed turned answers
-
-  turns_leave : (waits : Bool) (item item' : Item Socket) (turned : Turned) → TurnsIf moves turn waits s item turned s' item' → Leave
-  turns_leave true item item' turned turns = inl (ap (λ (x : Sender D). x.inner.neighbors) turns.1)
-  turns_leave false item item' turned turns = answers_leave turns.0 (record item { socket = turns.1 }) item' turned turns.3
-
-  item_leaves : (o o' : Option (Item Socket)) (turned : Turned) → ItemTurns moves turn o s turned s' o' → Leave
-  item_leaves None None turned turns = inl (ap (λ (x : Sender D). x.inner.neighbors) turns.1)
-  item_leaves (Some item) (Some item') turned turns = turns_leave (is_waiting s.inner item.meta) (let_through s.inner item) item' turned turns
-  item_leaves None (Some item') turned turns = absurd turns
-  item_leaves (Some item) None turned turns = absurd turns
 
 -- WHO ISN'T KNOWN BEHIND A QUESTION FOR WHOMEVER ISN'T KNOWN YET
 
@@ -373,15 +317,15 @@ module _ (v : UdpValue) (d : UdpMetadata × List ℕ) (more : List (UdpMetadata 
           let at : x'.inner.moment ≡ i.moment = same_moment ∙ ap (λ (k : InnerValue). k.moment) through.same in
           inr (
             ap (λ (m : ℤ). int_lt m x'.inner.neighbors.silent) at
-                ∙ ap (λ (c : CacheValue). int_lt i.moment c.silent) (asks.1 ∙ now) ∙ later i.neighbors asks.0 i.moment,
+                ∙ ap (λ (c : CacheValue). int_lt i.moment c.silent) (asks.2 ∙ now) ∙ later i.neighbors asks.0 i.moment,
             ap (λ (m : ℤ). lookup x'.inner.neighbors hop m) at
-                ∙ ap (λ (c : CacheValue). lookup c hop i.moment) (asks.1 ∙ now)
+                ∙ ap (λ (c : CacheValue). lookup c hop i.moment) (asks.2 ∙ now)
                 ∙ still_limited i.neighbors hop asks.0 i.moment link.unknown (room_left (nat_lt (length i.neighbors.searches) search_room) has.room),
           )
 
       by : (x.inner.neighbors ≡ i.neighbors) ⊎ (IsSilent x.inner × (lookup x.inner.neighbors hop x.inner.moment ≡ Known.RateLimited))
           → (x'.inner.neighbors ≡ i.neighbors) ⊎ (IsSilent x'.inner × (lookup x'.inner.neighbors hop x'.inner.moment ≡ Known.RateLimited))
-      by (inl begun) = begun_here begun (item_leaves moves turn x x' q.inner q'.inner turned goes)
+      by (inl begun) = begun_here begun (place_leaves moves turn x x' q q' turned goes)
       by (inr quiet) =
           let keeps : x'.inner.neighbors ≡ x.inner.neighbors = place_keeps moves turn x x' quiet.0 q q' turned goes in
           inr (

@@ -1,7 +1,8 @@
 -- Two hosts on numerals that meet what the laws of queued datagrams ask for. A has 192.168.1.1, B has 192.168.1.2, and each has one UDP socket with room
 -- for two datagrams of 8 bytes each way.
-use Rattle.std.specs.Prelude.{ℕ, ◌-◌, ℤ, pos, true, List, [], ◌∷◌, length}
+use Rattle.std.specs.Prelude.{◌≡◌, ℕ, ◌-◌, ℤ, pos, true, List, [], ◌∷◌, length}
 use Rattle.ip_wire.specs.IpProtocol.TheVariants as Protocol
+use Rattle.net_base.specs.Device.{Move, Took, Empty, Allowed, Emitted, Denied}
 use Rattle.net_base.specs.Medium.{Medium}
 use Rattle.net_base.specs.Medium.TheVariants as Medium
 use Rattle.lan_base.specs.Port.{PortValue, unused_end, added, ready_after}
@@ -20,6 +21,15 @@ use Rattle.lan.specs.declared.at_link.history.event.Side.TheVariants.{A, B}
 use Rattle.stack_laws.specs.Worlds.Datagrams.{bound_b, offered_a, queued_a, waiting_b}
 use Rattle.stack_laws.specs.Worlds.Hosts.{endpoint, packet_to, text}
 use Rattle.stack_laws.specs.Progress.Queued.{frame_under}
+
+-- A QUEUE OF FRAMES that gives leave whatever comes: a look takes the first of them, and what goes out or is refused leaves them
+
+abbrev pub QueueMove : List (List ℕ) → Move → List (List ℕ) → Type 0
+QueueMove old (Took t frame) new = old ≡ frame ∷ new
+QueueMove old (Empty t) new = (old ≡ []) × (new ≡ old)
+QueueMove old (Allowed t leave) new = (leave ≡ true) × (new ≡ old)
+QueueMove old (Emitted frame) new = new ≡ old
+QueueMove old (Denied len) new = new ≡ old
 
 -- THE DATAGRAM: abc, from A's port 48896 to B's port 53
 

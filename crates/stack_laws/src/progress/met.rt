@@ -16,7 +16,7 @@ ghost use Rattle.stack_laws.specs.Progress.Delivered.{WaitsBehind, as_received, 
 ghost use Rattle.stack_laws.specs.Progress.Inbox.{WaitsAmongThem};
 ghost use Rattle.stack_laws.specs.Progress.Leave.{BringsWhatWent};
 ghost use Rattle.stack_laws.specs.Progress.Numerals.{datagram, expecting, now, packet, queuing, reached, relieved, sender};
-ghost use Rattle.stack_laws.specs.Progress.OnEthernet as Ethernets;
+ghost use Rattle.stack_laws.specs.Progress.OnEthernet as Ethernet;
 ghost use Rattle.stack_laws.specs.Progress.OnEthernet.{FourSteps, TwoSteps, datagram_to, exchange_of, for_b, hops, in_vain, knowing_nobody, second, station};
 ghost use Rattle.stack_laws.specs.Progress.OnEthernet.{knowing_b, steps_of, tenth};
 ghost use Rattle.stack_laws.specs.Progress.Queued.{CanGo, HasTurn, ports_of};
@@ -58,7 +58,7 @@ pub fn a_host_meets_what_waiting_datagrams_ask_for()
     ensures order { (t : TwoSteps) → AreInOrder PortMove (steps_of t) }
     ensures waited { (t : TwoSteps) → AllByRecursion (IsWaitedFor PortMove (Address.Ipv4 (address B)) hops) (steps_of t) }
     ensures waits { (t : TwoSteps)
-        → AllByRecursion (WaitsForHop PortMove hops 0 for_b (datagram_to (address B)) (Address.Ipv4 (address B)) Ethernets.packet) (steps_of t) }
+        → AllByRecursion (WaitsForHop PortMove hops 0 for_b (datagram_to (address B)) (Address.Ipv4 (address B)) Ethernet.packet) (steps_of t) }
     ensures ours { IsOneOf (Address.Ipv4 (address B)) hops }
     ensures asks { (t : TwoSteps) → IsAskedFor PortMove (Address.Ipv4 (address B)) (steps_of t) }
     ensures rounds { (rounds : List Round) × (length rounds ≡ 1) × AreRounds rounds
@@ -70,10 +70,10 @@ pub fn a_neighbor_meets_what_an_exchange_asks_for()
     ensures steps { FourSteps }
     ensures among { (t : TwoSteps) (f : FourSteps) → slice_get (steps_of t) 1 ≡ Some (first_of (exchange_of t f)) }
     ensures delivers { (t : TwoSteps) (f : FourSteps)
-        → CanDeliver (exchange_of t f) (station A) (station B) (address A) (address B) Ethernets.packet for_b.settings (datagram_to (address B)) 0
+        → CanDeliver (exchange_of t f) (station A) (station B) (address A) (address B) Ethernet.packet for_b.settings (datagram_to (address B)) 0
         (record { waiting = None }) bound_b }
-    ensures arrives { WaitsBehind Ethernets.reached.places 0 (record { waiting = None }) bound_b
-        (as_received (source_of Ethernets.packet.header) for_b.settings (datagram_to (address B))) }
+    ensures arrives { WaitsBehind Ethernet.reached.places 0 (record { waiting = None }) bound_b
+        (as_received (source_of Ethernet.packet.header) for_b.settings (datagram_to (address B))) }
 {}
 
 /// Law: as soon as A knows B, both meet on Ethernet what `a_queued_datagram_arrives_between_ports` asks for, too.
@@ -82,18 +82,18 @@ pub fn neighbors_meet_what_a_queued_datagram_asks_for()
     ensures turn { HasTurn (at_moment (tenth 2) knowing_b.host.inner) knowing_b.places 0 for_b }
     ensures queued { contents for_b.queued ≡ datagram_to (address B) ∷ [] }
     ensures port { (datagram_to (address B)).0.endpoint.port ≢ 0 }
-    ensures goes { CanGo (at_moment (tenth 2) knowing_b.host.inner) for_b.settings (datagram_to (address B)) (Hardware.Ethernet (station B)) Ethernets.packet }
+    ensures goes { CanGo (at_moment (tenth 2) knowing_b.host.inner) for_b.settings (datagram_to (address B)) (Hardware.Ethernet (station B)) Ethernet.packet }
     ensures bare { knowing_b.device.link.waiting ≡ [] }
-    ensures sends { Polls PortMove (tenth 2) 1 knowing_b true Ethernets.relieved }
-    ensures refuses { Ethernets.relieved.device.link.refusals ≡ knowing_b.device.link.refusals }
-    ensures leave { IsTrue (has_leave Ethernets.relieved.device.link) }
-    ensures brings { BringsWhatWent knowing_b.device Ethernets.relieved.device Ethernets.expecting.device 1 }
-    ensures reads { CanRead (at_moment (tenth 2) knowing_b.host.inner) (Hardware.Ethernet (station B)) (reader_of Ethernets.expecting.host.inner) }
-    ensures expected { IsExpectedThroughout (at_moment (tenth 3) Ethernets.expecting.host.inner) Ethernets.expecting.places (Hardware.Ethernet (station B))
-        Ethernets.packet.header (ports_of for_b.settings (datagram_to (address B))) 0 (record { waiting = None }) bound_b }
-    ensures room { HasRoomBehind Ethernets.expecting.device.link.waiting Ethernets.expecting.host.slots bound_b.received 1 (length (datagram_to (address B)).1) }
-    ensures hears { Polls PortMove (tenth 3) 1 Ethernets.expecting true Ethernets.reached }
-    ensures their_leave { IsTrue (has_leave Ethernets.reached.device.link) }
-    ensures arrives { WaitsAmongThem Ethernets.reached.places 0 bound_b
-        (as_received (source_of Ethernets.packet.header) for_b.settings (datagram_to (address B))) }
+    ensures sends { Polls PortMove (tenth 2) 1 knowing_b true Ethernet.relieved }
+    ensures refuses { Ethernet.relieved.device.link.refusals ≡ knowing_b.device.link.refusals }
+    ensures leave { IsTrue (has_leave Ethernet.relieved.device.link) }
+    ensures brings { BringsWhatWent knowing_b.device Ethernet.relieved.device Ethernet.expecting.device 1 }
+    ensures reads { CanRead (at_moment (tenth 2) knowing_b.host.inner) (Hardware.Ethernet (station B)) (reader_of Ethernet.expecting.host.inner) }
+    ensures expected { IsExpectedThroughout (at_moment (tenth 3) Ethernet.expecting.host.inner) Ethernet.expecting.places (Hardware.Ethernet (station B))
+        Ethernet.packet.header (ports_of for_b.settings (datagram_to (address B))) 0 (record { waiting = None }) bound_b }
+    ensures room { HasRoomBehind Ethernet.expecting.device.link.waiting Ethernet.expecting.host.slots bound_b.received 1 (length (datagram_to (address B)).1) }
+    ensures hears { Polls PortMove (tenth 3) 1 Ethernet.expecting true Ethernet.reached }
+    ensures their_leave { IsTrue (has_leave Ethernet.reached.device.link) }
+    ensures arrives { WaitsAmongThem Ethernet.reached.places 0 bound_b
+        (as_received (source_of Ethernet.packet.header) for_b.settings (datagram_to (address B))) }
 {}
