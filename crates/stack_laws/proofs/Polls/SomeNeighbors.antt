@@ -250,7 +250,7 @@ second_step = (
 )
 
 pub two_steps : TwoSteps
-two_steps = record { first = first_step; second_one = second_step }
+two_steps = record { first = first_step; later = second_step }
 
 -- WHO WAITS IN THEM
 
@@ -338,7 +338,7 @@ module _ (t : TwoSteps) where
   x = record { moment = second 1; old = in_vain; answer = None; new = passed_over; goes = t.first }
 
   abbrev y : OutStep PortMove
-  y = record { moment = second 2; old = passed_over; answer = None; new = asked_again; goes = t.second_one }
+  y = record { moment = second 2; old = passed_over; answer = None; new = asked_again; goes = t.later }
 
   pub in_order : AreInOrder PortMove (steps_of t)
   in_order = ((le_of (second 1) (second 2) refl, refl), (tt, tt))

@@ -126,12 +126,12 @@ hops = Address.Ipv4 (address B) ∷ Address.Ipv4 nobodys ∷ []
 -- the steps in which both wait, whoever shows that they are steps
 pub record TwoSteps : Type 0 where
   pub first : EgressStep PortMove (second 1) in_vain None passed_over
-  pub second_one : EgressStep PortMove (second 2) passed_over None asked_again
+  pub later : EgressStep PortMove (second 2) passed_over None asked_again
 
 abbrev pub steps_of : TwoSteps → List (OutStep PortMove)
 steps_of t =
     record { moment = second 1; old = in_vain; answer = None; new = passed_over; goes = t.first }
-    ∷ record { moment = second 2; old = passed_over; answer = None; new = asked_again; goes = t.second_one }
+    ∷ record { moment = second 2; old = passed_over; answer = None; new = asked_again; goes = t.later }
     ∷ []
 
 -- THE EXCHANGE, a tenth of a second for each step
@@ -221,7 +221,7 @@ exchange_of t f = record {
   r3 = reached;
   first = None;
   second = Some true;
-  asks = t.second_one;
+  asks = t.later;
   answers = f.answers;
   waits = refl;
   hears = f.hears;

@@ -1,14 +1,16 @@
 //! What the laws of queued datagrams ask for is met, on numerals.
 
-ghost use Rattle.std.specs.Prelude.{◌≡◌, ◌≢◌, true, IsTrue, List, [], ◌∷◌, length, slice_get, None, Some};
+ghost use Rattle.std.specs.Prelude.{◌≡◌, ◌≢◌, pos, true, false, IsTrue, List, [], ◌∷◌, length, slice_get, None, Some};
 ghost use Rattle.std.specs.List.{AllByRecursion};
 ghost use Rattle.net_base.specs.Packets.{contents};
 ghost use Rattle.ip_packet.specs.Ip.{source_of};
 ghost use Rattle.ip_wire.specs.HardwareAddress.TheVariants as Hardware;
 ghost use Rattle.ip_wire.specs.IpAddress.TheVariants as Address;
+ghost use Rattle.interface_egress.specs.Meta.{has_waited};
 ghost use Rattle.interface.specs.Egress.{EgressStep};
 ghost use Rattle.interface.specs.Polls.{Polls};
 ghost use Rattle.interface.specs.Taken.{CanRead, HasWidths};
+ghost use Rattle.interface.specs.Turn.{crowded_time};
 ghost use Rattle.interface_tables.specs.Inner.{at_moment};
 ghost use Rattle.lan.specs.declared.at_link.history.event.Side.TheVariants.{A, B};
 ghost use Rattle.lan_base.specs.Port.{PortMove, has_leave};
@@ -51,7 +53,7 @@ pub fn two_hosts_meet_what_a_queued_datagram_asks_for()
 
 /// Law: there are hosts on one Ethernet that meet what `a_neighbor_has_its_turn` and `a_waiting_datagram_arrives` ask of the steps of the one: two of its
 /// sockets wait, the first for B, whose first question was lost, the other for an address that nobody has, which comes first. So do the rounds of
-/// `turns_come_round`.
+/// `turns_come_round`; and the first socket hasn't waited for long (`a_waiting_datagram_stays_first`).
 pub fn a_host_meets_what_waiting_datagrams_ask_for()
     ensures begins { EgressStep PortMove (second 0) knowing_nobody None in_vain }
     ensures steps { TwoSteps }
@@ -59,6 +61,8 @@ pub fn a_host_meets_what_waiting_datagrams_ask_for()
     ensures waited { (t : TwoSteps) → AllByRecursion (IsWaitedFor PortMove (Address.Ipv4 (address B)) hops) (steps_of t) }
     ensures waits { (t : TwoSteps)
         → AllByRecursion (WaitsForHop PortMove hops 0 for_b (datagram_to (address B)) (Address.Ipv4 (address B)) Ethernet.packet) (steps_of t) }
+    ensures patient { has_waited (record { waiting = Some (record { neighbor = Address.Ipv4 (address B); since = pos 0; silent_until = second 1 }) })
+        (Address.Ipv4 (address B)) crowded_time (second 1) ≡ false }
     ensures ours { IsOneOf (Address.Ipv4 (address B)) hops }
     ensures asks { (t : TwoSteps) → IsAskedFor PortMove (Address.Ipv4 (address B)) (steps_of t) }
     ensures rounds { (rounds : List Round) × (length rounds ≡ 1) × AreRounds rounds

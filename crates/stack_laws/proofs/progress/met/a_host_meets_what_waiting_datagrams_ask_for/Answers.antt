@@ -24,6 +24,9 @@ returns-clause-waited c = are_waited_for
 pub returns-clause-waits : goal.returns-clause-waits
 returns-clause-waits c = both_wait_on
 
+pub returns-clause-patient : goal.returns-clause-patient
+returns-clause-patient c = refl
+
 pub returns-clause-ours : goal.returns-clause-ours
 returns-clause-ours c = inl refl
 
