@@ -44,6 +44,7 @@ pub mod Inboxes
 pub mod BetweenPorts
 pub mod SomeRooms
 pub mod SomeHosts
+pub mod SomeRow
 pub mod NextAtPorts
 pub mod SomeNeighbors
 pub mod SomeExchange

@@ -15,6 +15,7 @@ pub mod Ready
 pub mod Exchanged
 pub mod Served
 pub mod Numerals
+pub mod InARow
 pub mod OnEthernet
 pub mod Partners
 pub mod Moving

@@ -54,7 +54,7 @@ use Rattle.stack_laws.specs.Worlds.Hosts.{address, endpoint, text}
 use Rattle.stack_laws.proofs.Polls.BetweenPorts.{arrives_between}
 use Rattle.stack_laws.proofs.Polls.Readers.{finds, is_read}
 
-abbrev nobody : Meta
+abbrev pub nobody : Meta
 nobody = record { waiting = None }
 
 abbrev item : UdpValue → Item Socket
@@ -66,7 +66,7 @@ pub is_address : (side : Side) → IsIpv4Address (address side)
 is_address A = (refl, all-bytes (address A).0 (ltb-true _ _ refl, (ltb-true _ _ refl, (ltb-true _ _ refl, (ltb-true _ _ refl, tt)))))
 is_address B = (refl, all-bytes (address B).0 (ltb-true _ _ refl, (ltb-true _ _ refl, (ltb-true _ _ refl, (ltb-true _ _ refl, tt)))))
 
-formed : IsWellFormed packet
+pub formed : IsWellFormed packet
 formed = record {
   sendable = record { header = ltb-true _ _ refl; payload = record { len = ltb-true _ _ refl; family = refl }; len = refl };
   header =

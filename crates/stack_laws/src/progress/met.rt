@@ -1,6 +1,6 @@
 //! What the laws of queued datagrams ask for is met, on numerals.
 
-ghost use Rattle.std.specs.Prelude.{◌≡◌, ◌≢◌, pos, true, false, IsTrue, List, [], ◌∷◌, length, slice_get, None, Some};
+ghost use Rattle.std.specs.Prelude.{◌≡◌, ◌≢◌, pos, true, false, IsTrue, List, [], ◌∷◌, ◌++◌, length, slice_get, None, Some};
 ghost use Rattle.std.specs.List.{AllByRecursion};
 ghost use Rattle.net_base.specs.Packets.{contents};
 ghost use Rattle.ip_packet.specs.Ip.{source_of};
@@ -16,12 +16,13 @@ ghost use Rattle.lan.specs.declared.at_link.history.event.Side.TheVariants.{A, B
 ghost use Rattle.lan_base.specs.Port.{PortMove, has_leave};
 ghost use Rattle.stack_laws.specs.Progress.Delivered.{WaitsBehind, as_received, reader_of};
 ghost use Rattle.stack_laws.specs.Progress.Inbox.{WaitsAmongThem};
+ghost use Rattle.stack_laws.specs.Progress.InARow.{both_gone, both_reached, expecting_both, next_datagram, next_packet, queued_both, queuing_both, roomy};
 ghost use Rattle.stack_laws.specs.Progress.Leave.{BringsWhatWent};
 ghost use Rattle.stack_laws.specs.Progress.Numerals.{datagram, expecting, now, packet, queuing, reached, relieved, sender};
 ghost use Rattle.stack_laws.specs.Progress.OnEthernet as Ethernet;
 ghost use Rattle.stack_laws.specs.Progress.OnEthernet.{FourSteps, TwoSteps, datagram_to, exchange_of, for_b, hops, in_vain, knowing_nobody, second, station};
 ghost use Rattle.stack_laws.specs.Progress.OnEthernet.{knowing_b, steps_of, tenth};
-ghost use Rattle.stack_laws.specs.Progress.Queued.{CanGo, HasTurn, ports_of};
+ghost use Rattle.stack_laws.specs.Progress.Queued.{CanGo, HasTurn, HasWay, ports_of};
 ghost use Rattle.stack_laws.specs.Progress.Ready.{HasRoomBehind, IsExpectedThroughout};
 ghost use Rattle.stack_laws.specs.Progress.Rounds.{AreRounds, IsOneOf, PassesOver, Round};
 ghost use Rattle.stack_laws.specs.Progress.Served.{CanDeliver, WaitsForHop, first_of};
@@ -49,6 +50,24 @@ pub fn two_hosts_meet_what_a_queued_datagram_asks_for()
     ensures hears { Polls PortMove now 1 expecting true reached }
     ensures their_leave { IsTrue (has_leave reached.device.link) }
     ensures arrives { WaitsAmongThem reached.places 0 bound_b (as_received (source_of packet.header) queued_a.settings datagram) }
+{}
+
+/// Law: so do two hosts where a datagram is queued before: abc and de go in two steps of the one's poll, and are read in two of the other's, whose socket
+/// has room for both whatever so many frames and slots for pieces may bring.
+pub fn two_hosts_meet_what_a_datagram_behind_another_asks_for()
+    ensures turn { HasTurn sender queuing_both.places 0 queued_both }
+    ensures queued { contents queued_both.queued ≡ (datagram ∷ []) ++ next_datagram ∷ [] }
+    ensures ways { AllByRecursion (HasWay sender queued_both.settings) (datagram ∷ []) }
+    ensures port { next_datagram.0.endpoint.port ≢ 0 }
+    ensures goes { CanGo sender queued_both.settings next_datagram Hardware.Ip next_packet }
+    ensures sends { Polls PortMove now 2 queuing_both true both_gone }
+    ensures brings { BringsWhatWent queuing_both.device both_gone.device expecting_both.device 2 }
+    ensures reads { CanRead sender Hardware.Ip (reader_of expecting_both.host.inner) }
+    ensures expected { IsExpectedThroughout (at_moment now expecting_both.host.inner) expecting_both.places Hardware.Ip next_packet.header
+        (ports_of queued_both.settings next_datagram) 0 (record { waiting = None }) roomy }
+    ensures room { HasRoomBehind expecting_both.device.link.waiting expecting_both.host.slots roomy.received 2 (length next_datagram.1) }
+    ensures hears { Polls PortMove now 2 expecting_both true both_reached }
+    ensures arrives { WaitsAmongThem both_reached.places 0 roomy (as_received (source_of next_packet.header) queued_both.settings next_datagram) }
 {}
 
 /// Law: there are hosts on one Ethernet that meet what `a_neighbor_has_its_turn` and `a_waiting_datagram_arrives` ask of the steps of the one: two of its
