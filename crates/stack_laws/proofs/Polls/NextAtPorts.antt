@@ -1,12 +1,11 @@
 -- A link that brings what a port sent, in its one frame, brings it next.
 use Rattle.std.proofs.Common.{◌≡◌, ℕ, ◌<◌, ℤ, List, [], ◌∷◌, ◌++◌, length, arith}
-use Rattle.net_base.specs.Device.{Move}
 use Rattle.ip_wire.specs.HardwareAddress.{HardwareAddress}
 use Rattle.lan_base.specs.Port.{PortValue, PortMove}
 use Rattle.interface_ingress.specs.Packet.{PacketValue}
 use Rattle.interface_tables.specs.Inner.{InnerValue}
 use Rattle.stack_laws.specs.Progress.Asked.{IsNext}
-use Rattle.stack_laws.specs.Progress.Delivered.{Brings, ComesNext}
+use Rattle.stack_laws.specs.Progress.Delivered.{Brings}
 use Rattle.stack_laws.specs.Progress.Inbox.{WaitsAmong}
 use Rattle.stack_laws.specs.Progress.Leave.{BringsWhatWent}
 use Rattle.stack_laws.specs.Progress.Queued.{frame_under}

@@ -1,5 +1,5 @@
 -- Two hosts on numerals on one Ethernet, the steps in which the one asks for neighbours, and the exchange with the one that answers.
-use Rattle.std.proofs.Common.{◌≡◌, inl, inr, ◌≤◌, true, false, ℤ, pos, ◌≤ℤ◌, int_le, List, [], ◌∷◌, length, Option, Some, None, refl, sym, ap, ◌∙◌, subst}
+use Rattle.std.proofs.Common.{◌≡◌, inl, inr, true, false, ℤ, pos, ◌≤ℤ◌, int_le, List, [], ◌∷◌, length, Option, Some, None, refl, sym, ap, ◌∙◌, subst}
 use Rattle.std.proofs.lemmas.Bool.{ltb-true}
 use Rattle.std.specs.List.{AllByRecursion}
 use Rattle.ip_address.specs.Address.{v4_number}
@@ -35,7 +35,7 @@ use Rattle.interface.specs.declared.turn.Turned.TheVariants as Turn
 use Rattle.interface.proofs.Arrives.{all-bytes}
 use Rattle.tcp_progress.proofs.Moments.{le_of}
 use Rattle.stack_laws.specs.Progress.Asked.{HasToAsk}
-use Rattle.stack_laws.specs.Progress.OnEthernet.{TwoSteps, answer, asked, asked_again, datagram_to, for_b, for_nobody}
+use Rattle.stack_laws.specs.Progress.OnEthernet.{TwoSteps, asked_again, datagram_to, for_b, for_nobody}
 use Rattle.stack_laws.specs.Progress.OnEthernet.{hops, in_vain, knowing_nobody, nobodys, packet, packet_from, passed_over}
 use Rattle.stack_laws.specs.Progress.OnEthernet.{second, station, steps_of, waits_for}
 use Rattle.stack_laws.specs.Progress.Rounds.{AreRounds, IsOneOf, PassesOver, Round}

@@ -4,7 +4,6 @@ use Rattle.std.specs.Prelude.{◌≡◌, ℕ, ◌-◌, ℤ, pos, true, List, [],
 use Rattle.ip_wire.specs.IpProtocol.TheVariants as Protocol
 use Rattle.net_base.specs.Device.{Move, Took, Empty, Allowed, Emitted, Denied}
 use Rattle.net_base.specs.Medium.{Medium}
-use Rattle.net_base.specs.Medium.TheVariants as Medium
 use Rattle.lan_base.specs.Port.{PortValue, unused_end, added, ready_after}
 use Rattle.sockets.specs.SocketValue.{settled}
 use Rattle.sockets.specs.Udp.{UdpValue, datagram_behind, metadata_to}
