@@ -26,7 +26,9 @@ pub mod Searches
 pub mod Waited
 pub mod Rotates
 pub mod StillNeeded
+pub mod Known
 pub mod InSilence
+pub mod StillFirst
 pub mod Exchanged
 pub mod Served
 pub mod Inbox
@@ -35,10 +37,16 @@ pub mod Stays
 pub mod Rooms
 pub mod Lengths
 pub mod OneMore
+pub mod MayAsk
 pub mod Ready
 pub mod Leave
 pub mod Inboxes
 pub mod BetweenPorts
 pub mod SomeRooms
+pub mod SomeHosts
+pub mod SomeRow
+pub mod NextAtPorts
+pub mod SomeNeighbors
+pub mod SomeExchange
 pub mod Pieces
 pub mod Solicited

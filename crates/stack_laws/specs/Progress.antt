@@ -14,5 +14,8 @@ pub mod Leave
 pub mod Ready
 pub mod Exchanged
 pub mod Served
+pub mod Numerals
+pub mod InARow
+pub mod OnEthernet
 pub mod Partners
 pub mod Moving

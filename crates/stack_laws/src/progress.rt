@@ -5,6 +5,7 @@ pub mod datagrams;
 pub mod delivered;
 pub mod excluded;
 pub mod inboxes;
+pub mod met;
 pub mod neighbors;
 pub mod partners;
 pub mod pieces;

@@ -13,6 +13,7 @@ use Rattle.lan.proofs.Worlds.PortMoves.{counting_ports}
 use Rattle.stack_laws.specs.Progress.Delivered.{RefusesNothing}
 use Rattle.stack_laws.specs.Progress.Inbox.{IsInbox}
 use Rattle.stack_laws.specs.Progress.Leave.{IsInboxWhile}
+use Rattle.stack_laws.specs.Progress.Numerals.{QueueMove}
 use Rattle.stack_laws.specs.Progress.Moves.{AreMoves, goes_out, is_refused}
 
 abbrev pub Frames : Type 0
@@ -29,6 +30,22 @@ fewer_refused n gives = below (2 ^ 64) (ltb-true (n + 1 + 1) (2 ^ 64) gives)
   where
     below : (top : ℕ) → n + 1 + 1 < top → ltb (n + 1) top ≡ true
     below top less = lt-ltb (n + 1) top (omega (arith, less))
+
+-- A QUEUE
+
+queue_out : (old new : Frames) (m : Move) → goes_out m ≡ true → QueueMove old m new → new ≡ old
+queue_out old new (Took t frame) is goes = absurd cc
+queue_out old new (Empty t) is goes = absurd cc
+queue_out old new (Allowed t leave) is goes = goes.1
+queue_out old new (Emitted frame) is goes = goes
+queue_out old new (Denied len) is goes = goes
+
+pub queue_is : IsInbox QueueMove (λ (frames : Frames). frames)
+queue_is = record {
+  first = λ old new t frame other more waits goes. parts_are other frame new more (sym goes ∙ waits);
+  found = λ old new t frame more waits goes. none_waits frame more (sym waits ∙ goes.0);
+  out = queue_out;
+}
 
 -- PORTS
 

@@ -12,7 +12,7 @@ use Rattle.ip_wire.specs.AddressTests.{is_same_address}
 use Rattle.ip_wire.specs.IpAddress.{IpAddress}
 use Rattle.interface_tables.specs.Best.{at_place, first_best, is_unbeaten}
 use Rattle.interface_tables.specs.Inner.{InnerValue, awaited_hop}
-use Rattle.interface_tables.specs.Neighbor.{CacheValue, answer_of, first_search, is_search_for, last_request, oldest_search, one_more, requested}
+use Rattle.interface_tables.specs.Neighbor.{CacheValue, answer_of, first_search, has_failed, has_failed_by, is_search_for, last_request, oldest_search, one_more, requested}
 use Rattle.interface_tables.specs.Neighbor.{search_of, search_place, search_room, searched_at}
 use Rattle.interface_tables.specs.declared.neighbor.Search.{Search}
 use Rattle.interface_tables.proofs.BestOf.{place_of_first_best-is}
@@ -161,5 +161,12 @@ module _ (c : CacheValue) (x h : IpAddress) (moment : ℤ) (apart : is_same_addr
   pub others_stay : nat_lt (length c.searches) search_room ≡ true → last_request (requested c x moment) h ≡ last_request c h
   others_stay room =
       ap answer_of (at_first theirs (requested c x moment).searches
+      ∙ kept (search_place c.searches x) (search_of c.searches x) room refl refl
+      ∙ sym (at_first theirs c.searches))
+
+  -- nor does the other fail by it
+  pub others_fail_so : nat_lt (length c.searches) search_room ≡ true → (now : ℤ) → has_failed (requested c x moment) h now ≡ has_failed c h now
+  others_fail_so room now =
+      ap (λ (o : Option Search). has_failed_by o now) (at_first theirs (requested c x moment).searches
       ∙ kept (search_place c.searches x) (search_of c.searches x) room refl refl
       ∙ sym (at_first theirs c.searches))

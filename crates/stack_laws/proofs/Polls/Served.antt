@@ -159,7 +159,7 @@ module _ {D E : Type 0} (from : D → Move → D → Type 0) (at : E → Move �
   abbrev Arrives : OutStep from → Type 0
   Arrives x = ArrivesFrom from at own station a asked p v.settings d x
 
-  delivered : (e : Exchange from at) (m : ℕ) (meta : Meta) (w : UdpValue) → Waits (first_of e) → AsksThen from (first_of e) hop
+  pub delivered : (e : Exchange from at) (m : ℕ) (meta : Meta) (w : UdpValue) → Waits (first_of e) → AsksThen from (first_of e) hop
       → CanDeliver e own station a asked p v.settings d m meta w → WaitsBehind e.r3.places m meta w (as_received (source_of p.header) v.settings d)
   delivered e m meta w waits asks can =
       let first : IsStillFirst e.s0.places n v d (destination_of p.header) = waits.first in

@@ -43,7 +43,7 @@ module _ (c : CacheValue) (hop : IpAddress) (moment : ℤ) where
   abbrev ours : Search → Bool
   ours = is_search_for hop
 
-  later : int_lt moment (moment +ℤ pos silent_time) ≡ true
+  pub later : int_lt moment (moment +ℤ pos silent_time) ≡ true
   later = lives moment silent_time (omega arith)
 
   -- a search whose last request is still to be answered
@@ -93,12 +93,12 @@ module _ (c : CacheValue) (hop : IpAddress) (moment : ℤ) where
   counted =
       ap answer_of (at_first ours asked.searches ∙ ours_then.found) ∙ ap (λ (m : ℤ). Some m) ours_then.when
 
-  not_failed : has_failed asked hop moment ≡ false
+  pub not_failed : has_failed asked hop moment ≡ false
   not_failed = ap (λ (o : Option Search). has_failed_by o moment) (at_first ours asked.searches ∙ ours_then.found) ∙ recent ours_then.new ours_then.when
 
   -- LOOKUPS
 
-  not_known : (failed : Bool) (a : Answer) → unless_failed failed a ≡ Known.NotFound → is_found a ≡ false
+  pub not_known : (failed : Bool) (a : Answer) → unless_failed failed a ≡ Known.NotFound → is_found a ≡ false
   not_known failed (Known.Found hardware) is = absurd (let never : Known.Found hardware ≡ Known.NotFound = is in cc)
   not_known failed Known.NotFound is = refl
   not_known failed Known.RateLimited is = refl
@@ -107,7 +107,7 @@ module _ (c : CacheValue) (hop : IpAddress) (moment : ℤ) where
   silent_now : missing asked moment ≡ Known.RateLimited
   silent_now = ap (λ (b : Bool). if b then Known.RateLimited else Known.NotFound) later
 
-  limited : (o : Option Neighbor) → is_found (answer_by o c moment) ≡ false → answer_by o asked moment ≡ Known.RateLimited
+  pub limited : (o : Option Neighbor) → is_found (answer_by o c moment) ≡ false → answer_by o asked moment ≡ Known.RateLimited
   limited None unknown = silent_now
   limited (Some entry) unknown = by (int_lt moment entry.expires_at) unknown where
     by : (b : Bool) → is_found (if b then Known.Found entry.hardware_addr else missing c moment) ≡ false

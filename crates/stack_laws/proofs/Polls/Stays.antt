@@ -128,7 +128,7 @@ module _ (i i' : InnerValue) (same : HasSettingsOf i i') where
   for_us : (a : IpAddress) → is_for_us i' a ≡ is_for_us i a
   for_us a k = own a k || member a k || broadcast a k || is_loopback_in a
 
-  foreign : (a : IpAddress) → is_foreign_loopback i' a ≡ is_foreign_loopback i a
+  pub foreign : (a : IpAddress) → is_foreign_loopback i' a ≡ is_foreign_loopback i a
   foreign a = ap (λ (bs : List IpCidr). is_loopback a && not (list_any (is_loopback_of a) bs)) same.addresses
 
   astray : (a b : IpAddress) → is_astray i' a b ≡ is_astray i a b

@@ -48,6 +48,12 @@ pub record HasToAsk (i : InnerValue) (settings : UdpSettings) (d : UdpMetadata �
   pub asks : may_ask i hop ≡ true
   pub room : is_crowded i ≡ false
 
+-- the part of that which the host's settings say alone
+pub record MayAsk (i : InnerValue) (settings : UdpSettings) (d : UdpMetadata × List ℕ) (hop : IpAddress) (p : PacketValue) : Type 0 where
+  pub takes : TakesDatagram (context_of i) settings d p
+  pub may : never_leaves i p.header ≡ false
+  pub asks : may_ask i hop ≡ true
+
 -- a question from this station, and from the address that a packet for the neighbour would be sent from
 abbrev pub IsFrom : HardwareAddress → List IpCidr → Question → Type 0
 IsFrom hardware addresses (Query.Arp own source target) = (hardware ≡ Hardware.Ethernet own) × (source_v4 addresses target ≡ Some source)

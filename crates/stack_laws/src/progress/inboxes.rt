@@ -21,6 +21,7 @@ ghost use Rattle.tun_host.specs.Link.Drain.{DrainValue, DrainMove};
 ghost use Rattle.stack_laws.specs.Progress.Delivered.{RefusesNothing, as_received, reader_of};
 ghost use Rattle.stack_laws.specs.Progress.Inbox.{BringsAmong, IsInbox, WaitsAmongThem};
 ghost use Rattle.stack_laws.specs.Progress.Leave.{BringsWhatWent, IsInboxWhile};
+ghost use Rattle.stack_laws.specs.Progress.Numerals.{QueueMove};
 ghost use Rattle.stack_laws.specs.Progress.Queued.{CanGo, HasTurn, HasWay, ports_of};
 ghost use Rattle.stack_laws.specs.Progress.Ready.{HasRoomBehind, IsExpectedThroughout};
 
@@ -49,6 +50,11 @@ pub fn what_went_is_brought()
 /// that a look at a port always finds, there are none.
 pub fn no_port_is_an_inbox_without_leave()
     ensures { (frames_at : PortValue → List (List ℕ)) (p : PortValue) → IsInbox PortMove frames_at → frames_at p ≡ [] }
+{}
+
+/// Law: of a queue of frames that gives leave whatever comes it is so, with all its frames: so the laws that ask for an inbox ask for something.
+pub fn a_queue_is_an_inbox()
+    ensures { IsInbox QueueMove (λ (frames : List (List ℕ)). frames) }
 {}
 
 /// Law: while it gives leave, a drain, the device between a reader and a writer, has its one packet so: a look finds it, and what goes out leaves it.

@@ -1,19 +1,57 @@
 //! A datagram comes to wait at another host, whoever else the sockets of the one wait for.
 
-ghost use Rattle.std.specs.Prelude.{◌≢◌, ℕ, ◌≤◌, List, length};
+ghost use Rattle.std.specs.Prelude.{◌≡◌, ◌≢◌, ℕ, ◌≤◌, ℤ, Bool, true, false, List, length, Option, is_some};
 ghost use Rattle.std.specs.List.{AllByRecursion, Any};
+ghost use Rattle.ip_packet.specs.Ip.{destination_of};
 ghost use Rattle.ip_wire.specs.EthernetAddress.{EthernetAddress};
 ghost use Rattle.ip_wire.specs.IpAddress.{IpAddress};
 ghost use Rattle.ip_wire.specs.IpAddress.TheVariants as Address;
 ghost use Rattle.ip_wire.specs.Ipv4Address.{Ipv4Address};
-ghost use Rattle.sockets.specs.Udp.{UdpValue};
+ghost use Rattle.sockets.specs.Udp.{UdpSettings, UdpValue};
 ghost use Rattle.sockets.specs.declared.udp.UdpMetadata.{UdpMetadata};
 ghost use Rattle.interface_ingress.specs.Packet.{PacketValue};
+ghost use Rattle.interface_tables.specs.Inner.{InnerValue, at_moment, is_crowded, link_address};
+ghost use Rattle.interface_tables.specs.declared.link.LinkAddress.TheVariants as Link;
+ghost use Rattle.interface_egress.specs.Meta.{has_waited};
+ghost use Rattle.interface.specs.Egress.{EgressStep};
+ghost use Rattle.interface.specs.State.{State};
+ghost use Rattle.interface.specs.Turn.{crowded_time};
+ghost use Rattle.stack_laws.specs.PeerHost.Steps.{Reaches};
+ghost use Rattle.stack_laws.specs.Progress.Asked.{HasToAsk, MayAsk};
+ghost use Rattle.stack_laws.specs.Progress.Exchanged.{IsStillFirst};
 ghost use Rattle.stack_laws.specs.Progress.Rounds.{IsOneOf};
 ghost use Rattle.stack_laws.specs.Progress.Served.{ArrivesFrom, WaitsForHop};
 ghost use Rattle.stack_laws.specs.Progress.Turns.{AreInOrder, OutStep};
 
 use net_base::Device;
+
+/// Law: whoever is asked for in a step of the way out, and whatever the device refuses, a datagram whose next hop isn't known stays: it still is the
+/// first of its socket, and where the socket waited for its destination, it does so behind the step. Its packet hasn't waited for half a minute, behind
+/// which one is given up while the host asks for as many neighbours as it can. So of steps between which the socket isn't used this has to be asked of
+/// the first alone.
+pub fn a_waiting_datagram_stays_first<D: Device>()
+    ensures { (t : ℤ) (s s' : State D) (answer : Option Bool) (n : ℕ) (v : UdpValue) (d : UdpMetadata × List ℕ) (hop : IpAddress) (p : PacketValue)
+        → HasToAsk (at_moment t s.host.inner) v.settings d hop p
+        → (before : IsStillFirst s.places n v d (destination_of p.header))
+        → has_waited before.meta (destination_of p.header) crowded_time t ≡ false
+        → EgressStep D.moves t s answer s'
+        → (behind : IsStillFirst s'.places n v d (destination_of p.header)) × (is_some before.meta.waiting ≡ true → is_some behind.meta.waiting ≡ true) }
+{}
+
+/// Law: that a packet takes the datagram, may leave the host, and its next hop may be asked for, is so wherever a poll has come, at whatever moment: by the
+/// settings of the host, which no poll changes. With that the next hop has to be asked for where its hardware address isn't known, and the host keeps
+/// count of fewer neighbours than it can.
+pub fn a_packet_may_leave_throughout<E: Device>()
+    ensures stays { (t u now : ℤ) (s x : State E) (settings : UdpSettings) (d : UdpMetadata × List ℕ) (hop : IpAddress) (p : PacketValue)
+        → MayAsk (at_moment t s.host.inner) settings d hop p
+        → Reaches E.moves u s x
+        → MayAsk (at_moment now x.host.inner) settings d hop p }
+    ensures asks { (i : InnerValue) (settings : UdpSettings) (d : UdpMetadata × List ℕ) (hop : IpAddress) (p : PacketValue)
+        → MayAsk i settings d hop p
+        → link_address i (destination_of p.header) ≡ Link.Unknown hop
+        → is_crowded i ≡ false
+        → HasToAsk i settings d hop p }
+{}
 
 /// Law: a datagram whose next hop isn't known arrives, whoever else is waited for, over IPv4 on Ethernet. Of as many steps of the way out as there are
 /// neighbours that sockets wait for, in each of which the first datagram of a UDP socket waits for this next hop, one asks for it. And if from that
