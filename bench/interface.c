@@ -221,9 +221,11 @@ static void one(char **word, int count) {
         printf("%.1f\n", limit(n[0], n[1], n[2], n[3] * MIB) / 1e6);
     } else if (count == 3 && !strcmp(word[0], "idle")) {
         printf("%.1f\n", idle((uint16_t)n[0], (uint32_t)n[1]));
+    } else if (count == 1 && !strcmp(word[0], "allocations")) {
+        show_allocations();
     } else {
         fail("interface [stream MTU ROOM MIB | calm MTU ROOM MIB | acks MTU ROOM MIB | calm_acks MTU ROOM MIB | among SOCKETS MIB"
-             " | behind SOCKETS MIB | trips LENGTH MTU COUNT | polled LENGTH MTU COUNT | at_once LENGTH MTU COUNT | idle SOCKETS POLLS | limit LENGTH ROOM COPIES MIB]");
+             " | behind SOCKETS MIB | trips LENGTH MTU COUNT | polled LENGTH MTU COUNT | at_once LENGTH MTU COUNT | idle SOCKETS POLLS | limit LENGTH ROOM COPIES MIB | allocations]");
     }
 }
 
