@@ -9,6 +9,7 @@ pub mod Polls
 pub mod Runs
 pub mod Partnered
 pub mod StillPartners
+pub mod EventMoves
 pub mod Blocks
 pub mod MovedEvents
 pub mod Moved

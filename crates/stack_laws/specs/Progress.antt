@@ -16,3 +16,4 @@ pub mod Exchanged
 pub mod Served
 pub mod Partners
 pub mod Moving
+pub mod Events
