@@ -10,6 +10,8 @@ pub mod Runs
 pub mod Partnered
 pub mod StillPartners
 pub mod EventMoves
+pub mod EventClocks
+pub mod EventPartners
 pub mod Blocks
 pub mod MovedEvents
 pub mod Moved

@@ -17,3 +17,4 @@ pub mod Served
 pub mod Partners
 pub mod Moving
 pub mod Events
+pub mod OneClock

@@ -1,13 +1,25 @@
 //! The events of a world are moves of its hosts.
 
-ghost use Rattle.std.specs.Prelude.{◌++◌, List};
+ghost use Rattle.std.specs.Prelude.{◌++◌, ℕ, ℤ, List};
+ghost use Rattle.lan.specs.declared.at_link.history.event.Side.{Side};
+ghost use Rattle.lan.specs.declared.at_link.history.event.Side.TheVariants.{A, B};
 ghost use Rattle.lan.specs.Worlds.AtLink.Fresh.{IsFreshWorld};
+ghost use Rattle.lan.specs.Worlds.AtLink.Happening.{Happening};
 ghost use Rattle.lan.specs.Worlds.AtLink.History.{Entry};
+ghost use Rattle.lan.specs.Worlds.AtLink.Paired.{AreNew, HaveKeys, NewSocket, Seat};
+ghost use Rattle.lan.specs.Worlds.AtLink.Parties.{Net};
+ghost use Rattle.lan.specs.Worlds.AtLink.Partners.{ArePartners};
 ghost use Rattle.lan.specs.Worlds.AtLink.Runs.{Starts};
 ghost use Rattle.lan.specs.Worlds.AtLink.Station.{Stations};
 ghost use Rattle.lan.specs.Worlds.Events.{AreTyped};
-ghost use Rattle.lan.specs.Worlds.Still.{StillRun};
-ghost use Rattle.stack_laws.specs.Progress.Events.{MoveByEvents};
+ghost use Rattle.lan.specs.Worlds.Moves.Joined.{first_net};
+ghost use Rattle.lan.specs.Worlds.Still.{StillRun, seats_of};
+ghost use Rattle.stack_laws.specs.Progress.Events.{MoveBy, MoveByEvents, clock_in};
+ghost use Rattle.stack_laws.specs.Progress.Moving.{AreAtMoments};
+ghost use Rattle.stack_laws.specs.Progress.OneClock.{GoOnByEvents, KeepOneClock, timed};
+ghost use Rattle.stack_laws.specs.Progress.Partners.{HoldText};
+
+use super::partners::{moves_go_on, partners_are_reached, partners_go_on};
 
 /// Law: in a world whose hosts stay as they showed themselves to their sockets at first, each event is plain moves of its host: those of a poll
 /// show its moment, that of a call what the clock of its host shows, and no other event moves a socket. So the moves of a history are those of its
@@ -17,3 +29,26 @@ pub fn events_are_plain_moves()
         → StillRun starts (more ++ past) hosts
         → (between : Stations) × StillRun starts past between × MoveByEvents starts past between more hosts }
 {}
+
+/// Law: where the events keep one clock, their moves are at moments of it.
+pub fn moves_of_events_keep_one_clock()
+    ensures { (starts : Starts) (net : Net) (past more : List Entry) (hosts : Stations) (moves : List (ℤ × Happening)) (seats : Side → Seat)
+        (clocks : Side → ℤ) → StillRun starts (more ++ past) hosts → MoveBy starts net past more hosts (timed moves)
+        → KeepOneClock starts (λ side. (seats side).place) past more → AreAtMoments seats clocks (clock_in past) moves }
+{}
+
+/// Law: in such a world two TCP sockets that were partners before some last events go on by the moves of those events. So it is of the events
+/// themselves that one asks whether they come in time.
+pub fn partners_go_on_by_their_events()
+    ensures { (starts : Starts) (past more : List Entry) (hosts : Stations) (places : Side → ℕ) (news : Side → NewSocket)
+        → IsFreshWorld starts → AreTyped (more ++ past) → StillRun starts (more ++ past) hosts
+        → AreNew (seats_of starts places) news (first_net starts) → HaveKeys (seats_of starts places) → HoldText (seats_of starts places)
+        → ArePartners past A (places A) (places B)
+        → (between : Stations) × GoOnByEvents starts past between more hosts (seats_of starts places) }
+{
+    partners_are_reached();
+    partners_go_on();
+    moves_go_on();
+    events_are_plain_moves();
+    moves_of_events_keep_one_clock();
+}
