@@ -1,5 +1,5 @@
 -- The moves of events that keep one clock are at moments of it.
-use Rattle.std.proofs.Common.{◌≡◌, inl, inr, ℕ, ℤ, ◌≤ℤ◌, List, [], ◌∷◌, ◌++◌, refl, sym, ap, ◌∙◌, subst, arith, append_assoc}
+use Rattle.std.proofs.Common.{◌≡◌, inr, ℕ, ℤ, ◌≤ℤ◌, List, [], ◌∷◌, ◌++◌, refl, sym, ap, ◌∙◌, subst, arith, append_assoc}
 use Rattle.std.specs.Prelude.{pos}
 use Rattle.std.specs.List.{AllByRecursion}
 use Rattle.std.proofs.lemmas.Int.{ints}
@@ -122,18 +122,18 @@ module _ (seats : Side → Seat) where
 
   -- THE MOVES OF ALL EVENTS
 
-  at_all : (starts : Starts) (net : Net) (past more : List Entry) (end hosts : Stations) (moves rest : List (ℤ × Step)) → MoveBy starts net past more end moves
-      → KeepOneClock starts (λ side. (seats side).place) past more → StillRun starts (more ++ past) hosts
+  at_all : (starts : Starts) (net : Net) (past more : List Entry) (hosts : Stations) (still : StillRun starts (more ++ past) hosts) (moves rest : List (ℤ × Step))
+      → MoveBy starts net past more hosts still moves → KeepOneClock starts (λ side. (seats side).place) past more
       → ((clocks : Side → ℤ) → AtMoments clocks (clock_in (more ++ past)) rest) → (clocks : Side → ℤ) → AtMoments clocks (clock_in past) (moves ++ rest)
-  at_all starts net past [] end hosts moves rest by keep still onward clocks =
+  at_all starts net past [] hosts still moves rest by keep onward clocks =
       subst (λ (xs : List (ℤ × Step)). AtMoments clocks (clock_in past) (xs ++ rest)) (sym by.0) (onward clocks)
-  at_all starts net past (e ∷ more) end hosts moves rest (between, before, these, is, by, happens) keep (old, still, leads, all) onward clocks =
+  at_all starts net past (e ∷ more) hosts still moves rest (before, these, is, by, happens) keep onward clocks =
       let now : ℤ = clock_in (more ++ past) in
       let t : ℤ = clock_in (e ∷ more ++ past) in
-      let so = clock_moment starts (e ∷ more ++ past) hosts (old, still, leads, all) in
+      let so = clock_moment starts (e ∷ more ++ past) hosts still in
       let its = of_kind e (kind_of e.event) (shown_in starts (more ++ past)) now these happens.are keep.2 in
-      let on = at_all starts net past more between old before (all_at t these ++ rest) by keep.0 still
-      (block now t these rest (clock_moment starts (more ++ past) old still) so keep.1 its onward) clocks in
+      let on = at_all starts net past more still.0 still.1 before (all_at t these ++ rest) by keep.0
+      (block now t these rest (clock_moment starts (more ++ past) still.0 still.1) so keep.1 its onward) clocks in
       subst (AtMoments clocks (clock_in past)) (sym (ap (λ (xs : List (ℤ × Step)). xs ++ rest) is ∙ append_assoc before (all_at t these) rest)) on
 
 append_none : (xs : List (ℤ × Step)) → xs ++ [] ≡ xs
@@ -141,9 +141,9 @@ append_none [] = refl
 append_none (x ∷ xs) = ap (λ (ys : List (ℤ × Step)). x ∷ ys) (append_none xs)
 
 pub at_moments : (starts : Starts) (net : Net) (past more : List Entry) (hosts : Stations) (moves : List (ℤ × Happening)) (seats : Side → Seat) (clocks : Side → ℤ)
-    → StillRun starts (more ++ past) hosts → MoveBy starts net past more hosts (timed moves) → KeepOneClock starts (λ side. (seats side).place) past more
+    (still : StillRun starts (more ++ past) hosts) → MoveBy starts net past more hosts still (timed moves) → KeepOneClock starts (λ side. (seats side).place) past more
     → AreAtMoments seats clocks (clock_in past) moves
 at_moments starts net past more hosts moves seats clocks still by keep =
     numbered_so seats moves clocks (clock_in past)
     (subst (AtMoments seats clocks (clock_in past)) (append_none (timed moves))
-    (at_all seats starts net past more hosts hosts (timed moves) [] by keep still (λ cs. clock_moment starts (more ++ past) hosts still) clocks))
+    (at_all seats starts net past more hosts still (timed moves) [] by keep (λ cs. clock_moment starts (more ++ past) hosts still) clocks))

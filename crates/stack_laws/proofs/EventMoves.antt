@@ -419,13 +419,14 @@ untimed_append [] t (step ∷ steps) = ap (λ (ss : List Step). step ∷ ss) (un
 untimed_append (x ∷ xs) t steps = ap (λ (ss : List Step). x.1 ∷ ss) (untimed_append xs t steps)
 
 -- what moves of later events lead to, from a net of the hosts between
-record Went (starts : Starts) (past : List Entry) (between : Stations) (net : Net) (more : List Entry) (hosts : Stations) : Type 0 where
+record Went (starts : Starts) (past : List Entry) (between : Stations) (net : Net) (more : List Entry) (hosts : Stations)
+    (still : StillRun starts (more ++ past) hosts) : Type 0 where
   pub moves : List (ℤ × Step)
   pub may : IsRun names net (untimed moves)
   pub of : IsNetOf (run net (untimed moves)) hosts (more ++ past)
   pub well : AreWell starts (more ++ past) hosts (run net (untimed moves))
   pub held : AreAllHeld (first starts) (moments starts between) net (untimed moves) (moments starts hosts)
-  pub by_events : MoveBy starts net past more hosts moves
+  pub by_events : MoveBy starts net past more hosts still moves
 
 run_rest : (names : List ℕ → Bool) (net : Net) (steps more : List Step) → IsRun names net (steps ++ more) → IsRun names (run net steps) more
 run_rest names net [] more may = may
@@ -439,11 +440,11 @@ hosted_rest seats clocks net (step ∷ steps) more are = hosted_rest seats (cloc
 module _ (starts : Starts) (fresh : IsFreshWorld starts) where
   -- one event more
   module _ (past : List Entry) (between : Stations) (net : Net) (more : List Entry) (e : Entry) (old new : Stations) (still : StillRun starts (more ++ past) old)
-      (leads : Leads (more ++ past) old e new) (typed : IsTyped (kind_of e.event)) (all : AreStill starts new) (so_far : Went starts past between net more old) where
+      (leads : Leads (more ++ past) old e new) (typed : IsTyped (kind_of e.event)) (all : AreStill starts new) (so_far : Went starts past between net more old still) where
     abbrev mid : Net
     mid = run net (untimed so_far.moves)
 
-    then_on : Went starts past between net (e ∷ more) new
+    then_on : Went starts past between net (e ∷ more) new (old, still, leads, all)
     then_on =
         let one = goes starts fresh (more ++ past) old new e still leads typed all mid so_far.well so_far.of in
         let these : List Step = one.comes.steps in
@@ -460,24 +461,23 @@ module _ (starts : Starts) (fresh : IsFreshWorld starts) where
           held = subst (λ (ss : List Step). AreAllHeld (first starts) (moments starts between) net ss (moments starts new)) (sym steps)
               (all-append (first starts) (moments starts between) (moments starts old) net (untimed so_far.moves) these (moments starts new) so_far.held one.held);
           by_events = (
-            old,
             so_far.moves,
             these,
             refl,
             so_far.by_events,
-            record { leads = leads; are = one.are; may = one.comes.may; of = subst (λ (n : Net). IsNetOf n new (e ∷ more ++ past)) ends one.comes.of },
+            record { are = one.are; may = one.comes.may; of = subst (λ (n : Net). IsNetOf n new (e ∷ more ++ past)) ends one.comes.of },
           );
         }
 
   -- the hosts between, and the moves from there on
   module _ (past : List Entry) where
-    abbrev At : Stations → AreTyped past → List Entry → Stations → Type 0
-    At between typed more hosts =
+    abbrev At : Stations → AreTyped past → (more : List Entry) (hosts : Stations) → StillRun starts (more ++ past) hosts → Type 0
+    At between typed more hosts still =
         (was : StillRun starts past between)
-        × Went starts past between (run (first_net starts) (has_come starts past between fresh typed (ran starts past between was)).steps) more hosts
+        × Went starts past between (run (first_net starts) (has_come starts past between fresh typed (ran starts past between was)).steps) more hosts still
 
-    went : (more : List Entry) (hosts : Stations) → AreTyped (more ++ past) → StillRun starts (more ++ past) hosts
-        → (between : Stations) × (typed : AreTyped past) × At between typed more hosts
+    went : (more : List Entry) (hosts : Stations) → AreTyped (more ++ past) → (still : StillRun starts (more ++ past) hosts)
+        → (between : Stations) × (typed : AreTyped past) × At between typed more hosts still
     went [] hosts typed still =
         let came = has_come starts past hosts fresh typed (ran starts past hosts still) in (
           hosts,
@@ -528,7 +528,7 @@ module _ (starts : Starts) (fresh : IsFreshWorld starts) where
       (moments starts hosts) may held first_keeps (λ s. at_once)
 
 pub events_move : (starts : Starts) (past more : List Entry) (hosts : Stations) → IsFreshWorld starts → AreTyped (more ++ past) →
-    StillRun starts (more ++ past) hosts → (between : Stations) × StillRun starts past between × MoveByEvents starts past between more hosts
+    (still : StillRun starts (more ++ past) hosts) → (between : Stations) × StillRun starts past between × MoveByEvents starts past between more hosts still
 events_move starts past more hosts fresh typed still =
     let (between, typed_past, (was, w)) = went starts fresh past more hosts typed still in
     let one = has_come starts past between fresh typed_past (ran starts past between was) in

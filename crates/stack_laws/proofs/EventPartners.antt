@@ -41,9 +41,9 @@ with_numbers (x ∷ xs) (m ∷ ms) is =
     )
 
 pub go_on_by_events : (starts : Starts) (past more : List Entry) (hosts : Stations) (places : Side → ℕ) (news : Side → NewSocket) → IsFreshWorld starts →
-    AreTyped (more ++ past) → StillRun starts (more ++ past) hosts → AreNew (seats_of starts places) news (first_net starts) →
+    AreTyped (more ++ past) → (still : StillRun starts (more ++ past) hosts) → AreNew (seats_of starts places) news (first_net starts) →
     HaveKeys (seats_of starts places) → HoldText (seats_of starts places) → ArePartners past A (places A) (places B)
-    → (between : Stations) × GoOnByEvents starts past between more hosts (seats_of starts places)
+    → (between : Stations) × GoOnByEvents starts past between more hosts still (seats_of starts places)
 go_on_by_events starts past more hosts places news fresh typed still new keys text partners =
     let (between, was, them) = events_move starts past more hosts fresh typed still in
     let seats = seats_of starts places in
@@ -59,7 +59,7 @@ go_on_by_events starts past more hosts places news fresh typed still new keys te
     let moves : List (ℤ × Happening) = given.0 in
     let these : ways.steps ≡ steps_of (moves_of moves) = sym (ap steps_of given.1 ∙ numbers.are_these) in
     let numbered : AreNumbered seats at (moves_of moves) = subst (AreNumbered seats at) (sym given.1) numbers.numbered in
-    let by : MoveBy starts at past more hosts (timed moves) = subst (MoveBy starts at past more hosts) (sym given.2) them.of_events in (
+    let by : MoveBy starts at past more hosts still (timed moves) = subst (MoveBy starts at past more hosts still) (sym given.2) them.of_events in (
       between,
       record {
         goes = on_between starts past more between hosts places news fresh new keys text partners was ways;

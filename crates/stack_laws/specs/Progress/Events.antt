@@ -10,11 +10,11 @@ use Rattle.lan.specs.Worlds.AtLink.Call.{SocketCall}
 use Rattle.lan.specs.Worlds.AtLink.Moves.{IsRun, Move, Step, run}
 use Rattle.lan.specs.Worlds.AtLink.Moves.Move.{Invokes, Passes, Offers, Gives, Takes, Receives}
 use Rattle.lan.specs.Worlds.AtLink.Parties.{Net}
-use Rattle.lan.specs.Worlds.AtLink.Runs.{Leads, Starts, start}
+use Rattle.lan.specs.Worlds.AtLink.Runs.{Starts, start}
 use Rattle.lan.specs.Worlds.AtLink.Station.{Stations}
 use Rattle.lan.specs.Worlds.Moves.Follows.{IsNetOf}
 use Rattle.lan.specs.Worlds.Moves.Joined.{first_net}
-use Rattle.lan.specs.Worlds.Still.{MovePlainly}
+use Rattle.lan.specs.Worlds.Still.{MovePlainly, StillRun}
 use Rattle.lan_base.specs.Carried.{names_tcp_or_udp}
 use Rattle.lan_base.specs.Medium.TheVariants as Medium
 
@@ -66,9 +66,8 @@ AreOfEvent e (OfHost side (Calls place call)) shown steps =
     (move : Move) × (steps ≡ record { side = side; move = move } ∷ []) × IsOfCall e place call (shown side) move
 AreOfEvent e kind shown steps = (side : Side) × (steps ≡ record { side = side; move = Passes e } ∷ [])
 
--- An event led the one hosts to the others, and these moves, which are its own, lead a net of the one to a net of the others.
-pub record HappensBy (starts : Starts) (past : List Entry) (old : Stations) (e : Entry) (new : Stations) (net : Net) (steps : List Step) : Type 0 where
-  pub leads : Leads past old e new
+-- These moves are an event's own, and lead on to a net of the hosts behind it.
+pub record HappensBy (starts : Starts) (past : List Entry) (e : Entry) (new : Stations) (net : Net) (steps : List Step) : Type 0 where
   pub are : AreOfEvent e (kind_of e.event) (shown_in starts past) steps
   pub may : IsRun (names_tcp_or_udp Medium.Ip) net steps
   pub of : IsNetOf (run net steps) new (e ∷ past)
@@ -82,17 +81,18 @@ abbrev pub untimed : List (ℤ × Step) → List Step
 untimed [] = []
 untimed (x ∷ more) = x.1 ∷ untimed more
 
--- These are the moves of the later events of a history, from a net on: those of each event lie behind those of the one before it, and are made when
--- the one clock shows what it shows behind that event.
-abbrev pub MoveBy : Starts → Net → List Entry → List Entry → Stations → List (ℤ × Step) → Type 0
-MoveBy starts net past [] hosts moves = (moves ≡ []) × IsNetOf net hosts past
-MoveBy starts net past (e ∷ more) hosts moves =
-    (old : Stations) × (before : List (ℤ × Step)) × (these : List Step) × (moves ≡ before ++ all_at (clock_in (e ∷ more ++ past)) these)
-    × MoveBy starts net past more old before × HappensBy starts (more ++ past) old e hosts (run net (untimed before)) these
+-- These are the moves of the later events of a run, from a net on: those of each event lie behind those of the one before it, lead to the hosts
+-- behind it, and are made when the one clock shows what it shows behind it.
+abbrev pub MoveBy : (starts : Starts) → Net → (past more : List Entry) (hosts : Stations) → StillRun starts (more ++ past) hosts → List (ℤ × Step) → Type 0
+MoveBy starts net past [] hosts still moves = (moves ≡ []) × IsNetOf net hosts past
+MoveBy starts net past (e ∷ more) hosts still moves =
+    (before : List (ℤ × Step)) × (these : List Step) × (moves ≡ before ++ all_at (clock_in (e ∷ more ++ past)) these)
+    × MoveBy starts net past more still.0 still.1 before × HappensBy starts (more ++ past) e hosts (run net (untimed before)) these
 
 -- plain moves lead to the hosts between, and on to these by the moves of the later events
-pub record MoveByEvents (starts : Starts) (past : List Entry) (between : Stations) (more : List Entry) (hosts : Stations) : Type 0 where
+pub record MoveByEvents (starts : Starts) (past : List Entry) (between : Stations) (more : List Entry) (hosts : Stations)
+    (still : StillRun starts (more ++ past) hosts) : Type 0 where
   pub plainly : MovePlainly starts past between (more ++ past) hosts
   pub moves : List (ℤ × Step)
   pub are_these : untimed moves ≡ plainly.steps
-  pub of_events : MoveBy starts (run (first_net starts) plainly.before) past more hosts moves
+  pub of_events : MoveBy starts (run (first_net starts) plainly.before) past more hosts still moves

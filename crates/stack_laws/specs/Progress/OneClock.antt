@@ -10,6 +10,7 @@ use Rattle.lan.specs.Worlds.AtLink.Moves.{Step}
 use Rattle.lan.specs.Worlds.AtLink.Paired.{Seat}
 use Rattle.lan.specs.Worlds.AtLink.Runs.{Starts}
 use Rattle.lan.specs.Worlds.AtLink.Station.{Stations}
+use Rattle.lan.specs.Worlds.Still.{StillRun}
 use Rattle.stack_laws.specs.Progress.Events.{MoveBy, clock_in, shown_in}
 use Rattle.stack_laws.specs.Progress.Moving.{AreAtMoments, GoOnByMoves, moves_of}
 use Rattle.stack_laws.specs.Progress.Partners.{GoOnBetween}
@@ -34,10 +35,11 @@ timed (x ∷ more) = (x.0, x.1.step) ∷ timed more
 
 -- The sockets of two partners at the hosts between are a pair that events led to, which goes on by the moves of the later events, with numbers that
 -- fit. If those events keep one clock, the moves are at moments of it.
-pub record GoOnByEvents (starts : Starts) (past : List Entry) (between : Stations) (more : List Entry) (hosts : Stations) (seats : Side → Seat) : Type 0 where
+pub record GoOnByEvents (starts : Starts) (past : List Entry) (between : Stations) (more : List Entry) (hosts : Stations)
+    (still : StillRun starts (more ++ past) hosts) (seats : Side → Seat) : Type 0 where
   pub goes : GoOnBetween starts past between (more ++ past) hosts seats
   pub moves : List (ℤ × Happening)
-  pub of_events : MoveBy starts goes.net past more hosts (timed moves)
+  pub of_events : MoveBy starts goes.net past more hosts still (timed moves)
   pub numbered : AreNumbered seats goes.net (moves_of moves)
   pub by_moves : GoOnByMoves seats goes.clocks goes.net goes.reached.pair moves
   pub moments : KeepOneClock starts (λ side. (seats side).place) past more → AreAtMoments seats goes.clocks (clock_in past) moves

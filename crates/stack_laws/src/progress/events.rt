@@ -26,14 +26,14 @@ use super::partners::{moves_go_on, partners_are_reached, partners_go_on};
 /// events, one behind the other.
 pub fn events_are_plain_moves()
     ensures { (starts : Starts) (past more : List Entry) (hosts : Stations) → IsFreshWorld starts → AreTyped (more ++ past)
-        → StillRun starts (more ++ past) hosts
-        → (between : Stations) × StillRun starts past between × MoveByEvents starts past between more hosts }
+        → (still : StillRun starts (more ++ past) hosts)
+        → (between : Stations) × StillRun starts past between × MoveByEvents starts past between more hosts still }
 {}
 
 /// Law: where the events keep one clock, their moves are at moments of it.
 pub fn moves_of_events_keep_one_clock()
     ensures { (starts : Starts) (net : Net) (past more : List Entry) (hosts : Stations) (moves : List (ℤ × Happening)) (seats : Side → Seat)
-        (clocks : Side → ℤ) → StillRun starts (more ++ past) hosts → MoveBy starts net past more hosts (timed moves)
+        (clocks : Side → ℤ) (still : StillRun starts (more ++ past) hosts) → MoveBy starts net past more hosts still (timed moves)
         → KeepOneClock starts (λ side. (seats side).place) past more → AreAtMoments seats clocks (clock_in past) moves }
 {}
 
@@ -41,10 +41,10 @@ pub fn moves_of_events_keep_one_clock()
 /// themselves that one asks whether they come in time.
 pub fn partners_go_on_by_their_events()
     ensures { (starts : Starts) (past more : List Entry) (hosts : Stations) (places : Side → ℕ) (news : Side → NewSocket)
-        → IsFreshWorld starts → AreTyped (more ++ past) → StillRun starts (more ++ past) hosts
+        → IsFreshWorld starts → AreTyped (more ++ past) → (still : StillRun starts (more ++ past) hosts)
         → AreNew (seats_of starts places) news (first_net starts) → HaveKeys (seats_of starts places) → HoldText (seats_of starts places)
         → ArePartners past A (places A) (places B)
-        → (between : Stations) × GoOnByEvents starts past between more hosts (seats_of starts places) }
+        → (between : Stations) × GoOnByEvents starts past between more hosts still (seats_of starts places) }
 {
     partners_are_reached();
     partners_go_on();
