@@ -413,7 +413,7 @@ module _ (starts : Starts) (fresh : IsFreshWorld starts) (past : List Entry) (ol
 
 -- ALL EVENTS
 
-untimed_append : (xs : List (ℤ × Step)) (t : ℤ) (steps : List Step) → untimed (xs ++ all_at t steps) ≡ untimed xs ++ steps
+pub untimed_append : (xs : List (ℤ × Step)) (t : ℤ) (steps : List Step) → untimed (xs ++ all_at t steps) ≡ untimed xs ++ steps
 untimed_append [] t [] = refl
 untimed_append [] t (step ∷ steps) = ap (λ (ss : List Step). step ∷ ss) (untimed_append [] t steps)
 untimed_append (x ∷ xs) t steps = ap (λ (ss : List Step). x.1 ∷ ss) (untimed_append xs t steps)

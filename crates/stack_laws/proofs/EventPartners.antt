@@ -17,6 +17,7 @@ use Rattle.lan.specs.Worlds.Still.{StillRun, seats_of}
 use Rattle.lan.proofs.Worlds.AtLink.Paired.Runs.{partners_have_numbers}
 use Rattle.lan.proofs.Worlds.Moves.Calls.{names}
 use Rattle.lan.proofs.Worlds.Moves.Worlds.{fresh_net}
+use Rattle.stack_laws.proofs.EventAsked.{are_asked}
 use Rattle.stack_laws.proofs.EventClocks.{at_moments}
 use Rattle.stack_laws.proofs.EventMoves.{events_move}
 use Rattle.stack_laws.proofs.MovedOn as MovedOn
@@ -70,5 +71,6 @@ go_on_by_events starts past more hosts places news fresh typed still new keys te
             (subst (IsRun names at) these ways.may_on) (subst (AreHosted seats at_clocks at) these (ways.hosted_on places)) keys
             (subst (λ (ss : List Step). ArePartners (run at ss).history A (places A) (places B)) these paired) numbered;
         moments = λ keep. at_moments starts at past more hosts moves seats at_clocks still by keep;
+        asked = λ wait served keep are. are_asked starts at past more hosts still places moves wait served by keep are;
       },
     )

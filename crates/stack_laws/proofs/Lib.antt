@@ -11,6 +11,7 @@ pub mod Partnered
 pub mod StillPartners
 pub mod EventMoves
 pub mod EventClocks
+pub mod EventAsked
 pub mod EventPartners
 pub mod Blocks
 pub mod MovedEvents

@@ -18,3 +18,4 @@ pub mod Partners
 pub mod Moving
 pub mod Events
 pub mod OneClock
+pub mod Serving

@@ -12,8 +12,9 @@ use Rattle.lan.specs.Worlds.AtLink.Runs.{Starts}
 use Rattle.lan.specs.Worlds.AtLink.Station.{Stations}
 use Rattle.lan.specs.Worlds.Still.{StillRun}
 use Rattle.stack_laws.specs.Progress.Events.{MoveBy, clock_in, shown_in}
-use Rattle.stack_laws.specs.Progress.Moving.{AreAtMoments, GoOnByMoves, moves_of}
+use Rattle.stack_laws.specs.Progress.Moving.{AreAsked, AreAtMoments, GoOnByMoves, moves_of}
 use Rattle.stack_laws.specs.Progress.Partners.{GoOnBetween}
+use Rattle.stack_laws.specs.Progress.Serving.{AreServed}
 
 -- a user who calls the socket at the place of a host finds there what the one clock shows
 abbrev pub IsCalledInTurn : (Side → ℕ) → (Side → ℤ) → ℤ → Kind → Type 0
@@ -34,7 +35,7 @@ timed [] = []
 timed (x ∷ more) = (x.0, x.1.step) ∷ timed more
 
 -- The sockets of two partners at the hosts between are a pair that events led to, which goes on by the moves of the later events, with numbers that
--- fit. If those events keep one clock, the moves are at moments of it.
+-- fit. If those events keep one clock, the moves are at moments of it; and if the sockets are served in time, they are asked in time.
 pub record GoOnByEvents (starts : Starts) (past : List Entry) (between : Stations) (more : List Entry) (hosts : Stations)
     (still : StillRun starts (more ++ past) hosts) (seats : Side → Seat) : Type 0 where
   pub goes : GoOnBetween starts past between (more ++ past) hosts seats
@@ -43,3 +44,5 @@ pub record GoOnByEvents (starts : Starts) (past : List Entry) (between : Station
   pub numbered : AreNumbered seats goes.net (moves_of moves)
   pub by_moves : GoOnByMoves seats goes.clocks goes.net goes.reached.pair moves
   pub moments : KeepOneClock starts (λ side. (seats side).place) past more → AreAtMoments seats goes.clocks (clock_in past) moves
+  pub asked : (wait : ℕ) (served : Side → ℤ) → KeepOneClock starts (λ side. (seats side).place) past more
+      → AreServed starts (λ side. (seats side).place) wait past more hosts still served → AreAsked seats wait (clock_in past) goes.net moves

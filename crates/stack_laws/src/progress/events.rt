@@ -15,9 +15,10 @@ ghost use Rattle.lan.specs.Worlds.Events.{AreTyped};
 ghost use Rattle.lan.specs.Worlds.Moves.Joined.{first_net};
 ghost use Rattle.lan.specs.Worlds.Still.{StillRun, seats_of};
 ghost use Rattle.stack_laws.specs.Progress.Events.{MoveBy, MoveByEvents, clock_in};
-ghost use Rattle.stack_laws.specs.Progress.Moving.{AreAtMoments};
+ghost use Rattle.stack_laws.specs.Progress.Moving.{AreAsked, AreAtMoments};
 ghost use Rattle.stack_laws.specs.Progress.OneClock.{GoOnByEvents, KeepOneClock, timed};
 ghost use Rattle.stack_laws.specs.Progress.Partners.{HoldText};
+ghost use Rattle.stack_laws.specs.Progress.Serving.{AreServed};
 
 use super::partners::{moves_go_on, partners_are_reached, partners_go_on};
 
@@ -37,6 +38,15 @@ pub fn moves_of_events_keep_one_clock()
         → KeepOneClock starts (λ side. (seats side).place) past more → AreAtMoments seats clocks (clock_in past) moves }
 {}
 
+/// Law: where hosts are polled when their sockets want to be asked, and each poll that counts leaves its socket so that it doesn't want to be any
+/// more, the moves of the events ask the sockets in time.
+pub fn sockets_that_are_served_are_asked()
+    ensures { (starts : Starts) (net : Net) (past more : List Entry) (hosts : Stations) (still : StillRun starts (more ++ past) hosts)
+        (places : Side → ℕ) (moves : List (ℤ × Happening)) (wait : ℕ) (served : Side → ℤ)
+        → MoveBy starts net past more hosts still (timed moves) → KeepOneClock starts places past more
+        → AreServed starts places wait past more hosts still served → AreAsked (seats_of starts places) wait (clock_in past) net moves }
+{}
+
 /// Law: in such a world two TCP sockets that were partners before some last events go on by the moves of those events. So it is of the events
 /// themselves that one asks whether they come in time.
 pub fn partners_go_on_by_their_events()
@@ -51,4 +61,5 @@ pub fn partners_go_on_by_their_events()
     moves_go_on();
     events_are_plain_moves();
     moves_of_events_keep_one_clock();
+    sockets_that_are_served_are_asked();
 }

@@ -1,0 +1,35 @@
+-- Hosts that are polled when their sockets want to be asked.
+use Rattle.std.specs.Prelude.{◌≡◌, ◌⊎◌, ℕ, ℤ, pos, ◌+ℤ◌, ◌≤ℤ◌, List, [], ◌∷◌, ◌++◌, None, slice_index_or}
+use Rattle.socket_base.specs.Offers.{IsBefore}
+use Rattle.tcp_model.specs.Due.{poll_of}
+use Rattle.lan.specs.declared.at_link.history.event.Side.{Side}
+use Rattle.lan.specs.Worlds.AtLink.History.{Entry}
+use Rattle.lan.specs.Worlds.AtLink.Kinds.{Kind, kind_of}
+use Rattle.lan.specs.Worlds.AtLink.Kinds.Act.{Polls}
+use Rattle.lan.specs.Worlds.AtLink.Kinds.Kind.{OfHost}
+use Rattle.lan.specs.Worlds.AtLink.Runs.{Starts}
+use Rattle.lan.specs.Worlds.AtLink.Station.{StationValue, Stations, station}
+use Rattle.lan.specs.Worlds.Moves.Follows.{sockets_of}
+use Rattle.lan.specs.Worlds.Still.{StillRun}
+use Rattle.stack_laws.specs.Progress.Events.{clock_in}
+use Rattle.stack_laws.specs.Progress.Moving.{IsTcp}
+
+-- the TCP socket at this place of a host wants to be asked at this moment, or wanted to be earlier
+abbrev pub WantsAt : ℤ → ℕ → StationValue → Type 0
+WantsAt moment place s = IsTcp (slice_index_or (sockets_of s.places) place None) (λ v. IsBefore moment (poll_of s.host.inner.mtu v) → ⊥)
+
+-- An event serves the socket at this place of a host at this moment: it is a poll, behind which the socket doesn't want to be asked any more.
+abbrev pub Serves : ℕ → Side → Kind → StationValue → ℤ → Type 0
+Serves place side (OfHost host (Polls moment budget)) behind served = (host ≡ side) × (moment ≡ served) × (WantsAt moment place behind → ⊥)
+Serves place side kind behind served = ⊥
+
+-- Both sockets are served in time, and were so last at these moments: since a socket was served last, nothing happens more than so many microseconds
+-- after a moment at which it wants to be asked.
+abbrev pub AreServed : (starts : Starts) (places : Side → ℕ) (wait : ℕ) (past more : List Entry) (hosts : Stations) → StillRun starts (more ++ past) hosts
+    → (Side → ℤ) → Type 0
+AreServed starts places wait past [] hosts still served = (side : Side) → served side ≤ℤ clock_in past
+AreServed starts places wait past (e ∷ more) hosts still served =
+    (before : Side → ℤ) × AreServed starts places wait past more still.0 still.1 before
+    × ((side : Side) (due : ℤ) → before side ≤ℤ due → WantsAt due (places side) (station still.0 side)
+    → clock_in (e ∷ more ++ past) ≤ℤ (due +ℤ pos wait))
+    × ((side : Side) → (served side ≡ before side) ⊎ Serves (places side) side (kind_of e.event) (station hosts side) (served side))
