@@ -12,6 +12,7 @@ pub mod StillPartners
 pub mod EventMoves
 pub mod EventClocks
 pub mod EventAsked
+pub mod EventQuiet
 pub mod EventPartners
 pub mod Blocks
 pub mod MovedEvents

@@ -1,7 +1,14 @@
 -- Hosts that are polled when their sockets want to be asked.
-use Rattle.std.specs.Prelude.{◌≡◌, ◌⊎◌, ℕ, ℤ, pos, ◌+ℤ◌, ◌≤ℤ◌, List, [], ◌∷◌, ◌++◌, None, slice_index_or}
+use Rattle.std.specs.Prelude.{◌≡◌, ◌⊎◌, ℕ, ◌≤◌, ℤ, pos, ◌+ℤ◌, ◌≤ℤ◌, false, IsTrue, List, [], ◌∷◌, ◌++◌, Some, None, slice_get, slice_index_or}
+use Rattle.interface.specs.Turn.{is_waiting}
+use Rattle.interface_egress.specs.declared.socket_set.Item.{Item}
+use Rattle.interface_egress.specs.declared.socket_set.SocketStorage.{SocketStorage}
+use Rattle.interface_ingress.specs.Socket.{Socket}
 use Rattle.socket_base.specs.Offers.{IsBefore}
 use Rattle.tcp_model.specs.Due.{poll_of}
+use Rattle.lan_base.specs.Port.{has_leave}
+use Rattle.lan.specs.declared.at_link.history.answer.Answer.{Answer}
+use Rattle.lan.specs.declared.at_link.history.answer.Answer.TheVariants as To
 use Rattle.lan.specs.declared.at_link.history.event.Side.{Side}
 use Rattle.lan.specs.Worlds.AtLink.History.{Entry}
 use Rattle.lan.specs.Worlds.AtLink.Kinds.{Kind, kind_of}
@@ -33,3 +40,18 @@ AreServed starts places wait past (e ∷ more) hosts still served =
     × ((side : Side) (due : ℤ) → before side ≤ℤ due → WantsAt due (places side) (station still.0 side)
     → clock_in (e ∷ more ++ past) ≤ℤ (due +ℤ pos wait))
     × ((side : Side) → (served side ≡ before side) ⊎ Serves (places side) side (kind_of e.event) (station hosts side) (served side))
+
+-- A POLL THAT SERVES
+
+-- A poll in which nothing happens any more: it says that nothing changed, no frame went, and behind it the device gives leave to send one.
+pub record IsQuietPoll (budget : ℕ) (answer : Answer) (old new : StationValue) : Type 0 where
+  pub some : 1 ≤ budget
+  pub unchanged : answer ≡ To.Poll false
+  pub sent : new.link.sent ≡ old.link.sent
+  pub leave : IsTrue (has_leave new.link)
+
+-- the socket at this place waits for no neighbor
+abbrev pub WaitsForNone : ℕ → StationValue → Type 0
+WaitsForNone place s =
+    (at : SocketStorage Socket) (item : Item Socket) → slice_get s.places place ≡ Some at → at.inner ≡ Some item
+    → is_waiting s.host.inner item.meta ≡ false

@@ -1,25 +1,31 @@
 //! The events of a world are moves of its hosts.
 
-ghost use Rattle.std.specs.Prelude.{◌++◌, ℕ, ℤ, List};
+ghost use Rattle.std.specs.Prelude.{◌≡◌, ◌++◌, ℕ, ℤ, List};
+ghost use Rattle.interface_tables.specs.Inner.{InnerValue};
 ghost use Rattle.lan.specs.declared.at_link.history.event.Side.{Side};
 ghost use Rattle.lan.specs.declared.at_link.history.event.Side.TheVariants.{A, B};
 ghost use Rattle.lan.specs.Worlds.AtLink.Fresh.{IsFreshWorld};
 ghost use Rattle.lan.specs.Worlds.AtLink.Happening.{Happening};
 ghost use Rattle.lan.specs.Worlds.AtLink.History.{Entry};
+ghost use Rattle.lan.specs.Worlds.AtLink.Kinds.{kind_of};
+ghost use Rattle.lan.specs.Worlds.AtLink.Kinds.Act.{Polls};
+ghost use Rattle.lan.specs.Worlds.AtLink.Kinds.Kind.{OfHost};
 ghost use Rattle.lan.specs.Worlds.AtLink.Paired.{AreNew, HaveKeys, NewSocket, Seat};
 ghost use Rattle.lan.specs.Worlds.AtLink.Parties.{Net};
 ghost use Rattle.lan.specs.Worlds.AtLink.Partners.{ArePartners};
-ghost use Rattle.lan.specs.Worlds.AtLink.Runs.{Starts};
-ghost use Rattle.lan.specs.Worlds.AtLink.Station.{Stations};
+ghost use Rattle.lan.specs.Worlds.AtLink.Runs.{Leads, Starts};
+ghost use Rattle.lan.specs.Worlds.AtLink.Station.{Stations, station};
 ghost use Rattle.lan.specs.Worlds.Events.{AreTyped};
 ghost use Rattle.lan.specs.Worlds.Moves.Joined.{first_net};
-ghost use Rattle.lan.specs.Worlds.Still.{StillRun, seats_of};
+ghost use Rattle.lan.specs.Worlds.Still.{IsStill, StillRun, seats_of};
 ghost use Rattle.stack_laws.specs.Progress.Events.{MoveBy, MoveByEvents, clock_in};
 ghost use Rattle.stack_laws.specs.Progress.Moving.{AreAsked, AreAtMoments};
 ghost use Rattle.stack_laws.specs.Progress.OneClock.{GoOnByEvents, KeepOneClock, timed};
 ghost use Rattle.stack_laws.specs.Progress.Partners.{HoldText};
-ghost use Rattle.stack_laws.specs.Progress.Serving.{AreServed};
+ghost use Rattle.stack_laws.specs.Progress.Patience.{ArePatient};
+ghost use Rattle.stack_laws.specs.Progress.Serving.{AreServed, IsQuietPoll, Serves, WaitsForNone};
 
+use super::inboxes::ports_refuse_nothing;
 use super::partners::{moves_go_on, partners_are_reached, partners_go_on};
 
 /// Law: in a world whose hosts stay as they showed themselves to their sockets at first, each event is plain moves of its host: those of a poll
@@ -46,6 +52,18 @@ pub fn sockets_that_are_served_are_asked()
         → MoveBy starts net past more hosts still (timed moves) → KeepOneClock starts places past more
         → AreServed starts places wait past more hosts still served → AreAsked (seats_of starts places) wait (clock_in past) net moves }
 {}
+
+/// Law: a poll in which nothing happens any more serves each TCP socket of its host that waits for no neighbor, where no socket has a user timeout
+/// of 0.
+pub fn quiet_polls_serve()
+    ensures { (first : InnerValue) (past : List Entry) (old new : Stations) (e : Entry) (side : Side) (t : ℤ) (budget place : ℕ)
+        → Leads past old e new → kind_of e.event ≡ OfHost side (Polls t budget)
+        → IsQuietPoll budget e.answer (station old side) (station new side) → ArePatient (station old side).places
+        → IsStill first (station new side).host.inner → WaitsForNone place (station new side)
+        → Serves place side (kind_of e.event) (station new side) t }
+{
+    ports_refuse_nothing();
+}
 
 /// Law: in such a world two TCP sockets that were partners before some last events go on by the moves of those events. So it is of the events
 /// themselves that one asks whether they come in time.
