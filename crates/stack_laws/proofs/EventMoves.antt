@@ -1,5 +1,5 @@
 -- Each event of a world whose hosts stay is plain moves of its host.
-use Rattle.std.proofs.Common.{◌≡◌, ℕ, suc, ◌+◌, ◌^◌, ◌<◌, ◌≤◌, ℤ, ◌≤ℤ◌, Bool, if◌then◌else◌, false, List, [], ◌∷◌, ◌++◌, length, Option, Some, None}
+use Rattle.std.proofs.Common.{◌≡◌, ℕ, suc, ◌+◌, ◌^◌, ◌<◌, ◌≤◌, ℤ, ◌≤ℤ◌, Bool, ◌==◌, if◌then◌else◌, true, false, List, [], ◌∷◌, ◌++◌, length, Option, Some, None}
 use Rattle.std.proofs.Common.{refl, sym, ap, ◌∙◌, subst, arith}
 use Rattle.std.specs.Prelude.{pos}
 use Rattle.std.specs.List.{AllByRecursion, list_any}
@@ -24,7 +24,7 @@ use Rattle.lan.specs.Worlds.AtLink.Moves.{IsNoCall, IsRun, May, Move, Step, afte
 use Rattle.lan.specs.Worlds.AtLink.Moves.Move.{Invokes, Passes, Offers, Gives, Takes, Receives, Resets, Changes}
 use Rattle.lan.specs.Worlds.AtLink.Origins.{goes_to}
 use Rattle.lan.specs.Worlds.AtLink.PacketsSafe.{IsFreshParty}
-use Rattle.lan.specs.Worlds.AtLink.Paired.{AreHosted, Seat, at_zero, clocks_after, clocks_in}
+use Rattle.lan.specs.Worlds.AtLink.Paired.{AreHosted, Seat, at_zero, clock_after, clocks_after, clocks_in, if_at, shown_to}
 use Rattle.lan.specs.Worlds.AtLink.Parties.{Net, party, socket_at}
 use Rattle.lan.specs.Worlds.AtLink.Parties.Socket.{Tcp}
 use Rattle.lan.specs.Worlds.AtLink.Port.{LinkEnd}
@@ -58,7 +58,7 @@ use Rattle.lan.proofs.Worlds.Settings.{setting_joins}
 use Rattle.lan.proofs.Worlds.StillOnward.{first, moments, now_still, onward, ran, seen_in_run}
 use Rattle.lan.proofs.Worlds.StillPlain.{plain_run}
 use Rattle.lan.proofs.Worlds.StillSources.{PairKeeps}
-use Rattle.lan.proofs.Worlds.StillSteps.{AreAllHeld, all-append, all-at, one-held}
+use Rattle.lan.proofs.Worlds.StillSteps.{AreAllHeld, all-append, all-at, one-held, raised}
 use Rattle.lan.specs.Worlds.Still.{host_in}
 use Rattle.stack_laws.specs.Progress.Events.{AreOfEvent, IsOfPoll, MoveBy, MoveByEvents, all_at, clock_in, shown_by, shown_in, untimed}
 
@@ -527,6 +527,45 @@ module _ (starts : Starts) (fresh : IsFreshWorld starts) where
       plain_run (first starts) (outward history hosts still) names (seats_of starts places) (λ s. refl) at_zero at_zero (first_net starts) steps
       (moments starts hosts) may held first_keeps (λ s. at_once)
 
+-- WHAT SOCKETS WERE SHOWN LAST is no later than what the clocks of their hosts show
+
+in_turn : (a b c : ℤ) → a ≤ℤ b → b ≤ℤ c → a ≤ℤ c
+in_turn a b c one two = omega (arith, ints, one, two)
+
+module _ (i : InnerValue) (t clock : ℤ) (before : clock ≤ℤ t) (place : ℕ) where
+  shown_at : (at : ℕ) (cx : ContextValue) → IsShownAt i t cx → clock_after clock (if_at at place cx) ≤ℤ t
+  shown_at at cx shown = by (at == place) where
+    by : (b : Bool) → clock_after clock (if b then Some cx else None) ≤ℤ t
+    by true = no_later cx.moment t (ap (λ (c : ContextValue). c.moment) shown)
+    by false = before
+
+  shown_low : (net : Net) (side : Side) (move : Move) → IsHeld i t net side move → clock_after clock (shown_to place move) ≤ℤ t
+  shown_low net side (Invokes at cx old entry call new) held = shown_at at cx held
+  shown_low net side (Passes entry) held = before
+  shown_low net side (Offers at cx v from sent) held = shown_at at cx held.0
+  shown_low net side (Gives at cx v answer new sent) held = before
+  shown_low net side (Takes at cx v ip header bytes) held = shown_at at cx held.0
+  shown_low net side (Receives at cx v ip udp bytes) held = before
+  shown_low net side (Resets x) held = before
+  shown_low net side (Changes at old new) held = before
+
+module _ (firsts : Side → InnerValue) (seats : Side → Seat) where
+  clocks_up : (clocks floors : Side → ℤ) (side : Side) (move : Move) (t : ℤ) → clock_after (clocks side) (shown_to (seats side).place move) ≤ℤ t →
+      ((s : Side) → clocks s ≤ℤ floors s) → (s : Side) → clocks_after seats clocks (step_of side move) s ≤ℤ raised floors side t s
+  clocks_up clocks floors A move t here all A = here
+  clocks_up clocks floors A move t here all B = all B
+  clocks_up clocks floors B move t here all A = all A
+  clocks_up clocks floors B move t here all B = here
+
+  clocks_low : (clocks floors : Side → ℤ) (net : Net) (steps : List Step) (ends : Side → ℤ) → AreAllHeld firsts floors net steps ends →
+      ((s : Side) → clocks s ≤ℤ floors s) → (s : Side) → clocks_in seats clocks steps s ≤ℤ ends s
+  clocks_low clocks floors net [] ends held low s = in_turn (clocks s) (floors s) (ends s) (low s) (held s)
+  clocks_low clocks floors net (step ∷ steps) ends (t, moment, later, held, rest) low s =
+      clocks_low (clocks_after seats clocks step) (raised floors step.side t) (after net step) steps ends rest
+      (clocks_up clocks floors step.side step.move t
+      (shown_low (firsts step.side) t (clocks step.side) (in_turn (clocks step.side) (floors step.side) t (low step.side) later) (seats step.side).place net
+      step.side step.move held) low) s
+
 pub events_move : (starts : Starts) (past more : List Entry) (hosts : Stations) → IsFreshWorld starts → AreTyped (more ++ past) →
     (still : StillRun starts (more ++ past) hosts) → (between : Stations) × StillRun starts past between × MoveByEvents starts past between more hosts still
 events_move starts past more hosts fresh typed still =
@@ -553,5 +592,8 @@ events_move starts past more hosts fresh typed still =
         moves = w.moves;
         are_these = refl;
         of_events = w.by_events;
+        showed = λ places s.
+            subst (λ (m : ℤ). clocks_in (seats_of starts places) at_zero one.steps s ≤ℤ m) (shows starts past between (ran starts past between was) s)
+            (clocks_low (first starts) (seats_of starts places) at_zero at_zero net one.steps (moments starts between) held (λ side. no_earlier (pos 0)) s);
       },
     )

@@ -1,5 +1,6 @@
 -- Partners in a world whose hosts stay go on by the moves of its events.
-use Rattle.std.proofs.Common.{◌≡◌, ℕ, ℤ, List, [], ◌∷◌, ◌++◌, refl, sym, ap, ◌∙◌, subst}
+use Rattle.std.proofs.Common.{◌≡◌, ℕ, ℤ, ◌≤ℤ◌, List, [], ◌∷◌, ◌++◌, refl, sym, ap, ◌∙◌, subst, arith}
+use Rattle.std.proofs.lemmas.Int.{ints}
 use Rattle.lan.specs.declared.at_link.history.event.Side.{Side}
 use Rattle.lan.specs.declared.at_link.history.event.Side.TheVariants.{A, B}
 use Rattle.lan.specs.Worlds.AtLink.Fresh.{IsFreshWorld}
@@ -20,12 +21,16 @@ use Rattle.lan.proofs.Worlds.Moves.Worlds.{fresh_net}
 use Rattle.stack_laws.proofs.EventAsked.{are_asked}
 use Rattle.stack_laws.proofs.EventClocks.{at_moments}
 use Rattle.stack_laws.proofs.EventMoves.{events_move}
+use Rattle.stack_laws.proofs.EventReads.{are_read}
 use Rattle.stack_laws.proofs.MovedOn as MovedOn
 use Rattle.stack_laws.proofs.StillPartners.{clocks, mid, on_between, shown, still_partners}
-use Rattle.stack_laws.specs.Progress.Events.{MoveBy, untimed}
+use Rattle.stack_laws.specs.Progress.Events.{MoveBy, clock_in, shown_in, untimed}
 use Rattle.stack_laws.specs.Progress.Moving.{moves_of}
 use Rattle.stack_laws.specs.Progress.OneClock.{GoOnByEvents, timed}
 use Rattle.stack_laws.specs.Progress.Partners.{HoldText}
+
+upto : (a b c : ℤ) → a ≤ℤ b → b ≤ℤ c → a ≤ℤ c
+upto a b c one two = omega (arith, ints, one, two)
 
 -- moves with moments, and with numbers
 with_numbers : (xs : List (ℤ × Step)) (ms : List Happening) → steps_of ms ≡ untimed xs → (moves : List (ℤ × Happening)) × (moves_of moves ≡ ms) × (timed moves ≡ xs)
@@ -70,7 +75,9 @@ go_on_by_events starts past more hosts places news fresh typed still new keys te
         by_moves = MovedOn.go_on (first_port starts) names net ways.before moves seats at_clocks pair.pair (fresh_net starts fresh) ways.may pair.reached pair.shows
             (subst (IsRun names at) these ways.may_on) (subst (AreHosted seats at_clocks at) these (ways.hosted_on places)) keys
             (subst (λ (ss : List Step). ArePartners (run at ss).history A (places A) (places B)) these paired) numbered;
+        clock = λ side up. upto (at_clocks side) (shown_in starts past side) (clock_in past) (them.showed places side) up;
         moments = λ keep. at_moments starts at past more hosts moves seats at_clocks still by keep;
+        read_in_time = λ side read last keep are. are_read starts at past more hosts still seats moves side read last by keep are;
         asked = λ wait served keep are. are_asked starts at past more hosts still places moves wait served by keep are;
       },
     )

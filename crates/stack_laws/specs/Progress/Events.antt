@@ -1,5 +1,5 @@
 -- Which moves the events of a world are, and at which moments they are made.
-use Rattle.std.specs.Prelude.{◌≡◌, ℕ, ℤ, pos, if◌then◌else◌, List, [], ◌∷◌, ◌++◌, map}
+use Rattle.std.specs.Prelude.{◌≡◌, ℕ, ℤ, pos, ◌≤ℤ◌, if◌then◌else◌, List, [], ◌∷◌, ◌++◌, map}
 use Rattle.std.specs.List.{AllByRecursion}
 use Rattle.lan.specs.declared.at_link.history.event.Side.{Side}
 use Rattle.lan.specs.Worlds.AtLink.History.{Entry}
@@ -9,12 +9,13 @@ use Rattle.lan.specs.Worlds.AtLink.Kinds.Kind.{OfHost}
 use Rattle.lan.specs.Worlds.AtLink.Call.{SocketCall}
 use Rattle.lan.specs.Worlds.AtLink.Moves.{IsRun, Move, Step, run}
 use Rattle.lan.specs.Worlds.AtLink.Moves.Move.{Invokes, Passes, Offers, Gives, Takes, Receives}
+use Rattle.lan.specs.Worlds.AtLink.Paired.{at_zero, clocks_in}
 use Rattle.lan.specs.Worlds.AtLink.Parties.{Net}
 use Rattle.lan.specs.Worlds.AtLink.Runs.{Starts, start}
 use Rattle.lan.specs.Worlds.AtLink.Station.{Stations}
 use Rattle.lan.specs.Worlds.Moves.Follows.{IsNetOf}
 use Rattle.lan.specs.Worlds.Moves.Joined.{first_net}
-use Rattle.lan.specs.Worlds.Still.{MovePlainly, StillRun}
+use Rattle.lan.specs.Worlds.Still.{MovePlainly, StillRun, seats_of}
 use Rattle.lan_base.specs.Carried.{names_tcp_or_udp}
 use Rattle.lan_base.specs.Medium.TheVariants as Medium
 
@@ -96,3 +97,5 @@ pub record MoveByEvents (starts : Starts) (past : List Entry) (between : Station
   pub moves : List (ℤ × Step)
   pub are_these : untimed moves ≡ plainly.steps
   pub of_events : MoveBy starts (run (first_net starts) plainly.before) past more hosts still moves
+  -- no socket was shown a later moment than its host's clock shows
+  pub showed : (places : Side → ℕ) (side : Side) → clocks_in (seats_of starts places) at_zero plainly.before side ≤ℤ shown_in starts past side

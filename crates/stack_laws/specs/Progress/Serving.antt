@@ -1,4 +1,4 @@
--- Hosts that are polled when their sockets want to be asked.
+-- Hosts that are polled when their sockets want to be asked, and users that read.
 use Rattle.std.specs.Prelude.{◌≡◌, ◌⊎◌, ℕ, ◌≤◌, ℤ, pos, ◌+ℤ◌, ◌≤ℤ◌, false, IsTrue, List, [], ◌∷◌, ◌++◌, Some, None, slice_get, slice_index_or}
 use Rattle.interface.specs.Turn.{is_waiting}
 use Rattle.interface_egress.specs.declared.socket_set.Item.{Item}
@@ -10,9 +10,10 @@ use Rattle.lan_base.specs.Port.{has_leave}
 use Rattle.lan.specs.declared.at_link.history.answer.Answer.{Answer}
 use Rattle.lan.specs.declared.at_link.history.answer.Answer.TheVariants as To
 use Rattle.lan.specs.declared.at_link.history.event.Side.{Side}
+use Rattle.lan.specs.Worlds.AtLink.Call as Call
 use Rattle.lan.specs.Worlds.AtLink.History.{Entry}
 use Rattle.lan.specs.Worlds.AtLink.Kinds.{Kind, kind_of}
-use Rattle.lan.specs.Worlds.AtLink.Kinds.Act.{Polls}
+use Rattle.lan.specs.Worlds.AtLink.Kinds.Act.{Calls, Polls}
 use Rattle.lan.specs.Worlds.AtLink.Kinds.Kind.{OfHost}
 use Rattle.lan.specs.Worlds.AtLink.Runs.{Starts}
 use Rattle.lan.specs.Worlds.AtLink.Station.{StationValue, Stations, station}
@@ -55,3 +56,18 @@ abbrev pub WaitsForNone : ℕ → StationValue → Type 0
 WaitsForNone place s =
     (at : SocketStorage Socket) (item : Item Socket) → slice_get s.places place ≡ Some at → at.inner ≡ Some item
     → is_waiting s.host.inner item.meta ≡ false
+
+-- USERS READ
+
+-- an event by which the user of the socket at this place of a host reads a byte at least
+abbrev pub UserReads : ℕ → Side → Kind → Type 0
+UserReads place side (OfHost host (Calls at (Call.Recv limit))) = (host ≡ side) × (at ≡ place) × (1 ≤ limit)
+UserReads place side kind = ⊥
+
+-- The user of the socket at this place of a host reads often, and did so last at this moment: nothing happens more than so many microseconds after the
+-- last time, whether there was anything to read or not.
+abbrev pub IsReadOften : (place read : ℕ) → Side → (past more : List Entry) → ℤ → Type 0
+IsReadOften place read side past [] last = last ≤ℤ clock_in past
+IsReadOften place read side past (e ∷ more) last =
+    (before : ℤ) × IsReadOften place read side past more before × (clock_in (e ∷ more ++ past) ≤ℤ (before +ℤ pos read))
+    × ((last ≡ before) ⊎ (UserReads place side (kind_of e.event) × (last ≡ clock_in (e ∷ more ++ past))))

@@ -19,11 +19,11 @@ ghost use Rattle.lan.specs.Worlds.Events.{AreTyped};
 ghost use Rattle.lan.specs.Worlds.Moves.Joined.{first_net};
 ghost use Rattle.lan.specs.Worlds.Still.{IsStill, StillRun, seats_of};
 ghost use Rattle.stack_laws.specs.Progress.Events.{MoveBy, MoveByEvents, clock_in};
-ghost use Rattle.stack_laws.specs.Progress.Moving.{AreAsked, AreAtMoments};
+ghost use Rattle.stack_laws.specs.Progress.Moving.{AreAsked, AreAtMoments, IsReadInTime};
 ghost use Rattle.stack_laws.specs.Progress.OneClock.{GoOnByEvents, KeepOneClock, timed};
 ghost use Rattle.stack_laws.specs.Progress.Partners.{HoldText};
 ghost use Rattle.stack_laws.specs.Progress.Patience.{ArePatient};
-ghost use Rattle.stack_laws.specs.Progress.Serving.{AreServed, IsQuietPoll, Serves, WaitsForNone};
+ghost use Rattle.stack_laws.specs.Progress.Serving.{AreServed, IsQuietPoll, IsReadOften, Serves, WaitsForNone};
 
 use super::inboxes::ports_refuse_nothing;
 use super::partners::{moves_go_on, partners_are_reached, partners_go_on};
@@ -53,6 +53,14 @@ pub fn sockets_that_are_served_are_asked()
         → AreServed starts places wait past more hosts still served → AreAsked (seats_of starts places) wait (clock_in past) net moves }
 {}
 
+/// Law: where a user reads often, the moves of the events read in time.
+pub fn users_that_read_often_read_in_time()
+    ensures { (starts : Starts) (net : Net) (past more : List Entry) (hosts : Stations) (still : StillRun starts (more ++ past) hosts)
+        (seats : Side → Seat) (moves : List (ℤ × Happening)) (side : Side) (read : ℕ) (last : ℤ)
+        → MoveBy starts net past more hosts still (timed moves) → KeepOneClock starts (λ s. (seats s).place) past more
+        → IsReadOften (seats side).place read side past more last → IsReadInTime seats read (clock_in past) net side moves }
+{}
+
 /// Law: a poll in which nothing happens any more serves each TCP socket of its host that waits for no neighbor, where no socket has a user timeout
 /// of 0.
 pub fn quiet_polls_serve()
@@ -80,4 +88,5 @@ pub fn partners_go_on_by_their_events()
     events_are_plain_moves();
     moves_of_events_keep_one_clock();
     sockets_that_are_served_are_asked();
+    users_that_read_often_read_in_time();
 }
