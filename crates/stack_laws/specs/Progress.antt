@@ -19,3 +19,4 @@ pub mod Moving
 pub mod Events
 pub mod OneClock
 pub mod Serving
+pub mod ByEvents

@@ -1,30 +1,40 @@
--- Hosts that are polled when their sockets want to be asked, and users that read.
-use Rattle.std.specs.Prelude.{◌≡◌, ◌⊎◌, ℕ, ◌≤◌, ℤ, pos, ◌+ℤ◌, ◌≤ℤ◌, false, IsTrue, List, [], ◌∷◌, ◌++◌, Some, None, slice_get, slice_index_or}
+-- Events in time: hosts are polled when their sockets want to be asked, and users read.
+use Rattle.std.specs.Prelude.{◌≡◌, ◌⊎◌, ℕ, ◌≤◌, ℤ, pos, ◌+ℤ◌, ◌≤ℤ◌, true, false, IsTrue, List, [], ◌∷◌, ◌++◌, Some, None, slice_get, slice_index_or}
 use Rattle.interface.specs.Turn.{is_waiting}
 use Rattle.interface_egress.specs.declared.socket_set.Item.{Item}
 use Rattle.interface_egress.specs.declared.socket_set.SocketStorage.{SocketStorage}
 use Rattle.interface_ingress.specs.Socket.{Socket}
 use Rattle.socket_base.specs.Offers.{IsBefore}
 use Rattle.tcp_model.specs.Due.{poll_of}
+use Rattle.tcp_model.specs.Value.{TcpValue, room_of}
+use Rattle.tcp_progress.specs.Arrivals.{is_synchronized}
+use Rattle.tcp_progress.specs.Exchange.{IsOpen}
+use Rattle.tcp_progress.specs.Pair.{HasStream}
 use Rattle.lan_base.specs.Port.{has_leave}
 use Rattle.lan.specs.declared.at_link.history.answer.Answer.{Answer}
 use Rattle.lan.specs.declared.at_link.history.answer.Answer.TheVariants as To
 use Rattle.lan.specs.declared.at_link.history.event.Side.{Side}
 use Rattle.lan.specs.Worlds.AtLink.Call as Call
 use Rattle.lan.specs.Worlds.AtLink.History.{Entry}
-use Rattle.lan.specs.Worlds.AtLink.Kinds.{Kind, kind_of}
+use Rattle.lan.specs.Worlds.AtLink.Kinds.{Kind, kind_of, other}
 use Rattle.lan.specs.Worlds.AtLink.Kinds.Act.{Calls, Polls}
 use Rattle.lan.specs.Worlds.AtLink.Kinds.Kind.{OfHost}
+use Rattle.lan.specs.Worlds.AtLink.Paired.{told}
 use Rattle.lan.specs.Worlds.AtLink.Runs.{Starts}
 use Rattle.lan.specs.Worlds.AtLink.Station.{StationValue, Stations, station}
 use Rattle.lan.specs.Worlds.Moves.Follows.{sockets_of}
 use Rattle.lan.specs.Worlds.Still.{StillRun}
-use Rattle.stack_laws.specs.Progress.Events.{clock_in}
+use Rattle.stack_laws.specs.Progress.Events.{clock_in, shown_in}
 use Rattle.stack_laws.specs.Progress.Moving.{IsTcp}
+use Rattle.stack_laws.specs.Progress.OneClock.{KeepOneClock}
 
--- the TCP socket at this place of a host wants to be asked at this moment, or wanted to be earlier
+-- the TCP socket at this place of a host is so
+abbrev pub IsAtHost : ℕ → StationValue → (TcpValue → Type 0) → Type 0
+IsAtHost place s IsSo = IsTcp (slice_index_or (sockets_of s.places) place None) IsSo
+
+-- it wants to be asked at this moment, or wanted to be earlier
 abbrev pub WantsAt : ℤ → ℕ → StationValue → Type 0
-WantsAt moment place s = IsTcp (slice_index_or (sockets_of s.places) place None) (λ v. IsBefore moment (poll_of s.host.inner.mtu v) → ⊥)
+WantsAt moment place s = IsAtHost place s (λ v. IsBefore moment (poll_of s.host.inner.mtu v) → ⊥)
 
 -- An event serves the socket at this place of a host at this moment: it is a poll, behind which the socket doesn't want to be asked any more.
 abbrev pub Serves : ℕ → Side → Kind → StationValue → ℤ → Type 0
@@ -71,3 +81,21 @@ IsReadOften place read side past [] last = last ≤ℤ clock_in past
 IsReadOften place read side past (e ∷ more) last =
     (before : ℤ) × IsReadOften place read side past more before × (clock_in (e ∷ more ++ past) ≤ℤ (before +ℤ pos read))
     × ((last ≡ before) ⊎ (UserReads place side (kind_of e.event) × (last ≡ clock_in (e ∷ more ++ past))))
+
+-- EVENTS IN TIME
+
+-- From the hosts between on, as the one clock shows what it was told last: both connections are open, and are there at the end; the events keep one
+-- clock, both sockets are served in time, and the other's user reads often. The side has a receive buffer to send to, and a stream that is no empty
+-- one, and its host's clock isn't ahead.
+pub record AreEventsInTime (starts : Starts) (places : Side → ℕ) (read wait : ℕ) (side : Side) (past : List Entry) (between : Stations) (more : List Entry)
+    (hosts : Stations) (still : StillRun starts (more ++ past) hosts) : Type 0 where
+  pub opened : (of : Side) → IsAtHost (places of) (station between of) (λ v. IsOpen v.block)
+  pub stay : (of : Side) → IsAtHost (places of) (station hosts of) (λ v. is_synchronized v.block.state ≡ true)
+  pub clock : shown_in starts past side ≤ℤ clock_in past
+  pub one_clock : KeepOneClock starts places past more
+  pub served : Side → ℤ
+  pub are_served : AreServed starts places wait past more hosts still served
+  pub last : ℤ
+  pub reads : IsReadOften (places (other side)) read (other side) past more last
+  pub stream : HasStream (told past side (places side))
+  pub room : IsAtHost (places (other side)) (station between (other side)) (λ v. 1 ≤ room_of v.received)

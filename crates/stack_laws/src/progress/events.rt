@@ -18,9 +18,10 @@ ghost use Rattle.lan.specs.Worlds.AtLink.Station.{Stations, station};
 ghost use Rattle.lan.specs.Worlds.Events.{AreTyped};
 ghost use Rattle.lan.specs.Worlds.Moves.Joined.{first_net};
 ghost use Rattle.lan.specs.Worlds.Still.{IsStill, StillRun, seats_of};
+ghost use Rattle.stack_laws.specs.Progress.ByEvents.{GoOnByEvents};
 ghost use Rattle.stack_laws.specs.Progress.Events.{MoveBy, MoveByEvents, clock_in};
 ghost use Rattle.stack_laws.specs.Progress.Moving.{AreAsked, AreAtMoments, IsReadInTime};
-ghost use Rattle.stack_laws.specs.Progress.OneClock.{GoOnByEvents, KeepOneClock, timed};
+ghost use Rattle.stack_laws.specs.Progress.OneClock.{KeepOneClock, timed};
 ghost use Rattle.stack_laws.specs.Progress.Partners.{HoldText};
 ghost use Rattle.stack_laws.specs.Progress.Patience.{ArePatient};
 ghost use Rattle.stack_laws.specs.Progress.Serving.{AreServed, IsQuietPoll, IsReadOften, Serves, WaitsForNone};
@@ -73,14 +74,15 @@ pub fn quiet_polls_serve()
     ports_refuse_nothing();
 }
 
-/// Law: in such a world two TCP sockets that were partners before some last events go on by the moves of those events. So it is of the events
-/// themselves that one asks whether they come in time.
+/// Law: in such a world two TCP sockets that were partners before some last events go on by the moves of those events. So one can ask of the events
+/// themselves whether they come in time: of hosts, that they are polled in time, and of users, that they read. Of the moves nothing else is asked than
+/// that what the sockets offer goes, and that each segment is heard in time.
 pub fn partners_go_on_by_their_events()
     ensures { (starts : Starts) (past more : List Entry) (hosts : Stations) (places : Side → ℕ) (news : Side → NewSocket)
         → IsFreshWorld starts → AreTyped (more ++ past) → (still : StillRun starts (more ++ past) hosts)
         → AreNew (seats_of starts places) news (first_net starts) → HaveKeys (seats_of starts places) → HoldText (seats_of starts places)
         → ArePartners past A (places A) (places B)
-        → (between : Stations) × GoOnByEvents starts past between more hosts still (seats_of starts places) }
+        → (between : Stations) × GoOnByEvents starts past between more hosts still places }
 {
     partners_are_reached();
     partners_go_on();
