@@ -7,7 +7,6 @@ use Rattle.socket_base.specs.Offers.{IsBefore}
 use Rattle.socket_base.specs.declared.poll_at.PollAt.{PollAt}
 use Rattle.socket_base.specs.declared.poll_at.PollAt.TheVariants as When
 use Rattle.tcp_model.specs.Due.{poll_of}
-use Rattle.tcp_model.specs.Value.{TcpValue}
 use Rattle.lan.specs.declared.at_link.history.event.Side.{Side}
 use Rattle.lan.specs.Worlds.AtLink.Happening.{Happening}
 use Rattle.lan.specs.Worlds.AtLink.History.{Entry}

@@ -1,5 +1,5 @@
 -- Behind a quiet poll a TCP socket doesn't want to be asked any more.
-use Rattle.std.proofs.Common.{◌≡◌, ◌⊎◌, inl, inr, ℕ, zero, suc, ◌≤◌, ℤ, pos, ◌≤ℤ◌, ◌<ℤ◌, Bool, true, false, ◌||◌, if◌then◌else◌, IsTrue, List, [], ◌∷◌, ◌++◌, length, Option, Some, None}
+use Rattle.std.proofs.Common.{◌≡◌, ◌⊎◌, inl, inr, ℕ, zero, suc, ◌≤◌, ℤ, ◌≤ℤ◌, Bool, true, false, ◌||◌, if◌then◌else◌, IsTrue, List, [], ◌∷◌, length, Option, Some, None}
 use Rattle.std.proofs.Common.{refl, sym, ap, ◌∙◌, subst, arith}
 use Rattle.std.specs.Prelude.{slice_get, slice_index_or}
 use Rattle.std.specs.List.{list_any}
@@ -48,7 +48,7 @@ use Rattle.lan.proofs.Worlds.Hosts.Polling.{polled as poll_settings}
 use Rattle.lan.proofs.Worlds.Moves.Held.{IsAsAt, shows_towards}
 use Rattle.stack_laws.proofs.Polls.Inboxes.{refuse_nothing}
 use Rattle.stack_laws.proofs.Polls.Polled.{of_use}
-use Rattle.stack_laws.specs.Progress.Moves.{AreMoves, is_refused, is_sent}
+use Rattle.stack_laws.specs.Progress.Moves.{AreMoves, is_sent}
 use Rattle.stack_laws.specs.Progress.Moving.{IsTcp}
 use Rattle.stack_laws.specs.Progress.OfUse.{IsOfUse, Stirs}
 use Rattle.stack_laws.specs.Progress.Patience.{ArePatient}
