@@ -10,24 +10,21 @@ use Rattle.tcp_model.specs.Due.{poll_of}
 use Rattle.lan.specs.declared.at_link.history.event.Side.{Side}
 use Rattle.lan.specs.Worlds.AtLink.Happening.{Happening}
 use Rattle.lan.specs.Worlds.AtLink.History.{Entry}
-use Rattle.lan.specs.Worlds.AtLink.Kinds.{Kind, kind_of}
-use Rattle.lan.specs.Worlds.AtLink.Kinds.Act.{Asks, Calls, Opens, Polls, Sets}
-use Rattle.lan.specs.Worlds.AtLink.Kinds.Kind.{OfHost, OfLink}
 use Rattle.lan.specs.Worlds.AtLink.Moves.{Step, after, run}
 use Rattle.lan.specs.Worlds.AtLink.Paired.{Seat}
 use Rattle.lan.specs.Worlds.AtLink.Parties.{Net, Socket, party, socket_at}
 use Rattle.lan.specs.Worlds.AtLink.Parties.Socket.{Tcp, Udp, Icmp, Raw}
 use Rattle.lan.specs.Worlds.AtLink.Runs.{Starts}
-use Rattle.lan.specs.Worlds.AtLink.Station.{StationValue, Stations, station}
+use Rattle.lan.specs.Worlds.AtLink.Station.{Stations, station}
 use Rattle.lan.specs.Worlds.Moves.Follows.{IsNetOf, sockets_of}
 use Rattle.lan.specs.Worlds.Still.{StillRun, seats_of}
 use Rattle.lan.proofs.Worlds.AtLink.Extended.{run-append}
 use Rattle.lan.proofs.Worlds.StillOnward.{seen_in_run}
 use Rattle.stack_laws.proofs.EventMoves.{untimed_append}
-use Rattle.stack_laws.specs.Progress.Events.{MoveBy, all_at, clock_in, told_by, untimed}
+use Rattle.stack_laws.specs.Progress.Events.{MoveBy, all_at, clock_in, untimed}
 use Rattle.stack_laws.specs.Progress.Moving.{AreAsked, AsksIn, IsAskedIn, IsTcp, WantsIn}
 use Rattle.stack_laws.specs.Progress.OneClock.{KeepOneClock, timed}
-use Rattle.stack_laws.specs.Progress.Serving.{AreServed, Serves, WantsAt}
+use Rattle.stack_laws.specs.Progress.Serving.{AreServed, IsAtRest, WantsAt}
 
 no_earlier : (t : ℤ) → t ≤ℤ t
 no_earlier t = omega (arith, ints)
@@ -173,48 +170,35 @@ module _ (starts : Starts) (places : Side → ℕ) (wait : ℕ) (net : Net) (pas
         subst (λ (mtu : ℕ). Wants due mtu (sockets_of (station hosts side).places)) (sym (seen_in_run starts history hosts still side).mtu)
         (subst (λ (sockets : List (Option Socket)). Wants due (seats side).host.ip_mtu sockets) (of.sockets side) wants)
 
-  -- what was served last was served no later than the one clock shows
-  served_kind : (side : Side) (place : ℕ) (k : Kind) (behind : StationValue) (served now : ℤ) → Serves place side k behind served → served ≤ℤ told_by k now
-  served_kind side place (OfHost host (Polls moment budget)) behind served now is = subst (λ (m : ℤ). m ≤ℤ moment) is.1 (no_earlier moment)
-  served_kind side place (OfHost host (Calls i call)) behind served now is = absurd is
-  served_kind side place (OfHost host (Sets setting)) behind served now is = absurd is
-  served_kind side place (OfHost host (Opens n)) behind served now is = absurd is
-  served_kind side place (OfHost host (Asks moment)) behind served now is = absurd is
-  served_kind side place (OfLink act) behind served now is = absurd is
+  -- a side's socket was at rest then, or at the moment of this event
+  abbrev Rests : Side → ℤ → Stations → ℤ → ℤ → Type 0
+  Rests side t hosts before rested = (rested ≡ before) ⊎ ((rested ≡ t) × IsAtRest rested (places side) (station hosts side))
 
-  rests_kind : (side : Side) (place : ℕ) (k : Kind) (behind : StationValue) (served : ℤ) → Serves place side k behind served → WantsAt served place behind → ⊥
-  rests_kind side place (OfHost host (Polls moment budget)) behind served is wants =
-      is.2 (subst (λ (m : ℤ). WantsAt m place behind) (sym is.1) wants)
-  rests_kind side place (OfHost host (Calls i call)) behind served is wants = is
-  rests_kind side place (OfHost host (Sets setting)) behind served is wants = is
-  rests_kind side place (OfHost host (Opens n)) behind served is wants = is
-  rests_kind side place (OfHost host (Asks moment)) behind served is wants = is
-  rests_kind side place (OfLink act) behind served is wants = is
-
+  -- no later than the one clock shows
   low : (more : List Entry) (hosts : Stations) (still : StillRun starts (more ++ past) hosts) (served : Side → ℤ) → AreServed starts places wait past more hosts still served
       → KeepOneClock starts places past more → (side : Side) → served side ≤ℤ clock_in (more ++ past)
   low [] hosts still served are keep side = are side
   low (e ∷ more) hosts still served (before, so_far, soon, each) keep side = by (low more still.0 still.1 before so_far keep.0 side) (each side) where
-    by : before side ≤ℤ clock_in (more ++ past) → (served side ≡ before side) ⊎ Serves (places side) side (kind_of e.event) (station hosts side) (served side)
+    by : before side ≤ℤ clock_in (more ++ past) → Rests side (clock_in (e ∷ more ++ past)) hosts (before side) (served side)
         → served side ≤ℤ clock_in (e ∷ more ++ past)
     by up (inl same) =
         subst (λ (m : ℤ). m ≤ℤ clock_in (e ∷ more ++ past)) (sym same)
         (in_turn (before side) (clock_in (more ++ past)) (clock_in (e ∷ more ++ past)) up keep.1)
-    by up (inr serves) = served_kind side (places side) (kind_of e.event) (station hosts side) (served side) (clock_in (more ++ past)) serves
+    by up (inr rests) = subst (λ (m : ℤ). m ≤ℤ clock_in (e ∷ more ++ past)) (sym rests.0) (no_earlier (clock_in (e ∷ more ++ past)))
 
   -- what is asked of the moves that follow, where these were served last
   abbrev Onward : Net → (Side → ℤ) → List (ℤ × Step) → Type 0
   Onward n served rest = (side : Side) (due : ℤ) → served side ≤ℤ due → WantsIn seats due n side → AskedIn seats due (due +ℤ pos wait) side n rest
 
-  then_asked : (history : List Entry) (hosts : Stations) (still : StillRun starts history hosts) (k : Kind) (n : Net) (of : IsNetOf n hosts history)
+  then_asked : (history : List Entry) (hosts : Stations) (still : StillRun starts history hosts) (t : ℤ) (n : Net) (of : IsNetOf n hosts history)
       (served showed : Side → ℤ) (rest : List (ℤ × Step)) → Onward n served rest → (side : Side) (due : ℤ)
-      → (served side ≡ showed side) ⊎ Serves (places side) side k (station hosts side) (served side) → showed side ≤ℤ due → WantsIn seats due n side
+      → Rests side t hosts (showed side) (served side) → showed side ≤ℤ due → WantsIn seats due n side
       → AskedIn seats due (due +ℤ pos wait) side n rest
-  then_asked history hosts still k n of served showed rest onward side due (inl same) since wants =
+  then_asked history hosts still t n of served showed rest onward side due (inl same) since wants =
       onward side due (subst (λ (m : ℤ). m ≤ℤ due) (sym same) since) wants
-  then_asked history hosts still k n of served showed rest onward side due (inr serves) since wants = by (either_way due (served side)) where
+  then_asked history hosts still t n of served showed rest onward side due (inr rests) since wants = by (either_way due (served side)) where
     by : (due ≤ℤ served side) ⊎ (served side ≤ℤ due) → AskedIn seats due (due +ℤ pos wait) side n rest
-    by (inl early) = absurd (rests_kind side (places side) k (station hosts side) (served side) serves
+    by (inl early) = absurd (rests.1
         (to_host history hosts still n of side (served side)
         (wants_later (seats side).host.ip_mtu due (served side) (socket_at (party n side) (places side)) early wants)))
     by (inr later) = onward side due later wants
@@ -237,7 +221,7 @@ module _ (starts : Starts) (places : Side → ℕ) (wait : ℕ) (net : Net) (pas
       AskedIn seats due (due +ℤ pos wait) side (run mid these) rest =
       λ side due since wants.
       subst (λ (n : Net). AskedIn seats due (due +ℤ pos wait) side n rest) ends
-      (then_asked (e ∷ more ++ past) hosts still (kind_of e.event) (run net (untimed moves))
+      (then_asked (e ∷ more ++ past) hosts still t (run net (untimed moves))
       (net_at (e ∷ more) hosts still moves (before, these, is, by, happens)) served showed rest onward side due (each side) since
       (subst (λ (n : Net). WantsIn seats due n side) (sym ends) wants)) in
       let first : (side : Side) (due : ℤ) → showed side ≤ℤ due → WantsIn seats due mid side →

@@ -106,7 +106,7 @@ go_on_by_events starts past more hosts places news fresh typed still new keys te
                   (λ v. is_synchronized v.block.state ≡ true) (so.stay s);
               clock = upto (at_clocks side) (shown_in starts past side) (clock_in past) (them.showed places side) so.clock;
               moments = at_moments starts at past more hosts moves seats at_clocks still (by moves is) so.one_clock;
-              asked = are_asked starts at past more hosts still places moves wait so.served (by moves is) so.one_clock so.are_served;
+              asked = are_asked starts at past more hosts still places moves wait so.rested (by moves is) so.one_clock so.are_served;
               let_go = let_go;
               heard = heard;
               read_in_time = are_read starts at past more hosts still seats moves (other side) read so.last (by moves is) so.one_clock so.reads;

@@ -52,7 +52,7 @@ use Rattle.stack_laws.specs.Progress.Moves.{AreMoves, is_sent}
 use Rattle.stack_laws.specs.Progress.Moving.{IsTcp}
 use Rattle.stack_laws.specs.Progress.OfUse.{IsOfUse, Stirs}
 use Rattle.stack_laws.specs.Progress.Patience.{ArePatient}
-use Rattle.stack_laws.specs.Progress.Serving.{IsQuietPoll, Serves, WaitsForNone, WantsAt}
+use Rattle.stack_laws.specs.Progress.Serving.{IsAtRest, IsQuietPoll, WaitsForNone, WantsAt}
 
 -- NO FRAME WENT
 
@@ -183,21 +183,16 @@ module _ (first : InnerValue) (s s' : StationValue) (t : ℤ) (budget place : �
   rests : WantsAt t place s' → ⊥
   rests wants = at_host s'.host.inner t (subst IsMoment now still.moment) now still.paths s'.host.left s'.places place early idle wants
 
-kind_serves : (first : InnerValue) (old new : Stations) (e : Entry) (side : Side) (t : ℤ) (budget place : ℕ) (k : Kind) → k ≡ OfHost side (Polls t budget)
+kind_rests : (first : InnerValue) (old new : Stations) (e : Entry) (side : Side) (t : ℤ) (budget place : ℕ) (k : Kind) → k ≡ OfHost side (Polls t budget)
     → Happens old k e.answer e.found new → IsQuietPoll budget e.answer (station old side) (station new side) → ArePatient (station old side).places
-    → IsStill first (station new side).host.inner → WaitsForNone place (station new side) → Serves place side k (station new side) t
-kind_serves first old new e side t budget place k is happens quiet patient still idle =
+    → IsStill first (station new side).host.inner → WaitsForNone place (station new side) → IsAtRest t place (station new side)
+kind_rests first old new e side t budget place k is happens quiet patient still idle =
     let acts : ActsAt old side (Polls t budget) e.answer e.found new = subst (λ (x : Kind). Happens old x e.answer e.found new) is happens in
-    let its : Serves place side (OfHost side (Polls t budget)) (station new side) t = (
-      refl,
-      refl,
-      rests first (station old side) (station new side) t budget place acts.acts.0 e.answer acts.acts.1 acts.acts.2 quiet patient still idle,
-    ) in
-    subst (λ (x : Kind). Serves place side x (station new side) t) (sym is) its
+    rests first (station old side) (station new side) t budget place acts.acts.0 e.answer acts.acts.1 acts.acts.2 quiet patient still idle
 
-pub quiet_serves : (first : InnerValue) (past : List Entry) (old new : Stations) (e : Entry) (side : Side) (t : ℤ) (budget place : ℕ) → Leads past old e new
+pub quiet_rests : (first : InnerValue) (past : List Entry) (old new : Stations) (e : Entry) (side : Side) (t : ℤ) (budget place : ℕ) → Leads past old e new
     → kind_of e.event ≡ OfHost side (Polls t budget) → IsQuietPoll budget e.answer (station old side) (station new side)
     → ArePatient (station old side).places → IsStill first (station new side).host.inner → WaitsForNone place (station new side)
-    → Serves place side (kind_of e.event) (station new side) t
-quiet_serves first past old new e side t budget place leads is quiet patient still idle =
-    kind_serves first old new e side t budget place (kind_of e.event) is leads.happens quiet patient still idle
+    → IsAtRest t place (station new side)
+quiet_rests first past old new e side t budget place leads is quiet patient still idle =
+    kind_rests first old new e side t budget place (kind_of e.event) is leads.happens quiet patient still idle

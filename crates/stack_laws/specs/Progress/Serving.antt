@@ -17,7 +17,7 @@ use Rattle.lan.specs.declared.at_link.history.event.Side.{Side}
 use Rattle.lan.specs.Worlds.AtLink.Call as Call
 use Rattle.lan.specs.Worlds.AtLink.History.{Entry}
 use Rattle.lan.specs.Worlds.AtLink.Kinds.{Kind, kind_of, other}
-use Rattle.lan.specs.Worlds.AtLink.Kinds.Act.{Calls, Polls}
+use Rattle.lan.specs.Worlds.AtLink.Kinds.Act.{Calls}
 use Rattle.lan.specs.Worlds.AtLink.Kinds.Kind.{OfHost}
 use Rattle.lan.specs.Worlds.AtLink.Paired.{told}
 use Rattle.lan.specs.Worlds.AtLink.Runs.{Starts}
@@ -36,23 +36,23 @@ IsAtHost place s IsSo = IsTcp (slice_index_or (sockets_of s.places) place None) 
 abbrev pub WantsAt : ℤ → ℕ → StationValue → Type 0
 WantsAt moment place s = IsAtHost place s (λ v. IsBefore moment (poll_of s.host.inner.mtu v) → ⊥)
 
--- An event serves the socket at this place of a host at this moment: it is a poll, behind which the socket doesn't want to be asked any more.
-abbrev pub Serves : ℕ → Side → Kind → StationValue → ℤ → Type 0
-Serves place side (OfHost host (Polls moment budget)) behind served = (host ≡ side) × (moment ≡ served) × (WantsAt moment place behind → ⊥)
-Serves place side kind behind served = ⊥
+-- at this moment it doesn't, nor did it earlier
+abbrev pub IsAtRest : ℤ → ℕ → StationValue → Type 0
+IsAtRest moment place s = WantsAt moment place s → ⊥
 
--- Both sockets are served in time, and were so last at these moments: since a socket was served last, nothing happens more than so many microseconds
--- after a moment at which it wants to be asked.
+-- Both sockets are served in time, and these are the moments at which they were last seen at rest behind an event: since a socket was at rest, nothing
+-- happens more than so many microseconds after a moment at which it wants to be asked.
 abbrev pub AreServed : (starts : Starts) (places : Side → ℕ) (wait : ℕ) (past more : List Entry) (hosts : Stations) → StillRun starts (more ++ past) hosts
     → (Side → ℤ) → Type 0
-AreServed starts places wait past [] hosts still served = (side : Side) → served side ≤ℤ clock_in past
-AreServed starts places wait past (e ∷ more) hosts still served =
+AreServed starts places wait past [] hosts still rested = (side : Side) → rested side ≤ℤ clock_in past
+AreServed starts places wait past (e ∷ more) hosts still rested =
     (before : Side → ℤ) × AreServed starts places wait past more still.0 still.1 before
     × ((side : Side) (due : ℤ) → before side ≤ℤ due → WantsAt due (places side) (station still.0 side)
     → clock_in (e ∷ more ++ past) ≤ℤ (due +ℤ pos wait))
-    × ((side : Side) → (served side ≡ before side) ⊎ Serves (places side) side (kind_of e.event) (station hosts side) (served side))
+    × ((side : Side) → (rested side ≡ before side)
+    ⊎ ((rested side ≡ clock_in (e ∷ more ++ past)) × IsAtRest (rested side) (places side) (station hosts side)))
 
--- A POLL THAT SERVES
+-- A QUIET POLL
 
 -- A poll in which nothing happens any more: it says that nothing changed, no frame went, and behind it the device gives leave to send one.
 pub record IsQuietPoll (budget : ℕ) (answer : Answer) (old new : StationValue) : Type 0 where
@@ -93,8 +93,8 @@ pub record AreEventsInTime (starts : Starts) (places : Side → ℕ) (read wait 
   pub stay : (of : Side) → IsAtHost (places of) (station hosts of) (λ v. is_synchronized v.block.state ≡ true)
   pub clock : shown_in starts past side ≤ℤ clock_in past
   pub one_clock : KeepOneClock starts places past more
-  pub served : Side → ℤ
-  pub are_served : AreServed starts places wait past more hosts still served
+  pub rested : Side → ℤ
+  pub are_served : AreServed starts places wait past more hosts still rested
   pub last : ℤ
   pub reads : IsReadOften (places (other side)) read (other side) past more last
   pub stream : HasStream (told past side (places side))

@@ -24,7 +24,7 @@ ghost use Rattle.stack_laws.specs.Progress.Moving.{AreAsked, AreAtMoments, IsRea
 ghost use Rattle.stack_laws.specs.Progress.OneClock.{KeepOneClock, timed};
 ghost use Rattle.stack_laws.specs.Progress.Partners.{HoldText};
 ghost use Rattle.stack_laws.specs.Progress.Patience.{ArePatient};
-ghost use Rattle.stack_laws.specs.Progress.Serving.{AreServed, IsQuietPoll, IsReadOften, Serves, WaitsForNone};
+ghost use Rattle.stack_laws.specs.Progress.Serving.{AreServed, IsAtRest, IsQuietPoll, IsReadOften, WaitsForNone};
 
 use super::inboxes::ports_refuse_nothing;
 use super::partners::{moves_go_on, partners_are_reached, partners_go_on};
@@ -45,13 +45,12 @@ pub fn moves_of_events_keep_one_clock()
         → KeepOneClock starts (λ side. (seats side).place) past more → AreAtMoments seats clocks (clock_in past) moves }
 {}
 
-/// Law: where hosts are polled when their sockets want to be asked, and each poll that counts leaves its socket so that it doesn't want to be any
-/// more, the moves of the events ask the sockets in time.
+/// Law: where hosts are polled when their sockets want to be asked, until these are at rest, the moves of the events ask the sockets in time.
 pub fn sockets_that_are_served_are_asked()
     ensures { (starts : Starts) (net : Net) (past more : List Entry) (hosts : Stations) (still : StillRun starts (more ++ past) hosts)
-        (places : Side → ℕ) (moves : List (ℤ × Happening)) (wait : ℕ) (served : Side → ℤ)
+        (places : Side → ℕ) (moves : List (ℤ × Happening)) (wait : ℕ) (rested : Side → ℤ)
         → MoveBy starts net past more hosts still (timed moves) → KeepOneClock starts places past more
-        → AreServed starts places wait past more hosts still served → AreAsked (seats_of starts places) wait (clock_in past) net moves }
+        → AreServed starts places wait past more hosts still rested → AreAsked (seats_of starts places) wait (clock_in past) net moves }
 {}
 
 /// Law: where a user reads often, the moves of the events read in time.
@@ -62,14 +61,14 @@ pub fn users_that_read_often_read_in_time()
         → IsReadOften (seats side).place read side past more last → IsReadInTime seats read (clock_in past) net side moves }
 {}
 
-/// Law: a poll in which nothing happens any more serves each TCP socket of its host that waits for no neighbor, where no socket has a user timeout
-/// of 0.
-pub fn quiet_polls_serve()
+/// Law: behind a poll in which nothing happens any more each TCP socket of its host is at rest that waits for no neighbor, where no socket has a user
+/// timeout of 0.
+pub fn sockets_rest_behind_a_quiet_poll()
     ensures { (first : InnerValue) (past : List Entry) (old new : Stations) (e : Entry) (side : Side) (t : ℤ) (budget place : ℕ)
         → Leads past old e new → kind_of e.event ≡ OfHost side (Polls t budget)
         → IsQuietPoll budget e.answer (station old side) (station new side) → ArePatient (station old side).places
         → IsStill first (station new side).host.inner → WaitsForNone place (station new side)
-        → Serves place side (kind_of e.event) (station new side) t }
+        → IsAtRest t place (station new side) }
 {
     ports_refuse_nothing();
 }
