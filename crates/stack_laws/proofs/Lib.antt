@@ -13,6 +13,7 @@ pub mod EventMoves
 pub mod EventClocks
 pub mod EventAsked
 pub mod EventQuiet
+pub mod EventTurns
 pub mod EventReads
 pub mod EventPartners
 pub mod Blocks

@@ -1,5 +1,5 @@
 -- Events in time: hosts are polled when their sockets want to be asked, and users read.
-use Rattle.std.specs.Prelude.{◌≡◌, ◌⊎◌, ℕ, ◌≤◌, ℤ, pos, ◌+ℤ◌, ◌≤ℤ◌, true, false, IsTrue, List, [], ◌∷◌, ◌++◌, Some, None, slice_get, slice_index_or}
+use Rattle.std.specs.Prelude.{◌≡◌, ◌⊎◌, ℕ, ◌≤◌, ℤ, pos, ◌+ℤ◌, ◌≤ℤ◌, if◌then◌else◌, true, false, IsTrue, List, [], ◌∷◌, ◌++◌, Some, None, slice_get, slice_index_or}
 use Rattle.interface.specs.Turn.{is_waiting}
 use Rattle.interface_egress.specs.declared.socket_set.Item.{Item}
 use Rattle.interface_egress.specs.declared.socket_set.SocketStorage.{SocketStorage}
@@ -16,7 +16,7 @@ use Rattle.lan.specs.declared.at_link.history.answer.Answer.TheVariants as To
 use Rattle.lan.specs.declared.at_link.history.event.Side.{Side}
 use Rattle.lan.specs.Worlds.AtLink.Call as Call
 use Rattle.lan.specs.Worlds.AtLink.History.{Entry}
-use Rattle.lan.specs.Worlds.AtLink.Kinds.{Kind, kind_of, other}
+use Rattle.lan.specs.Worlds.AtLink.Kinds.{Kind, kind_of, other, same_side}
 use Rattle.lan.specs.Worlds.AtLink.Kinds.Act.{Calls}
 use Rattle.lan.specs.Worlds.AtLink.Kinds.Kind.{OfHost}
 use Rattle.lan.specs.Worlds.AtLink.Paired.{told}
@@ -60,6 +60,10 @@ pub record IsQuietPoll (budget : ℕ) (answer : Answer) (old new : StationValue)
   pub unchanged : answer ≡ To.Poll false
   pub sent : new.link.sent ≡ old.link.sent
   pub leave : IsTrue (has_leave new.link)
+
+-- the socket of a side was at rest at this moment
+abbrev pub with_rest : (Side → ℤ) → Side → ℤ → Side → ℤ
+with_rest rested side moment s = if same_side side s then moment else rested s
 
 -- the socket at this place waits for no neighbor
 abbrev pub WaitsForNone : ℕ → StationValue → Type 0

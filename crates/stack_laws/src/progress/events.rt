@@ -1,6 +1,6 @@
 //! The events of a world are moves of its hosts.
 
-ghost use Rattle.std.specs.Prelude.{◌≡◌, ◌++◌, ℕ, ℤ, List};
+ghost use Rattle.std.specs.Prelude.{◌≡◌, ◌∷◌, ◌++◌, ℕ, ℤ, pos, ◌+ℤ◌, ◌≤ℤ◌, List};
 ghost use Rattle.interface_tables.specs.Inner.{InnerValue};
 ghost use Rattle.lan.specs.declared.at_link.history.event.Side.{Side};
 ghost use Rattle.lan.specs.declared.at_link.history.event.Side.TheVariants.{A, B};
@@ -24,7 +24,7 @@ ghost use Rattle.stack_laws.specs.Progress.Moving.{AreAsked, AreAtMoments, IsRea
 ghost use Rattle.stack_laws.specs.Progress.OneClock.{KeepOneClock, timed};
 ghost use Rattle.stack_laws.specs.Progress.Partners.{HoldText};
 ghost use Rattle.stack_laws.specs.Progress.Patience.{ArePatient};
-ghost use Rattle.stack_laws.specs.Progress.Serving.{AreServed, IsAtRest, IsQuietPoll, IsReadOften, WaitsForNone};
+ghost use Rattle.stack_laws.specs.Progress.Serving.{AreServed, IsAtRest, IsQuietPoll, IsReadOften, WaitsForNone, with_rest};
 
 use super::inboxes::ports_refuse_nothing;
 use super::partners::{moves_go_on, partners_are_reached, partners_go_on};
@@ -71,6 +71,20 @@ pub fn sockets_rest_behind_a_quiet_poll()
         → IsAtRest t place (station new side) }
 {
     ports_refuse_nothing();
+}
+
+/// Law: such a poll, no later than `wait` after each socket was seen at rest, goes on in time what was in time so far. So whoever polls both hosts in
+/// turn, often enough and until nothing happens any more, serves their sockets.
+pub fn quiet_polls_go_on_in_time()
+    ensures { (starts : Starts) (places : Side → ℕ) (wait : ℕ) (past more : List Entry) (e : Entry) (hosts : Stations)
+        (still : StillRun starts (e ∷ more ++ past) hosts) (rested : Side → ℤ) (side : Side) (t : ℤ) (budget : ℕ)
+        → KeepOneClock starts places past more → AreServed starts places wait past more still.0 still.1 rested
+        → kind_of e.event ≡ OfHost side (Polls t budget) → clock_in (more ++ past) ≤ℤ t
+        → ((s : Side) → t ≤ℤ (rested s +ℤ pos wait)) → IsQuietPoll budget e.answer (station still.0 side) (station hosts side)
+        → ArePatient (station still.0 side).places → WaitsForNone (places side) (station hosts side)
+        → KeepOneClock starts places past (e ∷ more) × AreServed starts places wait past (e ∷ more) hosts still (with_rest rested side t) }
+{
+    sockets_rest_behind_a_quiet_poll();
 }
 
 /// Law: in such a world two TCP sockets that were partners before some last events go on by the moves of those events. So one can ask of the events
