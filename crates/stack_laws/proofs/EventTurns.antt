@@ -1,5 +1,5 @@
 -- A quiet poll more, and events are still in time.
-use Rattle.std.proofs.Common.{◌≡◌, ◌⊎◌, inl, inr, ℕ, ℤ, pos, ◌+ℤ◌, ◌≤ℤ◌, if◌then◌else◌, List, ◌∷◌, ◌++◌, refl, sym, ap, subst, arith}
+use Rattle.std.proofs.Common.{◌≡◌, ◌⊎◌, inl, inr, ℕ, ℤ, pos, ◌+ℤ◌, ◌≤ℤ◌, List, ◌∷◌, ◌++◌, refl, sym, ap, subst, arith}
 use Rattle.std.proofs.lemmas.Int.{ints}
 use Rattle.lan.specs.declared.at_link.history.event.Side.{Side}
 use Rattle.lan.specs.declared.at_link.history.event.Side.TheVariants.{A, B}
@@ -15,7 +15,7 @@ use Rattle.stack_laws.proofs.EventQuiet.{quiet_rests}
 use Rattle.stack_laws.specs.Progress.Events.{clock_in, shown_in, told_by}
 use Rattle.stack_laws.specs.Progress.OneClock.{IsCalledInTurn, KeepOneClock}
 use Rattle.stack_laws.specs.Progress.Patience.{ArePatient}
-use Rattle.stack_laws.specs.Progress.Serving.{AreServed, IsAtRest, IsQuietPoll, WaitsForNone, WantsAt, with_rest}
+use Rattle.stack_laws.specs.Progress.Serving.{AreServed, IsAtRest, IsQuietPoll, WaitsForNone, with_rest}
 
 soon_enough : (t since due : ℤ) (n : ℕ) → t ≤ℤ (since +ℤ pos n) → since ≤ℤ due → t ≤ℤ (due +ℤ pos n)
 soon_enough t since due n one two = first_of (omega (arith, ints, one, two), grind (arith, ints))
