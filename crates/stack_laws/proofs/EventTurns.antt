@@ -4,7 +4,7 @@ use Rattle.std.proofs.lemmas.Int.{ints}
 use Rattle.lan.specs.declared.at_link.history.event.Side.{Side}
 use Rattle.lan.specs.declared.at_link.history.event.Side.TheVariants.{A, B}
 use Rattle.lan.specs.Worlds.AtLink.History.{Entry}
-use Rattle.lan.specs.Worlds.AtLink.Kinds.{Kind, kind_of, same_side}
+use Rattle.lan.specs.Worlds.AtLink.Kinds.{Kind, kind_of}
 use Rattle.lan.specs.Worlds.AtLink.Kinds.Act.{Polls}
 use Rattle.lan.specs.Worlds.AtLink.Kinds.Kind.{OfHost}
 use Rattle.lan.specs.Worlds.AtLink.Runs.{Starts}
