@@ -9,6 +9,13 @@ pub mod Polls
 pub mod Runs
 pub mod Partnered
 pub mod StillPartners
+pub mod EventMoves
+pub mod EventClocks
+pub mod EventAsked
+pub mod EventQuiet
+pub mod EventTurns
+pub mod EventReads
+pub mod EventPartners
 pub mod Blocks
 pub mod MovedEvents
 pub mod Moved

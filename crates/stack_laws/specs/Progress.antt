@@ -19,3 +19,7 @@ pub mod InARow
 pub mod OnEthernet
 pub mod Partners
 pub mod Moving
+pub mod Events
+pub mod OneClock
+pub mod Serving
+pub mod ByEvents

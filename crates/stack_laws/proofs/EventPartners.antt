@@ -1,0 +1,117 @@
+-- Partners in a world whose hosts stay go on by the moves of its events.
+use Rattle.std.proofs.Common.{◌≡◌, ℕ, ◌≤◌, ℤ, ◌≤ℤ◌, true, List, [], ◌∷◌, ◌++◌, Option, None, refl, sym, ap, ◌∙◌, subst, arith}
+use Rattle.std.specs.Prelude.{slice_index_or}
+use Rattle.std.proofs.lemmas.Int.{ints}
+use Rattle.tcp_model.specs.Value.{TcpValue, room_of}
+use Rattle.tcp_progress.specs.Arrivals.{is_synchronized}
+use Rattle.tcp_progress.specs.Exchange.{IsOpen}
+use Rattle.tcp_progress.specs.Pair.{HasStream}
+use Rattle.lan.specs.declared.at_link.history.event.Side.{Side}
+use Rattle.lan.specs.declared.at_link.history.event.Side.TheVariants.{A, B}
+use Rattle.lan.specs.Worlds.AtLink.Fresh.{IsFreshWorld}
+use Rattle.lan.specs.Worlds.AtLink.Happening.{AreNumbered, Happening, steps_of}
+use Rattle.lan.specs.Worlds.AtLink.History.{Entry}
+use Rattle.lan.specs.Worlds.AtLink.Kinds.{other}
+use Rattle.lan.specs.Worlds.AtLink.Moves.{IsRun, Step, run}
+use Rattle.lan.specs.Worlds.AtLink.Paired.{AreHosted, AreNew, HaveKeys, NewSocket, told}
+use Rattle.lan.specs.Worlds.AtLink.Parties.{Net, Socket}
+use Rattle.lan.specs.Worlds.AtLink.Partners.{ArePartners}
+use Rattle.lan.specs.Worlds.AtLink.Runs.{Starts}
+use Rattle.lan.specs.Worlds.AtLink.Safe.{first_port}
+use Rattle.lan.specs.Worlds.AtLink.Station.{Stations, station}
+use Rattle.lan.specs.Worlds.Events.{AreTyped}
+use Rattle.lan.specs.Worlds.Moves.Follows.{IsNetOf}
+use Rattle.lan.specs.Worlds.Moves.Joined.{first_net}
+use Rattle.lan.specs.Worlds.Still.{StillRun, seats_of}
+use Rattle.lan.proofs.Worlds.AtLink.Paired.Runs.{partners_have_numbers}
+use Rattle.lan.proofs.Worlds.Moves.Calls.{names}
+use Rattle.lan.proofs.Worlds.Moves.Worlds.{fresh_net}
+use Rattle.stack_laws.proofs.EventAsked.{are_asked}
+use Rattle.stack_laws.proofs.EventClocks.{at_moments}
+use Rattle.stack_laws.proofs.EventMoves.{events_move}
+use Rattle.stack_laws.proofs.EventReads.{are_read}
+use Rattle.stack_laws.proofs.MovedOn as MovedOn
+use Rattle.stack_laws.proofs.StillPartners.{clocks, mid, on_between, shown, still_partners}
+use Rattle.stack_laws.specs.Progress.ByEvents.{GoOnByEvents}
+use Rattle.stack_laws.specs.Progress.Events.{MoveBy, clock_in, shown_in, untimed}
+use Rattle.stack_laws.specs.Progress.Moving.{IsTcp, SocketIs, moves_of}
+use Rattle.stack_laws.specs.Progress.OneClock.{timed}
+use Rattle.stack_laws.specs.Progress.Partners.{HoldText}
+use Rattle.stack_laws.specs.Progress.Serving.{IsAtHost}
+
+upto : (a b c : ℤ) → a ≤ℤ b → b ≤ℤ c → a ≤ℤ c
+upto a b c one two = omega (arith, ints, one, two)
+
+-- moves with moments, and with numbers
+with_numbers : (xs : List (ℤ × Step)) (ms : List Happening) → steps_of ms ≡ untimed xs → (moves : List (ℤ × Happening)) × (moves_of moves ≡ ms) × (timed moves ≡ xs)
+with_numbers [] [] is = ([], refl, refl)
+with_numbers [] (m ∷ ms) is = absurd cc
+with_numbers (x ∷ xs) [] is = absurd cc
+with_numbers (x ∷ xs) (m ∷ ms) is =
+    let first : m.step ≡ x.1 = cc in
+    let rest : steps_of ms ≡ untimed xs = cc in
+    let on = with_numbers xs ms rest in (
+      (x.0, m) ∷ on.0,
+      ap (λ (ys : List Happening). m ∷ ys) on.1,
+      ap (λ (s : Step). (x.0, s) ∷ timed on.0) first ∙ ap (λ (ys : List (ℤ × Step)). x ∷ ys) on.2,
+    )
+
+-- the moves without moments and numbers
+all_steps : (moves : List (ℤ × Happening)) → untimed (timed moves) ≡ steps_of (moves_of moves)
+all_steps [] = refl
+all_steps (x ∷ moves) = ap (λ (ss : List Step). x.1.step ∷ ss) (all_steps moves)
+
+-- what holds of the socket of a host holds of that of a net of it
+to_net : (starts : Starts) (places : Side → ℕ) (net : Net) (hosts : Stations) (history : List Entry) (of : IsNetOf net hosts history) (side : Side)
+    (IsSo : TcpValue → Type 0) → IsAtHost (places side) (station hosts side) IsSo → SocketIs (seats_of starts places) net side IsSo
+to_net starts places net hosts history of side IsSo is =
+    subst (λ (sockets : List (Option Socket)). IsTcp (slice_index_or sockets (places side) None) IsSo) (sym (of.sockets side)) is
+
+pub go_on_by_events : (starts : Starts) (past more : List Entry) (hosts : Stations) (places : Side → ℕ) (news : Side → NewSocket) → IsFreshWorld starts →
+    AreTyped (more ++ past) → (still : StillRun starts (more ++ past) hosts) → AreNew (seats_of starts places) news (first_net starts) →
+    HaveKeys (seats_of starts places) → HoldText (seats_of starts places) → ArePartners past A (places A) (places B)
+    → (between : Stations) × GoOnByEvents starts past between more hosts still places
+go_on_by_events starts past more hosts places news fresh typed still new keys text partners =
+    let (between, was, them) = events_move starts past more hosts fresh typed still in
+    let seats = seats_of starts places in
+    let net = first_net starts in
+    let ways = them.plainly in
+    let at = mid starts past more between hosts places news fresh new keys text partners was ways in
+    let at_clocks = clocks starts past more between hosts places news fresh new keys text partners was ways in
+    let pair = shown starts past more between hosts places news fresh new keys text partners was ways in
+    let paired = still_partners starts past more between hosts places news fresh new keys text partners was ways in
+    let numbers = partners_have_numbers (first_port starts) names net ways.before ways.steps seats at_clocks pair.pair (fresh_net starts fresh) ways.may
+    ways.may_on (ways.hosted_on places) keys paired pair.shows in
+    let given = with_numbers them.moves numbers.moves (numbers.are_these ∙ sym them.are_these) in
+    let these : (moves : List (ℤ × Happening)) → timed moves ≡ them.moves → ways.steps ≡ steps_of (moves_of moves) =
+    λ moves is. sym them.are_these ∙ ap untimed (sym is) ∙ all_steps moves in
+    let by : (moves : List (ℤ × Happening)) → timed moves ≡ them.moves → MoveBy starts at past more hosts still (timed moves) =
+    λ moves is. subst (MoveBy starts at past more hosts still) (sym is) them.of_events in (
+      between,
+      record {
+        goes = on_between starts past more between hosts places news fresh new keys text partners was ways;
+        steps = them.moves;
+        of_events = them.of_events;
+        numbers = (given.0, given.2, subst (AreNumbered seats at) (sym given.1) numbers.numbered);
+        by_moves = λ moves is numbered.
+            MovedOn.go_on (first_port starts) names net ways.before moves seats at_clocks pair.pair (fresh_net starts fresh) ways.may pair.reached pair.shows
+            (subst (IsRun names at) (these moves is) ways.may_on) (subst (AreHosted seats at_clocks at) (these moves is) (ways.hosted_on places)) keys
+            (subst (λ (ss : List Step). ArePartners (run at ss).history A (places A) (places B)) (these moves is) paired) numbered;
+        in_time = λ moves is side read wait delay so let_go heard.
+            record {
+              opened = λ s. to_net starts places at between past ways.of s (λ v. IsOpen v.block) (so.opened s);
+              stay = λ s.
+                  to_net starts places (run at (steps_of (moves_of moves))) hosts (more ++ past)
+                  (subst (λ (ss : List Step). IsNetOf (run at ss) hosts (more ++ past)) (these moves is) ways.of_these) s
+                  (λ v. is_synchronized v.block.state ≡ true) (so.stay s);
+              clock = upto (at_clocks side) (shown_in starts past side) (clock_in past) (them.showed places side) so.clock;
+              moments = at_moments starts at past more hosts moves seats at_clocks still (by moves is) so.one_clock;
+              asked = are_asked starts at past more hosts still places moves wait so.rested (by moves is) so.one_clock so.are_served;
+              let_go = let_go;
+              heard = heard;
+              read_in_time = are_read starts at past more hosts still seats moves (other side) read so.last (by moves is) so.one_clock so.reads;
+              stream = subst (λ (h : List Entry). HasStream (told h side (places side))) (sym ways.of.history) so.stream;
+              room = to_net starts places at between past ways.of (other side) (λ v. 1 ≤ room_of v.received) so.room;
+            };
+      },
+    )

@@ -1,0 +1,101 @@
+-- Which moves the events of a world are, and at which moments they are made.
+use Rattle.std.specs.Prelude.{◌≡◌, ℕ, ℤ, pos, ◌≤ℤ◌, if◌then◌else◌, List, [], ◌∷◌, ◌++◌, map}
+use Rattle.std.specs.List.{AllByRecursion}
+use Rattle.lan.specs.declared.at_link.history.event.Side.{Side}
+use Rattle.lan.specs.Worlds.AtLink.History.{Entry}
+use Rattle.lan.specs.Worlds.AtLink.Kinds.{Kind, kind_of, same_side}
+use Rattle.lan.specs.Worlds.AtLink.Kinds.Act.{Asks, Calls, Polls}
+use Rattle.lan.specs.Worlds.AtLink.Kinds.Kind.{OfHost}
+use Rattle.lan.specs.Worlds.AtLink.Call.{SocketCall}
+use Rattle.lan.specs.Worlds.AtLink.Moves.{IsRun, Move, Step, run}
+use Rattle.lan.specs.Worlds.AtLink.Moves.Move.{Invokes, Passes, Offers, Gives, Takes, Receives}
+use Rattle.lan.specs.Worlds.AtLink.Paired.{at_zero, clocks_in}
+use Rattle.lan.specs.Worlds.AtLink.Parties.{Net}
+use Rattle.lan.specs.Worlds.AtLink.Runs.{Starts, start}
+use Rattle.lan.specs.Worlds.AtLink.Station.{Stations}
+use Rattle.lan.specs.Worlds.Moves.Follows.{IsNetOf}
+use Rattle.lan.specs.Worlds.Moves.Joined.{first_net}
+use Rattle.lan.specs.Worlds.Still.{MovePlainly, StillRun, seats_of}
+use Rattle.lan_base.specs.Carried.{names_tcp_or_udp}
+use Rattle.lan_base.specs.Medium.TheVariants as Medium
+
+-- MOMENTS. Two events have one: a poll, and the question when a host wants to be polled.
+
+-- what the clock of a host shows behind an event
+abbrev pub shown_by : Kind → Side → ℤ → ℤ
+shown_by (OfHost host (Polls moment budget)) side before = if same_side host side then moment else before
+shown_by (OfHost host (Asks moment)) side before = if same_side host side then moment else before
+shown_by kind side before = before
+
+-- what it shows behind all events of a history
+abbrev pub shown_in : Starts → List Entry → Side → ℤ
+shown_in starts [] side = (start starts side).host.inner.moment
+shown_in starts (e ∷ past) side = shown_by (kind_of e.event) side (shown_in starts past side)
+
+-- what one clock of both hosts shows behind an event
+abbrev pub told_by : Kind → ℤ → ℤ
+told_by (OfHost host (Polls moment budget)) before = moment
+told_by (OfHost host (Asks moment)) before = moment
+told_by kind before = before
+
+-- the last moment that either host was told, and 0 until one was
+abbrev pub clock_in : List Entry → ℤ
+clock_in [] = pos 0
+clock_in (e ∷ past) = told_by (kind_of e.event) (clock_in past)
+
+-- THE MOVES OF AN EVENT
+
+-- In a poll a host asks its sockets, and brings what waits to them, at the moment of the poll, which is kept in the history.
+abbrev pub IsOfPoll : Entry → ℤ → Move → Type 0
+IsOfPoll e moment (Offers at cx v from sent) = cx.moment ≡ moment
+IsOfPoll e moment (Takes at cx v ip header bytes) = cx.moment ≡ moment
+IsOfPoll e moment (Gives at cx v answer new sent) = Unit {0}
+IsOfPoll e moment (Receives at cx v ip udp bytes) = Unit {0}
+IsOfPoll e moment (Passes entry) = entry ≡ e
+IsOfPoll e moment move = ⊥
+
+-- it is this call, at this place, of a host that shows this moment
+abbrev pub IsOfCall : Entry → ℕ → SocketCall → ℤ → Move → Type 0
+IsOfCall e place call moment (Invokes at cx old entry this new) = (at ≡ place) × (this ≡ call) × (entry ≡ e) × (cx.moment ≡ moment)
+IsOfCall e place call moment move = ⊥
+
+-- The moves of a poll are its host's. A call is one move of its host, which shows the socket what its clock shows. Any other event is kept in the
+-- history, and moves no socket.
+abbrev pub AreOfEvent : Entry → Kind → (Side → ℤ) → List Step → Type 0
+AreOfEvent e (OfHost side (Polls moment budget)) shown steps = AllByRecursion (λ step. (step.side ≡ side) × IsOfPoll e moment step.move) steps
+AreOfEvent e (OfHost side (Calls place call)) shown steps =
+    (move : Move) × (steps ≡ record { side = side; move = move } ∷ []) × IsOfCall e place call (shown side) move
+AreOfEvent e kind shown steps = (side : Side) × (steps ≡ record { side = side; move = Passes e } ∷ [])
+
+-- These moves are an event's own, and lead on to a net of the hosts behind it.
+pub record HappensBy (starts : Starts) (past : List Entry) (e : Entry) (new : Stations) (net : Net) (steps : List Step) : Type 0 where
+  pub are : AreOfEvent e (kind_of e.event) (shown_in starts past) steps
+  pub may : IsRun (names_tcp_or_udp Medium.Ip) net steps
+  pub of : IsNetOf (run net steps) new (e ∷ past)
+
+-- THE MOVES OF EVENTS, each at a moment
+
+abbrev pub all_at : ℤ → List Step → List (ℤ × Step)
+all_at moment steps = map (λ step. (moment, step)) steps
+
+abbrev pub untimed : List (ℤ × Step) → List Step
+untimed [] = []
+untimed (x ∷ more) = x.1 ∷ untimed more
+
+-- These are the moves of the later events of a run, from a net on: those of each event lie behind those of the one before it, lead to the hosts
+-- behind it, and are made when the one clock shows what it shows behind it.
+abbrev pub MoveBy : (starts : Starts) → Net → (past more : List Entry) (hosts : Stations) → StillRun starts (more ++ past) hosts → List (ℤ × Step) → Type 0
+MoveBy starts net past [] hosts still moves = (moves ≡ []) × IsNetOf net hosts past
+MoveBy starts net past (e ∷ more) hosts still moves =
+    (before : List (ℤ × Step)) × (these : List Step) × (moves ≡ before ++ all_at (clock_in (e ∷ more ++ past)) these)
+    × MoveBy starts net past more still.0 still.1 before × HappensBy starts (more ++ past) e hosts (run net (untimed before)) these
+
+-- plain moves lead to the hosts between, and on to these by the moves of the later events
+pub record MoveByEvents (starts : Starts) (past : List Entry) (between : Stations) (more : List Entry) (hosts : Stations)
+    (still : StillRun starts (more ++ past) hosts) : Type 0 where
+  pub plainly : MovePlainly starts past between (more ++ past) hosts
+  pub moves : List (ℤ × Step)
+  pub are_these : untimed moves ≡ plainly.steps
+  pub of_events : MoveBy starts (run (first_net starts) plainly.before) past more hosts still moves
+  -- no socket was shown a later moment than its host's clock shows
+  pub showed : (places : Side → ℕ) (side : Side) → clocks_in (seats_of starts places) at_zero plainly.before side ≤ℤ shown_in starts past side

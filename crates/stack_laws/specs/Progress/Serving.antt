@@ -1,0 +1,105 @@
+-- Events in time: hosts are polled when their sockets want to be asked, and users read.
+use Rattle.std.specs.Prelude.{◌≡◌, ◌⊎◌, ℕ, ◌≤◌, ℤ, pos, ◌+ℤ◌, ◌≤ℤ◌, if◌then◌else◌, true, false, IsTrue, List, [], ◌∷◌, ◌++◌, Some, None, slice_get, slice_index_or}
+use Rattle.interface.specs.Turn.{is_waiting}
+use Rattle.interface_egress.specs.declared.socket_set.Item.{Item}
+use Rattle.interface_egress.specs.declared.socket_set.SocketStorage.{SocketStorage}
+use Rattle.interface_ingress.specs.Socket.{Socket}
+use Rattle.socket_base.specs.Offers.{IsBefore}
+use Rattle.tcp_model.specs.Due.{poll_of}
+use Rattle.tcp_model.specs.Value.{TcpValue, room_of}
+use Rattle.tcp_progress.specs.Arrivals.{is_synchronized}
+use Rattle.tcp_progress.specs.Exchange.{IsOpen}
+use Rattle.tcp_progress.specs.Pair.{HasStream}
+use Rattle.lan_base.specs.Port.{has_leave}
+use Rattle.lan.specs.declared.at_link.history.answer.Answer.{Answer}
+use Rattle.lan.specs.declared.at_link.history.answer.Answer.TheVariants as To
+use Rattle.lan.specs.declared.at_link.history.event.Side.{Side}
+use Rattle.lan.specs.Worlds.AtLink.Call as Call
+use Rattle.lan.specs.Worlds.AtLink.History.{Entry}
+use Rattle.lan.specs.Worlds.AtLink.Kinds.{Kind, kind_of, other, same_side}
+use Rattle.lan.specs.Worlds.AtLink.Kinds.Act.{Calls}
+use Rattle.lan.specs.Worlds.AtLink.Kinds.Kind.{OfHost}
+use Rattle.lan.specs.Worlds.AtLink.Paired.{told}
+use Rattle.lan.specs.Worlds.AtLink.Runs.{Starts}
+use Rattle.lan.specs.Worlds.AtLink.Station.{StationValue, Stations, station}
+use Rattle.lan.specs.Worlds.Moves.Follows.{sockets_of}
+use Rattle.lan.specs.Worlds.Still.{StillRun}
+use Rattle.stack_laws.specs.Progress.Events.{clock_in, shown_in}
+use Rattle.stack_laws.specs.Progress.Moving.{IsTcp}
+use Rattle.stack_laws.specs.Progress.OneClock.{KeepOneClock}
+
+-- the TCP socket at this place of a host is so
+abbrev pub IsAtHost : ℕ → StationValue → (TcpValue → Type 0) → Type 0
+IsAtHost place s IsSo = IsTcp (slice_index_or (sockets_of s.places) place None) IsSo
+
+-- it wants to be asked at this moment, or wanted to be earlier
+abbrev pub WantsAt : ℤ → ℕ → StationValue → Type 0
+WantsAt moment place s = IsAtHost place s (λ v. IsBefore moment (poll_of s.host.inner.mtu v) → ⊥)
+
+-- at this moment it doesn't, nor did it earlier
+abbrev pub IsAtRest : ℤ → ℕ → StationValue → Type 0
+IsAtRest moment place s = WantsAt moment place s → ⊥
+
+-- Both sockets are served in time, and these are the moments at which they were last seen at rest behind an event: since a socket was at rest, nothing
+-- happens more than so many microseconds after a moment at which it wants to be asked.
+abbrev pub AreServed : (starts : Starts) (places : Side → ℕ) (wait : ℕ) (past more : List Entry) (hosts : Stations) → StillRun starts (more ++ past) hosts
+    → (Side → ℤ) → Type 0
+AreServed starts places wait past [] hosts still rested = (side : Side) → rested side ≤ℤ clock_in past
+AreServed starts places wait past (e ∷ more) hosts still rested =
+    (before : Side → ℤ) × AreServed starts places wait past more still.0 still.1 before
+    × ((side : Side) (due : ℤ) → before side ≤ℤ due → WantsAt due (places side) (station still.0 side)
+    → clock_in (e ∷ more ++ past) ≤ℤ (due +ℤ pos wait))
+    × ((side : Side) → (rested side ≡ before side)
+    ⊎ ((rested side ≡ clock_in (e ∷ more ++ past)) × IsAtRest (rested side) (places side) (station hosts side)))
+
+-- A QUIET POLL
+
+-- A poll in which nothing happens any more: it says that nothing changed, no frame went, and behind it the device gives leave to send one.
+pub record IsQuietPoll (budget : ℕ) (answer : Answer) (old new : StationValue) : Type 0 where
+  pub some : 1 ≤ budget
+  pub unchanged : answer ≡ To.Poll false
+  pub sent : new.link.sent ≡ old.link.sent
+  pub leave : IsTrue (has_leave new.link)
+
+-- the socket of a side was at rest at this moment
+abbrev pub with_rest : (Side → ℤ) → Side → ℤ → Side → ℤ
+with_rest rested side moment s = if same_side side s then moment else rested s
+
+-- the socket at this place waits for no neighbor
+abbrev pub WaitsForNone : ℕ → StationValue → Type 0
+WaitsForNone place s =
+    (at : SocketStorage Socket) (item : Item Socket) → slice_get s.places place ≡ Some at → at.inner ≡ Some item
+    → is_waiting s.host.inner item.meta ≡ false
+
+-- USERS READ
+
+-- an event by which the user of the socket at this place of a host reads a byte at least
+abbrev pub UserReads : ℕ → Side → Kind → Type 0
+UserReads place side (OfHost host (Calls at (Call.Recv limit))) = (host ≡ side) × (at ≡ place) × (1 ≤ limit)
+UserReads place side kind = ⊥
+
+-- The user of the socket at this place of a host reads often, and did so last at this moment: nothing happens more than so many microseconds after the
+-- last time, whether there was anything to read or not.
+abbrev pub IsReadOften : (place read : ℕ) → Side → (past more : List Entry) → ℤ → Type 0
+IsReadOften place read side past [] last = last ≤ℤ clock_in past
+IsReadOften place read side past (e ∷ more) last =
+    (before : ℤ) × IsReadOften place read side past more before × (clock_in (e ∷ more ++ past) ≤ℤ (before +ℤ pos read))
+    × ((last ≡ before) ⊎ (UserReads place side (kind_of e.event) × (last ≡ clock_in (e ∷ more ++ past))))
+
+-- EVENTS IN TIME
+
+-- From the hosts between on, as the one clock shows what it was told last: both connections are open, and are there at the end; the events keep one
+-- clock, both sockets are served in time, and the other's user reads often. The side has a receive buffer to send to, and a stream that is no empty
+-- one, and its host's clock isn't ahead.
+pub record AreEventsInTime (starts : Starts) (places : Side → ℕ) (read wait : ℕ) (side : Side) (past : List Entry) (between : Stations) (more : List Entry)
+    (hosts : Stations) (still : StillRun starts (more ++ past) hosts) : Type 0 where
+  pub opened : (of : Side) → IsAtHost (places of) (station between of) (λ v. IsOpen v.block)
+  pub stay : (of : Side) → IsAtHost (places of) (station hosts of) (λ v. is_synchronized v.block.state ≡ true)
+  pub clock : shown_in starts past side ≤ℤ clock_in past
+  pub one_clock : KeepOneClock starts places past more
+  pub rested : Side → ℤ
+  pub are_served : AreServed starts places wait past more hosts still rested
+  pub last : ℤ
+  pub reads : IsReadOften (places (other side)) read (other side) past more last
+  pub stream : HasStream (told past side (places side))
+  pub room : IsAtHost (places (other side)) (station between (other side)) (λ v. 1 ≤ room_of v.received)

@@ -1,0 +1,107 @@
+//! The events of a world are moves of its hosts.
+
+ghost use Rattle.std.specs.Prelude.{◌≡◌, ◌∷◌, ◌++◌, ℕ, ℤ, pos, ◌+ℤ◌, ◌≤ℤ◌, List};
+ghost use Rattle.interface_tables.specs.Inner.{InnerValue};
+ghost use Rattle.lan.specs.declared.at_link.history.event.Side.{Side};
+ghost use Rattle.lan.specs.declared.at_link.history.event.Side.TheVariants.{A, B};
+ghost use Rattle.lan.specs.Worlds.AtLink.Fresh.{IsFreshWorld};
+ghost use Rattle.lan.specs.Worlds.AtLink.Happening.{Happening};
+ghost use Rattle.lan.specs.Worlds.AtLink.History.{Entry};
+ghost use Rattle.lan.specs.Worlds.AtLink.Kinds.{kind_of};
+ghost use Rattle.lan.specs.Worlds.AtLink.Kinds.Act.{Polls};
+ghost use Rattle.lan.specs.Worlds.AtLink.Kinds.Kind.{OfHost};
+ghost use Rattle.lan.specs.Worlds.AtLink.Paired.{AreNew, HaveKeys, NewSocket, Seat};
+ghost use Rattle.lan.specs.Worlds.AtLink.Parties.{Net};
+ghost use Rattle.lan.specs.Worlds.AtLink.Partners.{ArePartners};
+ghost use Rattle.lan.specs.Worlds.AtLink.Runs.{Leads, Starts};
+ghost use Rattle.lan.specs.Worlds.AtLink.Station.{Stations, station};
+ghost use Rattle.lan.specs.Worlds.Events.{AreTyped};
+ghost use Rattle.lan.specs.Worlds.Moves.Joined.{first_net};
+ghost use Rattle.lan.specs.Worlds.Still.{IsStill, StillRun, seats_of};
+ghost use Rattle.stack_laws.specs.Progress.ByEvents.{GoOnByEvents};
+ghost use Rattle.stack_laws.specs.Progress.Events.{MoveBy, MoveByEvents, clock_in};
+ghost use Rattle.stack_laws.specs.Progress.Moving.{AreAsked, AreAtMoments, IsReadInTime};
+ghost use Rattle.stack_laws.specs.Progress.OneClock.{KeepOneClock, timed};
+ghost use Rattle.stack_laws.specs.Progress.Partners.{HoldText};
+ghost use Rattle.stack_laws.specs.Progress.Patience.{ArePatient};
+ghost use Rattle.stack_laws.specs.Progress.Serving.{AreServed, IsAtRest, IsQuietPoll, IsReadOften, WaitsForNone, with_rest};
+
+use super::inboxes::ports_refuse_nothing;
+use super::partners::{moves_go_on, partners_are_reached, partners_go_on};
+
+/// Law: in a world whose hosts stay as they showed themselves to their sockets at first, each event is plain moves of its host: those of a poll
+/// show its moment, that of a call what the clock of its host shows, and no other event moves a socket. So the moves of a history are those of its
+/// events, one behind the other.
+pub fn events_are_plain_moves()
+    ensures { (starts : Starts) (past more : List Entry) (hosts : Stations) → IsFreshWorld starts → AreTyped (more ++ past)
+        → (still : StillRun starts (more ++ past) hosts)
+        → (between : Stations) × StillRun starts past between × MoveByEvents starts past between more hosts still }
+{}
+
+/// Law: where the events keep one clock, their moves are at moments of it.
+pub fn moves_of_events_keep_one_clock()
+    ensures { (starts : Starts) (net : Net) (past more : List Entry) (hosts : Stations) (moves : List (ℤ × Happening)) (seats : Side → Seat)
+        (clocks : Side → ℤ) (still : StillRun starts (more ++ past) hosts) → MoveBy starts net past more hosts still (timed moves)
+        → KeepOneClock starts (λ side. (seats side).place) past more → AreAtMoments seats clocks (clock_in past) moves }
+{}
+
+/// Law: where hosts are polled when their sockets want to be asked, until these are at rest, the moves of the events ask the sockets in time.
+pub fn sockets_that_are_served_are_asked()
+    ensures { (starts : Starts) (net : Net) (past more : List Entry) (hosts : Stations) (still : StillRun starts (more ++ past) hosts)
+        (places : Side → ℕ) (moves : List (ℤ × Happening)) (wait : ℕ) (rested : Side → ℤ)
+        → MoveBy starts net past more hosts still (timed moves) → KeepOneClock starts places past more
+        → AreServed starts places wait past more hosts still rested → AreAsked (seats_of starts places) wait (clock_in past) net moves }
+{}
+
+/// Law: where a user reads often, the moves of the events read in time.
+pub fn users_that_read_often_read_in_time()
+    ensures { (starts : Starts) (net : Net) (past more : List Entry) (hosts : Stations) (still : StillRun starts (more ++ past) hosts)
+        (seats : Side → Seat) (moves : List (ℤ × Happening)) (side : Side) (read : ℕ) (last : ℤ)
+        → MoveBy starts net past more hosts still (timed moves) → KeepOneClock starts (λ s. (seats s).place) past more
+        → IsReadOften (seats side).place read side past more last → IsReadInTime seats read (clock_in past) net side moves }
+{}
+
+/// Law: behind a poll in which nothing happens any more each TCP socket of its host is at rest that waits for no neighbor, where no socket has a user
+/// timeout of 0.
+pub fn sockets_rest_behind_a_quiet_poll()
+    ensures { (first : InnerValue) (past : List Entry) (old new : Stations) (e : Entry) (side : Side) (t : ℤ) (budget place : ℕ)
+        → Leads past old e new → kind_of e.event ≡ OfHost side (Polls t budget)
+        → IsQuietPoll budget e.answer (station old side) (station new side) → ArePatient (station old side).places
+        → IsStill first (station new side).host.inner → WaitsForNone place (station new side)
+        → IsAtRest t place (station new side) }
+{
+    ports_refuse_nothing();
+}
+
+/// Law: such a poll, no later than `wait` after each socket was seen at rest, goes on in time what was in time so far. So whoever polls both hosts in
+/// turn, often enough and until nothing happens any more, serves their sockets.
+pub fn quiet_polls_go_on_in_time()
+    ensures { (starts : Starts) (places : Side → ℕ) (wait : ℕ) (past more : List Entry) (e : Entry) (hosts : Stations)
+        (still : StillRun starts (e ∷ more ++ past) hosts) (rested : Side → ℤ) (side : Side) (t : ℤ) (budget : ℕ)
+        → KeepOneClock starts places past more → AreServed starts places wait past more still.0 still.1 rested
+        → kind_of e.event ≡ OfHost side (Polls t budget) → clock_in (more ++ past) ≤ℤ t
+        → ((s : Side) → t ≤ℤ (rested s +ℤ pos wait)) → IsQuietPoll budget e.answer (station still.0 side) (station hosts side)
+        → ArePatient (station still.0 side).places → WaitsForNone (places side) (station hosts side)
+        → KeepOneClock starts places past (e ∷ more) × AreServed starts places wait past (e ∷ more) hosts still (with_rest rested side t) }
+{
+    sockets_rest_behind_a_quiet_poll();
+}
+
+/// Law: in such a world two TCP sockets that were partners before some last events go on by the moves of those events. So one can ask of the events
+/// themselves whether they come in time: of hosts, that they are polled in time, and of users, that they read. Of the moves nothing else is asked than
+/// that what the sockets offer goes, and that each segment is heard in time.
+pub fn partners_go_on_by_their_events()
+    ensures { (starts : Starts) (past more : List Entry) (hosts : Stations) (places : Side → ℕ) (news : Side → NewSocket)
+        → IsFreshWorld starts → AreTyped (more ++ past) → (still : StillRun starts (more ++ past) hosts)
+        → AreNew (seats_of starts places) news (first_net starts) → HaveKeys (seats_of starts places) → HoldText (seats_of starts places)
+        → ArePartners past A (places A) (places B)
+        → (between : Stations) × GoOnByEvents starts past between more hosts still places }
+{
+    partners_are_reached();
+    partners_go_on();
+    moves_go_on();
+    events_are_plain_moves();
+    moves_of_events_keep_one_clock();
+    sockets_that_are_served_are_asked();
+    users_that_read_often_read_in_time();
+}
