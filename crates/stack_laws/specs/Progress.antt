@@ -16,3 +16,5 @@ pub mod Exchanged
 pub mod Served
 pub mod Partners
 pub mod Moving
+pub mod Edges
+pub mod EdgesMet
