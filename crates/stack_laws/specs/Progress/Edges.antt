@@ -22,7 +22,7 @@ use Rattle.tcp_progress.specs.Rounds.{takes}
 abbrev pub LiesAtEdge : PairValue → Side → SeqNumber → Type 0
 LiesAtEdge p side number = max 1 (free_in (socket_of p side)) ≤ past_by (socket_of p side).block.receiver.next number
 
--- a side sent positions that the other hasn't taken: RCV.NXT of the other lies before the last of them
+-- a side sent positions that the other hasn't taken: RCV.NXT of the other lies before their end
 abbrev pub HasMoreSent : PairValue → Side → Type 0
 HasMoreSent p side =
     distance_of (socket_of p side).block.sender.una (socket_of p (other side)).block.receiver.next < (socket_of p side).block.sender.top
