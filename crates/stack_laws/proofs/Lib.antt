@@ -20,3 +20,4 @@ pub mod Blocks
 pub mod MovedEvents
 pub mod Moved
 pub mod MovedOn
+pub mod AtEdges

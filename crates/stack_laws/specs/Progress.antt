@@ -23,3 +23,5 @@ pub mod Events
 pub mod OneClock
 pub mod Serving
 pub mod ByEvents
+pub mod Edges
+pub mod EdgesMet

@@ -3,6 +3,7 @@
 pub mod arrivals;
 pub mod datagrams;
 pub mod delivered;
+pub mod edges;
 pub mod events;
 pub mod excluded;
 pub mod inboxes;

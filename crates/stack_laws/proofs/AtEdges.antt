@@ -1,0 +1,9 @@
+-- Acknowledgements that come at the right edge of a window.
+pub mod Sent
+pub mod Owing
+pub mod Idle
+pub mod Begins
+pub mod Comes
+pub mod Edge
+pub mod Whole
+pub mod Spans
