@@ -1,13 +1,15 @@
 -- Marks that words tell.
-use Rattle.std.proofs.Common.{arith, ◌≡◌, ◌==◌, ◌⊎◌, inl, inr, ℕ, zero, suc, ◌+◌, ◌/◌, ◌%◌, ◌^◌, ◌<◌, ◌≤◌, Bool, true, false, List, [], ◌∷◌, ◌++◌, length, Some, None, get_or, refl, sym, ap, ◌∙◌, subst, length-append, slice_index, slice_set}
+use Rattle.std.proofs.Common.{arith, cond, ◌≡◌, ◌==◌, ◌⊎◌, inl, inr, ℕ, zero, suc, ◌+◌, ◌-◌, ◌/◌, ◌%◌, ◌^◌, ◌<◌, ◌≤◌, Bool, true, false, List, [], ◌∷◌, ◌++◌, length, Option, Some, None, get_or, refl, sym, ap, ◌∙◌, subst, length-append, slice_index, slice_set}
 use Rattle.std.proofs.Math.ListN.{length-set}
-use Rattle.std.proofs.lemmas.Bool.{cases_eq}
+use Rattle.std.proofs.lemmas.Bool.{cases_eq, cases_lt}
 use Rattle.std.proofs.lemmas.List.{get_or-set_same, get_or-set_other}
 use Rattle.std.proofs.lemmas.List.FromFn.{fill_by_all, get_or-map-range_with_len, length-map-range_with_len, map-range_with_len_more}
+use Rattle.std.proofs.lemmas.List.Sums.{count_by-le-length, get_or-le-sum_by, sum_by-set, sum_by_push}
 use Rattle.std.proofs.lemmas.Nat.Bits.{bit_at-zero}
 use Rattle.std.proofs.lemmas.Option.{get_or_from_slice_get, slice_get_read, slice_get_within}
 use Rattle.std.specs.Int.{bit_at}
-use Rattle.agenda.specs.Bits.{AreGrouped, AreLengthened, AreWith, HaveRoom, IsFirst, marks_of, tells, tells_some}
+use Rattle.std.specs.List.{count_by}
+use Rattle.agenda.specs.Bits.{AreCounted, AreGrouped, AreLengthened, AreWith, HaveRoom, IsFirst, marks_of, tells, tells_some}
 use Rattle.agenda.specs.Marks.{IsNext, IsOn}
 use Rattle.agenda.proofs.Words.{told_by_word}
 
@@ -158,13 +160,99 @@ next_is words len from at first less = (
   differ : {b : Bool} → b ≡ false → b ≡ true → ⊥
   differ none some = absurd (cc)
 
-pub none_beyond : (words : List ℕ) (len from at : ℕ) → IsFirst (tells words) from (Some at) → len ≤ at → IsNext from (marks_of words len) None
-none_beyond words len from at first beyond i since on =
-    let told = on_told words len i on in by told.1 (first.2 i since (omega (arith, told.0, beyond))) where
-      by : tells words i ≡ true → tells words i ≡ false → ⊥
-      by some none = absurd (cc)
-
 pub none_is : (words : List ℕ) (len from : ℕ) → IsFirst (tells words) from None → IsNext from (marks_of words len) None
 none_is words len from first i since on = by (on_told words len i on).1 (first i since) where
   by : tells words i ≡ true → tells words i ≡ false → ⊥
   by some none = absurd (cc)
+
+-- COUNTED
+
+abbrev marked_in : List ℕ → ℕ → ℕ
+marked_in words len = count_by (λ mark. mark) (marks_of words len)
+
+-- a mark counts one
+abbrev worth : Bool → ℕ
+worth mark = cond mark 1 0
+
+-- the words tell the number already, or not, as they are to
+pub as_they_are : (at : ℕ) (told : Bool) (words : List ℕ) → tells words at ≡ told → AreWith at told words words
+as_they_are at told words is = record { here = is; elsewhere = λ i apart. refl; words = λ w apart. refl; size = refl }
+
+-- one number is told that wasn't, or the other way round
+pub counted_with : (at len : ℕ) (told : Bool) (old new : List ℕ) → at < len → AreWith at told old new
+    → marked_in new len + worth (tells old at) ≡ marked_in old len + worth told
+counted_with at len told old new within is =
+    let set = sum_by-set worth (marks_of old len) at told false (omega (arith, within, length_marks old len)) in
+    let here : worth (get_or (marks_of old len) at false) ≡ worth (tells old at) = ap worth (mark_is old len at false within) in
+    let whole : count_by (λ (mark : Bool). mark) (slice_set (marks_of old len) at told) ≡ marked_in new len
+    = ap (λ (marks : List Bool). count_by (λ (mark : Bool). mark) marks) (marks_with at len told old new is) in
+    omega (arith, set, here, whole)
+
+-- none lies behind where none lay
+pub none_behind : (at len : ℕ) (told : Bool) (old new : List ℕ) → at < len → AreWith at told old new
+    → ((i : ℕ) → len ≤ i → tells old i ≡ false) → (i : ℕ) → len ≤ i → tells new i ≡ false
+none_behind at len told old new within is none i beyond = is.elsewhere i (λ same. absurd (omega (arith, same, within, beyond))) ∙ none i beyond
+
+pub one_more : (at len marked : ℕ) (old new : List ℕ) → at < len → tells old at ≡ false → AreWith at true old new → AreCounted len marked old
+    → AreCounted len (marked + 1) new
+one_more at len marked old new within untold is counted =
+    let all = counted_with at len true old new within is in
+    let before : worth (tells old at) ≡ 0 = ap worth untold in record {
+      count = omega (arith, all, before, counted.count);
+      beyond = none_behind at len true old new within is counted.beyond;
+    }
+
+pub one_less : (at len marked : ℕ) (old new : List ℕ) → at < len → tells old at ≡ true → AreWith at false old new → AreCounted len marked old
+    → (1 ≤ marked) × AreCounted len (marked - 1) new
+one_less at len marked old new within told is counted =
+    let all = counted_with at len false old new within is in
+    let before : worth (tells old at) ≡ 1 = ap worth told in (
+      omega (arith, all, before, counted.count),
+      record {
+        count = omega (arith, all, before, counted.count);
+        beyond = none_behind at len false old new within is counted.beyond;
+      },
+    )
+
+-- no more are counted than there are
+pub few_marked : (len marked : ℕ) (words : List ℕ) → AreCounted len marked words → marked ≤ len
+few_marked len marked words counted =
+    omega (arith, count_by-le-length (λ (mark : Bool). mark) (marks_of words len), length_marks words len, counted.count)
+
+-- a place more
+pub counted_more : (at len marked : ℕ) (old new : List ℕ) → AreLengthened at old new → AreCounted len marked old → AreCounted len marked new
+counted_more at len marked old new is counted = record {
+  count = ap (λ (marks : List Bool). count_by (λ (mark : Bool). mark) marks) (lengthened_marks at len old new is) ∙ counted.count;
+  beyond = λ i beyond. told_alike at old new is i ∙ counted.beyond i beyond;
+}
+
+pub counted_next : (len marked : ℕ) (words : List ℕ) → AreCounted len marked words → AreCounted (len + 1) marked words
+counted_next len marked words counted =
+    let last : tells words len ≡ false = counted.beyond len (omega arith) in
+    let push = sum_by_push worth (marks_of words len) (tells words len) in
+    let more : marked_in words (len + 1) ≡ count_by (λ (mark : Bool). mark) (marks_of words len ++ tells words len ∷ [])
+    = ap (λ (marks : List Bool). count_by (λ (mark : Bool). mark) marks) (marks_more words len) in
+    let one : worth (tells words len) ≡ 0 = ap worth last in record {
+      count = omega (arith, push, more, one, counted.count);
+      beyond = λ i beyond. counted.beyond i (omega (arith, beyond));
+    }
+
+-- one that is told is counted
+pub told_counts : (words : List ℕ) (len marked i : ℕ) → AreCounted len marked words → i < len → tells words i ≡ true → 1 ≤ marked
+told_counts words len marked i counted within told =
+    let less = get_or-le-sum_by worth (marks_of words len) i false (omega (arith, within, length_marks words len)) in
+    let here : worth (get_or (marks_of words len) i false) ≡ 1 = ap worth (mark_is words len i false within ∙ told) in
+    omega (arith, less, here, counted.count)
+
+-- where none is counted, none is on the agenda
+pub none_marked : (words : List ℕ) (len from : ℕ) → AreCounted len 0 words → IsNext from (marks_of words len) None
+none_marked words len from counted i since on =
+    let told = on_told words len i on in absurd (omega (arith, told_counts words len 0 i counted told.0 told.1))
+
+pub next_counted : (words : List ℕ) (len marked from : ℕ) (found : Option ℕ) → AreCounted len marked words → IsFirst (tells words) from found
+    → IsNext from (marks_of words len) found
+next_counted words len marked from None counted first = none_is words len from first
+next_counted words len marked from (Some at) counted first = by (cases_lt at len) where
+  by : (at < len) ⊎ (len ≤ at) → IsNext from (marks_of words len) (Some at)
+  by (inl less) = next_is words len from at first less
+  by (inr beyond) = let none : tells words at ≡ false = counted.beyond at beyond in let told : tells words at ≡ true = first.1 in absurd (cc)

@@ -1,7 +1,7 @@
 -- Numbers as bits of words.
 use Rattle.std.specs.Prelude.{◌≡◌, ◌≢◌, ◌==◌, ◌⊎◌, [], ◌∷◌, ◌++◌, not, ℕ, ◌+◌, ◌*◌, ◌/◌, ◌%◌, ◌^◌, ◌<◌, ◌≤◌, Bool, true, false, List, length, map, slice_index, Option, Some, None}
 use Rattle.std.specs.Int.{bit_at}
-use Rattle.std.specs.List.{range_with_len}
+use Rattle.std.specs.List.{count_by, range_with_len}
 
 -- a number is one of those that the words tell
 abbrev pub tells : List ℕ → ℕ → Bool
@@ -27,6 +27,11 @@ pub record HaveRoom (len : ℕ) (words groups : List ℕ) : Type 0 where
   pub few_words : 64 * length words ≤ len + 64
   pub enough_groups : length words ≤ 64 * length groups
   pub few_groups : 64 * length groups ≤ length words + 64
+
+-- so many of the numbers below this one are told, and none from it on
+pub record AreCounted (len marked : ℕ) (words : List ℕ) : Type 0 where
+  pub count : count_by (λ mark. mark) (marks_of words len) ≡ marked
+  pub beyond : (i : ℕ) → len ≤ i → tells words i ≡ false
 
 -- a word more, that tells of none, where there is none for this number; or the same words
 abbrev pub AreLengthened : ℕ → List ℕ → List ℕ → Type 0

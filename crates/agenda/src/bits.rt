@@ -2,6 +2,14 @@
 ghost use Rattle.std.specs.Prelude.{◌≡◌, not, ◌+◌, ◌*◌, ◌/◌, ◌%◌, ◌<◌, ◌≤◌, ◌^◌, true, false, length, slice_index, IsSome};
 ghost use Rattle.agenda.specs.Bits.{AreGrouped, AreWith, IsFirst, IsFirstIn, tells, tells_some};
 
+/// Whether a number is among them.
+pub fn contains(words: &[u64], at: usize) -> bool
+    requires { at / 64 < length words.now }
+    ensures { result ≡ tells words.now at }
+{
+    words[at / 64] >> (at % 64) & 1 == 1
+}
+
 /// Adds a number.
 pub fn insert(words: &mut Vec<u64>, at: usize)
     requires { at / 64 < length words.old.items }

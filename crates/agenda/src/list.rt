@@ -11,23 +11,24 @@ use std::marker::Model;
 /// A mark for each of the first places, which says whether it is on the agenda.
 ///
 /// A mark is a bit of a word, and so is whether a word has one that is set: so who is next is found among thousands of places without a look
-/// at each.
+/// at each. How many are set is counted: so that none is, is seen at once.
 #[derive(Debug, Drop)]
 pub struct Agenda {
     len: usize,
+    marked: usize,
     words: Vec<u64>,
     groups: Vec<u64>,
 }
 
 impl Model for Agenda {
     ghost use Rattle.std.specs.Prelude.{Bool, List};
-    ghost use Rattle.agenda.specs.Bits.{HaveRoom, marks_of};
+    ghost use Rattle.agenda.specs.Bits.{AreCounted, HaveRoom, marks_of};
 
     ghost Value = { List Bool };
 
     ghost view = { λ a. marks_of a.words.items a.len };
 
-    ghost invariant = { λ a. HaveRoom a.len a.words.items a.groups.items };
+    ghost invariant = { λ a. HaveRoom a.len a.words.items a.groups.items × AreCounted a.len a.marked a.words.items };
 }
 
 impl Agenda {
@@ -37,6 +38,7 @@ impl Agenda {
     {
         Agenda {
             len: 0,
+            marked: 0,
             words: Vec::new(alloc),
             groups: Vec::new(alloc),
         }
@@ -54,6 +56,7 @@ impl Agenda {
         ensures { self.new ≡ [] }
     {
         self.len = 0;
+        self.marked = 0;
         self.words.clear();
         self.groups.clear();
     }
@@ -71,10 +74,15 @@ impl Agenda {
     pub fn put_on(&mut self, at: usize)
         ensures { self.new ≡ slice_set self.old at true }
     {
-        if at < self.len {
-            bits::insert(&mut self.words, at);
-            bits::insert(&mut self.groups, at / 64);
+        if at >= self.len {
+            return;
         }
+        if bits::contains(&self.words, at) {
+            return;
+        }
+        bits::insert(&mut self.words, at);
+        bits::insert(&mut self.groups, at / 64);
+        self.marked += 1;
     }
 
     /// Takes a place off the agenda. One without a mark stays without.
@@ -84,6 +92,10 @@ impl Agenda {
         if at >= self.len {
             return;
         }
+        if !bits::contains(&self.words, at) {
+            return;
+        }
+        self.marked -= 1;
         if bits::remove(&mut self.words, at) {
             bits::remove(&mut self.groups, at / 64);
         }
@@ -94,9 +106,7 @@ impl Agenda {
         ensures { (self.new ≡ put at false self.old) ⊎ (self.new ≡ self.old) }
     {
         if at == self.len {
-            if let Ok(()) = self.add() {
-                self.take_off(at);
-            }
+            let _ = self.add();
         } else {
             self.take_off(at);
         }
@@ -106,15 +116,15 @@ impl Agenda {
     pub fn next(&self, from: usize) -> Option<usize>
         ensures { IsNext from self.now result }
     {
-        match bits::next_grouped(&self.words, &self.groups, from) {
-            Some(at) => if at < self.len { Some(at) } else { None },
-            None => None,
+        if self.marked == 0 {
+            return None;
         }
+        bits::next_grouped(&self.words, &self.groups, from)
     }
 
-    /// Adds the next place. Whether it is on the agenda isn't said.
+    /// Adds the next place, which isn't on the agenda.
     fn add(&mut self) -> Result<(), AllocError>
-        ensures { MatchResult result (λ u. (x : Bool) × (self.new ≡ self.old ++ x ∷ [])) (λ e. self.new ≡ self.old) }
+        ensures { MatchResult result (λ u. self.new ≡ self.old ++ false ∷ []) (λ e. self.new ≡ self.old) }
     {
         let len = self.len.checked_add(1).ok_or(AllocError)?;
         lengthen(&mut self.groups, self.len / 64)?;

@@ -1,4 +1,4 @@
-use Rattle.std.proofs.Common.{arith, ◌≡◌, ◌-◌, ◌∷◌, ◌++◌, [], true, sym, ap, ◌∙◌, List, Bool, ℕ, length, length-append}
+use Rattle.std.proofs.Common.{arith, ◌≡◌, ◌-◌, ◌∷◌, ◌++◌, [], true, false, sym, ap, ◌∙◌, List, Bool, ℕ, length, length-append}
 use Rattle.std.specs.Prelude.{slice_set}
 use Rattle.agenda.proofs.Marked.{length_marks}
 use Rattle.agenda.proofs.Puts.{put_more}
@@ -6,10 +6,9 @@ use Rattle.agenda.proofs.list.Agenda.push.Goals as goal
 
 pub returns : goal.returns
 returns c =
-    let x : Bool = c.in_ok-add.ensures.0 in
-    let added : c.add.new.self ≡ c.args.self.now ++ x ∷ [] = c.in_ok-add.ensures.1 in
-    let count : c.put_on.inside.len ≡ length (c.args.self.now ++ x ∷ [])
+    let added : c.add.new.self ≡ c.args.self.now ++ false ∷ [] = c.in_ok-add.ensures in
+    let count : c.put_on.inside.len ≡ length (c.args.self.now ++ false ∷ [])
     = sym (length_marks c.put_on.inside.words.items c.put_on.inside.len) ∙ ap length (c.put_on.view_is ∙ added) in
-    let place : c.put_on.inside.len - 1 ≡ length c.args.self.now = omega (arith, count, length-append c.args.self.now (x ∷ [])) in
+    let place : c.put_on.inside.len - 1 ≡ length c.args.self.now = omega (arith, count, length-append c.args.self.now (false ∷ [])) in
     c.put_on-2.ensures ∙ ap (λ (marks : List Bool). slice_set marks (c.put_on.inside.len - 1) true) added
-    ∙ ap (λ (at : ℕ). slice_set (c.args.self.now ++ x ∷ []) at true) place ∙ put_more c.args.self.now x true
+    ∙ ap (λ (at : ℕ). slice_set (c.args.self.now ++ false ∷ []) at true) place ∙ put_more c.args.self.now false true
