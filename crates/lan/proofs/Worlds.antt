@@ -8,6 +8,7 @@ pub mod LinkActs
 pub mod Told
 pub mod Keeps
 pub mod Settings
+pub mod Settles
 pub mod Events
 pub mod Beginnings
 pub mod PolledJoins

@@ -8,6 +8,7 @@ pub mod Linked
 pub mod Joins
 pub mod Rebuilt
 pub mod Said
+pub mod Settling
 pub mod New
 pub mod Past
 pub mod Come

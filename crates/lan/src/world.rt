@@ -25,6 +25,8 @@ use crate::typed::{event_is_typed, host_is_typed};
 use std::alloc::{AllocError, Global};
 use std::marker::Model;
 
+mod settle;
+
 /// Two hosts, the link between them, and all that has happened so far.
 #[derive(Drop)]
 pub struct World {
