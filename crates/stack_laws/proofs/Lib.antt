@@ -9,6 +9,7 @@ pub mod Polls
 pub mod Runs
 pub mod Partnered
 pub mod StillPartners
+pub mod Settled
 pub mod EventMoves
 pub mod EventClocks
 pub mod EventAsked

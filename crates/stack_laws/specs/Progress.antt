@@ -25,3 +25,4 @@ pub mod Serving
 pub mod ByEvents
 pub mod Edges
 pub mod EdgesMet
+pub mod Settled

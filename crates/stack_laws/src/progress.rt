@@ -16,4 +16,5 @@ pub mod ready;
 pub mod rest;
 pub mod rooms;
 pub mod served;
+pub mod settled;
 pub mod turns;

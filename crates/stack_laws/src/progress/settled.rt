@@ -1,0 +1,60 @@
+//! What is at rest has arrived.
+
+ghost use Rattle.std.specs.Prelude.{◌≡◌, ℕ, ℤ, List};
+ghost use Rattle.interface_ingress.specs.PollAt.TheVariants as At;
+ghost use Rattle.tcp_model.specs.Due.{poll_of};
+ghost use Rattle.tcp_model.specs.Value.{TcpValue};
+ghost use Rattle.lan.specs.declared.at_link.history.event.Side.{Side};
+ghost use Rattle.lan.specs.declared.at_link.history.event.Side.TheVariants.{A};
+ghost use Rattle.lan.specs.Worlds.AtLink.Fresh.{IsFreshWorld};
+ghost use Rattle.lan.specs.Worlds.AtLink.History.{Entry};
+ghost use Rattle.lan.specs.Worlds.AtLink.Kinds.{other};
+ghost use Rattle.lan.specs.Worlds.AtLink.PacketsSafe.{IsTcpAt};
+ghost use Rattle.lan.specs.Worlds.AtLink.Paired.{AreNew, HaveKeys, NewSocket};
+ghost use Rattle.lan.specs.Worlds.AtLink.Partners.{ArePartners};
+ghost use Rattle.lan.specs.Worlds.AtLink.Runs.{Starts, WorldRun, unused_both};
+ghost use Rattle.lan.specs.Worlds.AtLink.Safe.{net_of};
+ghost use Rattle.lan.specs.Worlds.AtLink.Station.{Stations};
+ghost use Rattle.lan.specs.Worlds.Events.{AreTyped};
+ghost use Rattle.lan.specs.Worlds.Moves.Joined.{first_net};
+ghost use Rattle.lan.specs.Worlds.Settling.{AreAtRest};
+ghost use Rattle.lan.specs.Worlds.Still.{StillRun, seats_of};
+ghost use Rattle.stack_laws.specs.Progress.Partners.{HoldText};
+ghost use Rattle.stack_laws.specs.Progress.Settled.{HasArrived, IsConnected};
+
+/// Law: where both hosts of a world were asked last, and neither wants to be polled any more, no TCP socket of theirs wants to be asked, but for what
+/// comes.
+pub fn sockets_of_hosts_at_rest_want_nothing()
+    ensures { (starts : Starts) (history : List Entry) (hosts : Stations) (moment : ℤ) (side : Side) (place : ℕ) (v : TcpValue)
+        → WorldRun history (unused_both starts) hosts → AreAtRest moment history
+        → IsTcpAt (net_of (record { hosts = hosts; starts = starts; history = history })) side place v
+        → (mtu : ℕ) × (poll_of mtu v ≡ At.Ingress) }
+{}
+
+/// Law: what is at rest has arrived. In a world whose hosts stay, whatever its link did, where one of two partners that is connected waits for nothing but
+/// what comes, all that its user wrote has come to the other, and so has the end of its stream, if it closed it.
+pub fn what_waits_for_nothing_has_arrived()
+    ensures { (starts : Starts) (history : List Entry) (hosts : Stations) (places : Side → ℕ) (news : Side → NewSocket) (side : Side) (v w : TcpValue)
+        (mtu : ℕ) → IsFreshWorld starts → AreTyped history → StillRun starts history hosts
+        → AreNew (seats_of starts places) news (first_net starts) → HaveKeys (seats_of starts places) → HoldText (seats_of starts places)
+        → ArePartners history A (places A) (places (other A))
+        → IsTcpAt (net_of (record { hosts = hosts; starts = starts; history = history })) side (places side) v
+        → IsTcpAt (net_of (record { hosts = hosts; starts = starts; history = history })) (other side) (places (other side)) w
+        → IsConnected v → poll_of mtu v ≡ At.Ingress
+        → HasArrived (net_of (record { hosts = hosts; starts = starts; history = history })) side (places side) (places (other side)) v w }
+{}
+
+/// Law: so where `World::settle` answers a moment, each of two partners that is connected has all that the other's user wrote.
+pub fn what_has_settled_has_arrived()
+    ensures { (starts : Starts) (history : List Entry) (hosts : Stations) (places : Side → ℕ) (news : Side → NewSocket) (side : Side) (v w : TcpValue)
+        (moment : ℤ) → IsFreshWorld starts → AreTyped history → StillRun starts history hosts
+        → AreNew (seats_of starts places) news (first_net starts) → HaveKeys (seats_of starts places) → HoldText (seats_of starts places)
+        → ArePartners history A (places A) (places (other A))
+        → IsTcpAt (net_of (record { hosts = hosts; starts = starts; history = history })) side (places side) v
+        → IsTcpAt (net_of (record { hosts = hosts; starts = starts; history = history })) (other side) (places (other side)) w
+        → IsConnected v → AreAtRest moment history
+        → HasArrived (net_of (record { hosts = hosts; starts = starts; history = history })) side (places side) (places (other side)) v w }
+{
+    sockets_of_hosts_at_rest_want_nothing();
+    what_waits_for_nothing_has_arrived();
+}
