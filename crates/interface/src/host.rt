@@ -5,7 +5,7 @@ ghost use Rattle.std.specs.List.{list_any};
 ghost use Rattle.net_base.specs.Time.{IsMoment};
 ghost use Rattle.arrayvec.specs.ArrayVec.{ArrayVec as Items};
 ghost use Rattle.ip_wire.specs.IpCidr.{IpCidr};
-ghost use Rattle.interface_egress.specs.Route.{RoutesValue};
+ghost use Rattle.interface_tables.specs.Route.{RoutesValue};
 ghost use Rattle.interface_egress.specs.Inner.{is_own, is_member_of};
 ghost use Rattle.interface_egress.specs.Settings.{unless, hardware_refusal, with_hardware, is_stranger, with_addresses, with_any_ip, routes_of, with_route_table};
 ghost use Rattle.interface_egress.specs.Source.{first_v4, first_v6, source_for, source_v4, source_v6};
