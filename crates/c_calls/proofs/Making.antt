@@ -2,8 +2,8 @@
 use Rattle.std.proofs.Common.{◌≡◌, ℤ, Option, None, Some, Result, Err, ap, sym, subst}
 use Rattle.net_base.specs.DeviceCapabilities.{DeviceCapabilities}
 use Rattle.interface.specs.Host.{HostValue}
-use Rattle.interface.specs.Made.{MadeUnless, Makes, new_host}
-use Rattle.interface.specs.Settings.{refusal}
+use Rattle.interface.specs.Made.{Makes, new_host}
+use Rattle.interface.specs.Settings.{MadeUnless, refusal}
 use Rattle.interface.specs.Config.{Config}
 use Rattle.interface.specs.NewError.{NewError}
 use Rattle.c_calls.specs.declared.code.Code.{Code}

@@ -20,7 +20,7 @@ use Rattle.interface.specs.Instant.{poll_instant}
 use Rattle.interface.specs.Made.{new_host}
 use Rattle.interface.specs.Polls.{Polls}
 use Rattle.interface.specs.State.{state}
-use Rattle.interface.specs.Settings.{refusal}
+use Rattle.interface.specs.Settings.{default_config, refusal}
 use Rattle.interface.specs.SocketStorage.{SocketStorage}
 use Rattle.interface.specs.Inner.{at_moment}
 use Rattle.interface.specs.Config.{Config}
@@ -90,7 +90,7 @@ device_of settings =
     record { medium = medium_of settings.hardware; max_transmission_unit = settings.mtu; checksum = all_checksums Checksum.Both }
 
 abbrev pub config_of : Settings → Config
-config_of settings = record { random_seed = settings.seed; hardware_addr = hardware_of settings.hardware; isn_key = settings.isn_key }
+config_of settings = record (default_config (hardware_of settings.hardware)) { random_seed = settings.seed; isn_key = settings.isn_key }
 
 -- A HOST THAT IS MADE
 

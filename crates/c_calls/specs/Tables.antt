@@ -11,6 +11,7 @@ use Rattle.sockets.specs.Addresses.{is_same_address, are_of_one_family}
 use Rattle.interface.specs.Host.{HostValue}
 use Rattle.interface.specs.Announced.{TellsUnless}
 use Rattle.interface.specs.Made.{with_inner, with_slots}
+use Rattle.interface.specs.Inner.{InnerValue}
 use Rattle.interface.specs.Route.{Route}
 use Rattle.interface.specs.Settings.{is_stranger, with_addresses, with_routes, with_hardware, hardware_refusal}
 use Rattle.interface.specs.HardwareAddrError.{HardwareAddrError}
@@ -21,9 +22,9 @@ use Rattle.c_calls.specs.declared.code.Code.{Code}
 use Rattle.c_calls.specs.declared.code.Code.TheVariants as Is
 use Rattle.c_calls.specs.Host.{StackValue}
 
--- a table has four entries at most
-abbrev pub room : ℕ
-room = 4
+-- how many own addresses a host has at most
+abbrev pub address_room : ℕ
+address_room = 4
 
 abbrev pub is_done : {A : Type 0} → Result A Code → Result (Unit {0}) Code
 is_done (Ok made) = Ok tt
@@ -31,8 +32,8 @@ is_done (Err code) = Err code
 
 module _ {A : Type 0} where
   -- one more, where there is room
-  abbrev pub pushed : List A → A → List A
-  pushed entries entry = if nat_lt (length entries) room then entries ++ entry ∷ [] else entries
+  abbrev pub pushed : ℕ → List A → A → List A
+  pushed room entries entry = if nat_lt (length entries) room then entries ++ entry ∷ [] else entries
 
   -- without the one at the place, where there is one
   abbrev pub removed : List A → ℕ → List A
@@ -48,7 +49,7 @@ abbrev pub checked : List IpCidr → Result (List IpCidr) Code
 checked blocks = if list_any is_stranger blocks then Err Is.NotUnicast else Ok blocks
 
 abbrev pub own_with : List IpCidr → IpCidr → Result (List IpCidr) Code
-own_with own block = if nat_le room (length own) then Err Is.TableFull else checked (own ++ block ∷ [])
+own_with own block = if nat_le address_room (length own) then Err Is.TableFull else checked (own ++ block ∷ [])
 
 abbrev pub own_without_at : List IpCidr → Option ℕ → Result (List IpCidr) Code
 own_without_at own None = Err Is.NotFound
@@ -77,11 +78,11 @@ abbrev pub route_to : IpCidr → IpAddress → Route
 route_to network router = record { cidr = network; via_router = router; preferred_until = None; expires_at = None }
 
 -- behind the others, if its router is of its family and there is room
-abbrev pub routes_with : List Route → Route → Result (List Route) Code
-routes_with routes route =
+abbrev pub routes_with : InnerValue → Route → Result (List Route) Code
+routes_with i route =
     if not (are_of_one_family (block_address route.cidr) route.via_router) then Err Is.BadArgument
-    else if nat_le room (length routes) then Err Is.TableFull
-    else Ok (routes ++ route ∷ [])
+    else if nat_le i.route_room (length i.routes) then Err Is.TableFull
+    else Ok (i.routes ++ route ∷ [])
 
 abbrev pub routes_without_at : List Route → Option ℕ → Result (List Route) Code
 routes_without_at routes None = Err Is.NotFound

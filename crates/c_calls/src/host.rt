@@ -92,13 +92,14 @@ fn capabilities(settings: &Settings) -> DeviceCapabilities
 fn config(settings: &Settings) -> Config
     ensures { result ≡ config_of settings.now }
 {
+    let hardware_addr = match settings.hardware {
+        Some(address) => HardwareAddress::Ethernet(address),
+        None => HardwareAddress::Ip,
+    };
     Config {
         random_seed: settings.seed,
-        hardware_addr: match settings.hardware {
-            Some(address) => HardwareAddress::Ethernet(address),
-            None => HardwareAddress::Ip,
-        },
         isn_key: settings.isn_key,
+        ..Config::new(hardware_addr)
     }
 }
 

@@ -3,7 +3,7 @@ ghost use Rattle.std.specs.Prelude.{◌≡◌, position};
 ghost use Rattle.ip_wire.specs.HardwareAddress.TheVariants as Hardware;
 ghost use Rattle.interface.specs.Made.{with_inner, with_timeout};
 ghost use Rattle.interface.specs.Settings.{hardware_refusal, with_hardware, with_any_ip};
-ghost use Rattle.c_calls.specs.Tables.{is_address, is_block, pushed, removed, own_with, own_without, routes_with, routes_without};
+ghost use Rattle.c_calls.specs.Tables.{address_room, is_address, is_block, pushed, removed, own_with, own_without, routes_with, routes_without};
 ghost use Rattle.c_calls.specs.Tables.{with_own, with_table, own_in, table_in, route_to, is_done, of_hardware, hardware_answer, UpdatesHardware, SetsSlots};
 
 use crate::code::Code;
@@ -41,7 +41,7 @@ fn place_of_route(routes: &[Route], block: &IpCidr) -> Option<usize>
 
 /// One more, where there is room.
 fn push_address(addresses: &mut ArrayVec<IpCidr, TABLE_ROOM>, block: IpCidr)
-    ensures { addresses.new.items ≡ pushed addresses.old.items block }
+    ensures { addresses.new.items ≡ pushed address_room addresses.old.items block }
 {
     let _ = addresses.try_push(block);
 }
@@ -79,26 +79,26 @@ fn remove_address(interface: &mut Interface, address: &IpAddress) -> Result<(), 
     }
 }
 
-fn push_route(routes: &mut Routes<TABLE_ROOM>, route: Route)
-    ensures { routes.new ≡ pushed routes.old route }
+fn push_route(routes: &mut Routes, route: Route)
+    ensures { routes.new ≡ record routes.old { entries = pushed routes.old.room routes.old.entries route } }
 {
     let _ = routes.push(route);
 }
 
-fn take_route(routes: &mut Routes<TABLE_ROOM>, place: usize)
-    ensures { routes.new ≡ removed routes.old place }
+fn take_route(routes: &mut Routes, place: usize)
+    ensures { routes.new ≡ record routes.old { entries = removed routes.old.entries place } }
 {
     let _ = routes.remove(place);
 }
 
 fn add_route(interface: &mut Interface, route: Route) -> Result<(), Code>
-    ensures answer { result ≡ is_done (routes_with interface.old.inner.routes route) }
-    ensures after { interface.new ≡ table_in interface.old (routes_with interface.old.inner.routes route) }
+    ensures answer { result ≡ is_done (routes_with interface.old.inner route) }
+    ensures after { interface.new ≡ table_in interface.old (routes_with interface.old.inner route) }
 {
     if !are_of_one_family(&route.cidr.address(), &route.via_router) {
         return Err(Code::BadArgument);
     }
-    if TABLE_ROOM <= interface.routes().as_slice().len() {
+    if interface.routes().room() <= interface.routes().as_slice().len() {
         return Err(Code::TableFull);
     }
     interface.update_routes(|routes| push_route(routes, route));
@@ -154,8 +154,8 @@ impl Host {
 
     /// Adds a route: packets for the network go to the router.
     pub fn route_add(&mut self, network: IpCidr, router: IpAddress) -> Result<(), Code>
-        ensures answer { result ≡ is_done (routes_with self.old.host.inner.routes (route_to network router)) }
-        ensures after { self.new ≡ with_table self.old (routes_with self.old.host.inner.routes (route_to network router)) }
+        ensures answer { result ≡ is_done (routes_with self.old.host.inner (route_to network router)) }
+        ensures after { self.new ≡ with_table self.old (routes_with self.old.host.inner (route_to network router)) }
     {
         add_route(
             self.interface(),

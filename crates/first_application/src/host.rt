@@ -21,8 +21,7 @@ pub fn address(number: u8) -> IpAddress {
 fn bare(alloc: Global, wire: &Wire, number: u8) -> Result<Interface> {
     let config = Config {
         random_seed: u64::from(number),
-        hardware_addr: HardwareAddress::Ethernet(EthernetAddress([2, 0, 0, 0, 0, number])),
-        isn_key: None,
+        ..Config::new(HardwareAddress::Ethernet(EthernetAddress([2, 0, 0, 0, 0, number])))
     };
     Ok(Interface::new(alloc, &config, wire, Instant::ZERO)?)
 }

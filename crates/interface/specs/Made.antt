@@ -1,16 +1,15 @@
 -- How an interface begins, and what its calls that set and ask make of it.
-use Rattle.std.specs.Prelude.{◌≡◌, ℕ, ℤ, ◌-ℤ◌, int_lt, true, if◌then◌else◌, IsTrue, List, [], Option, None, Some, Result, Err, MatchResult}
+use Rattle.std.specs.Prelude.{◌≡◌, ℕ, ℤ, ◌-ℤ◌, int_lt, true, if◌then◌else◌, IsTrue, List, [], Option, None, Some, Result}
 use Rattle.std.specs.Int.RustNames.{unsigned_abs}
 use Rattle.std.specs.List.{AllByRecursion}
 use Rattle.interface_tables.specs.declared.key.FragKey.{FragKey}
 use Rattle.net_base.specs.DeviceCapabilities.{DeviceCapabilities}
 use Rattle.interface_tables.specs.Inner.{InnerValue}
 use Rattle.interface_tables.specs.Reassembly.{SlotValue, is_free}
-use Rattle.interface_tables.specs.Settings.{refusal, made, used}
+use Rattle.interface_tables.specs.Settings.{MadeUnless, refusal, made, used}
 use Rattle.interface_tables.specs.Slots.{free_slots}
 use Rattle.interface_tables.specs.declared.config.Config.{Config}
 use Rattle.interface_tables.specs.declared.config.NewError.{NewError}
-use Rattle.interface_tables.specs.declared.config.NewError.TheVariants as New
 use Rattle.interface_egress.specs.Fragments.{LeftValue}
 use Rattle.interface.specs.Host.{HostValue}
 
@@ -27,10 +26,6 @@ new_host config device moment =
     record { inner = made config device moment; left = None; slots = free_slots slot_count 4096; timeout = first_timeout }
 
 -- A refusal has its reason. Without one, an interface is made, or there is no memory for it.
-abbrev pub MadeUnless : Option NewError → HostValue → Result HostValue NewError → Type 0
-MadeUnless (Some e) h result = result ≡ Err e
-MadeUnless None h result = MatchResult result (λ made. made ≡ h) (λ e. e ≡ New.Memory)
-
 abbrev pub Makes : Config → DeviceCapabilities → ℤ → Result HostValue NewError → Type 0
 Makes config device moment result = MadeUnless (refusal config device moment) (new_host config device moment) result
 

@@ -1,13 +1,13 @@
 //! An interface.
-ghost use Rattle.std.specs.Prelude.{◌≡◌, IsTrue, List, [], length, not, is_ok, OnOk, OnErr, Some};
+ghost use Rattle.std.specs.Prelude.{◌≡◌, IsTrue, [], length, not, is_ok, OnOk, OnErr, Some};
 ghost use Rattle.std.specs.Fn.{FnOnceReturnsAtMut};
 ghost use Rattle.std.specs.List.{list_any};
 ghost use Rattle.net_base.specs.Time.{IsMoment};
 ghost use Rattle.arrayvec.specs.ArrayVec.{ArrayVec as Items};
 ghost use Rattle.ip_wire.specs.IpCidr.{IpCidr};
-ghost use Rattle.interface_egress.specs.Route.{Route};
+ghost use Rattle.interface_tables.specs.Route.{RoutesValue};
 ghost use Rattle.interface_egress.specs.Inner.{is_own, is_member_of};
-ghost use Rattle.interface_egress.specs.Settings.{unless, hardware_refusal, with_hardware, is_stranger, with_addresses, with_any_ip, with_routes};
+ghost use Rattle.interface_egress.specs.Settings.{unless, hardware_refusal, with_hardware, is_stranger, with_addresses, with_any_ip, routes_of, with_route_table};
 ghost use Rattle.interface_egress.specs.Source.{first_v4, first_v6, source_for, source_v4, source_v6};
 ghost use Rattle.interface.specs.Host.{host_at, maintained};
 ghost use Rattle.interface.specs.Made.{IsIdle, Makes, with_inner, with_slots, with_timeout};
@@ -59,7 +59,7 @@ impl Interface {
     ) -> Result<Interface, NewError>
         ensures { Makes config.now (D.described device.now) now result }
     {
-        let inner = InterfaceInner::new(config, &device.capabilities(), now)?;
+        let inner = InterfaceInner::new(alloc, config, &device.capabilities(), now)?;
         let Ok(fragmenter) = Fragmenter::new(alloc) else {
             return Err(NewError::Memory);
         };
@@ -138,8 +138,8 @@ impl Interface {
     }
 
     /// The routes.
-    pub fn routes(&self) -> &Routes<TABLE_ROOM>
-        ensures { result.now ≡ self.now.inner.routes }
+    pub fn routes(&self) -> &Routes
+        ensures { result.now ≡ routes_of self.now.inner }
     {
         self.inner.routes()
     }
@@ -202,11 +202,11 @@ impl Interface {
     }
 
     /// Lends the routes to `f`.
-    pub fn update_routes<R: Drop, F: FnOnce(&mut Routes<TABLE_ROOM>) -> R>(&mut self, f: F) -> R
+    pub fn update_routes<R: Drop, F: FnOnce(&mut Routes) -> R>(&mut self, f: F) -> R
         requires { F.IsAlwaysCallable f }
-        ensures { (before : List Route) × (after : List Route) × (before ≡ self.old.inner.routes)
+        ensures { (before : RoutesValue) × (after : RoutesValue) × (before ≡ routes_of self.old.inner)
             × FnOnceReturnsAtMut F.FnOnce f before result after
-            × (self.new ≡ with_inner self.old (with_routes self.old.inner after)) }
+            × (self.new ≡ with_inner self.old (with_route_table self.old.inner after)) }
     {
         self.inner.update_routes(f)
     }

@@ -6,6 +6,7 @@ pub mod Orders
 pub mod PathMtu
 pub mod Rebuilt
 pub mod Renewed
+pub mod RouteTable
 pub mod FourBytes
 pub mod InParts
 pub mod Keys

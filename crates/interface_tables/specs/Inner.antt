@@ -33,7 +33,8 @@ use Rattle.interface_tables.specs.declared.route.Route.{Route}
 
 -- The moment of the call that runs, or of the last one; the state of the random words; the hardware address, `Ip` on a medium
 -- that has none; the longest IP packet of a frame; the checksums that the stack handles itself; the key of 16 bytes by which first
--- numbers of connections are told, if there is one; the own addresses, and whether every address is one; routes and neighbours;
+-- numbers of connections are told, if there is one; the own addresses, and whether every address is one; the routes, how many there can
+-- be, and the neighbours;
 -- the identification of the next IPv4 datagram; the moment up to which errors that went are counted; what was told of paths; and
 -- whether nothing ran yet.
 pub record InnerValue : Type 0 where
@@ -46,6 +47,7 @@ pub record InnerValue : Type 0 where
   pub addresses : List IpCidr
   pub any_ip : Bool
   pub routes : List Route
+  pub route_room : ℕ
   pub neighbors : CacheValue
   pub ident : ℕ
   pub errors_until : ℤ
@@ -270,14 +272,10 @@ at_moment moment i = record i { moment = moment; fresh = false }
 abbrev pub with_next_ident : InnerValue → InnerValue
 with_next_ident i = record i { ident = (i.ident + 1) % 2 ^ 16 }
 
--- how many neighbours and routes are kept, and own addresses
-abbrev pub table_room : ℕ
-table_room = 4
-
 -- a neighbour was heard
 abbrev pub with_neighbor : InnerValue → IpAddress → HardwareAddress → InnerValue
 with_neighbor i address hardware = record i {
-  neighbors = filled table_room i.neighbors (record { protocol_addr = address; hardware_addr = hardware; expires_at = i.moment +ℤ pos entry_lifetime });
+  neighbors = filled i.neighbors (record { protocol_addr = address; hardware_addr = hardware; expires_at = i.moment +ℤ pos entry_lifetime });
 }
 
 -- a packet came from a neighbour

@@ -1,5 +1,5 @@
 -- What an interface knows of its neighbours, as a value (RFC 826; RFC 1122, section 2.3.2; RFC 4861, section 5.1).
-use Rattle.std.specs.Prelude.{ℕ, ◌+◌, ℤ, pos, ◌+ℤ◌, int_lt, Bool, true, false, not, ◌&&◌, nat_lt, if◌then◌else◌, List, [], ◌∷◌, ◌++◌, length, slice_set, remove}
+use Rattle.std.specs.Prelude.{ℕ, ◌+◌, ℤ, pos, ◌+ℤ◌, int_lt, Bool, true, false, not, ◌&&◌, nat_lt, if◌then◌else◌, List, [], ◌∷◌, ◌++◌, length, slice_set, remove, max}
 use Rattle.std.specs.Prelude.{replicate, Option, None, Some, position}
 use Rattle.ip_wire.specs.HardwareAddress.{HardwareAddress}
 use Rattle.ip_wire.specs.HardwareAddress.TheVariants as Hardware
@@ -12,10 +12,11 @@ use Rattle.interface_tables.specs.declared.neighbor.Search.{Search}
 use Rattle.interface_tables.specs.declared.neighbor.Answer.{Answer}
 use Rattle.interface_tables.specs.declared.neighbor.Answer.TheVariants as Known
 
--- The entries, the one that has stood longest first; the moment until which no neighbour is asked for; and the addresses that were
--- asked for and haven't answered.
+-- The entries, the one that has stood longest first, and how many there can be; the moment until which no neighbour is asked for; and
+-- the addresses that were asked for and haven't answered.
 pub record CacheValue : Type 0 where
   pub entries : List Neighbor
+  pub room : ℕ
   pub silent : ℤ
   pub searches : List Search
 
@@ -26,8 +27,12 @@ silent_time = 1_000_000
 abbrev pub entry_lifetime : ℕ
 entry_lifetime = 60_000_000
 
-abbrev pub fresh : CacheValue
-fresh = record { entries = []; silent = pos 0; searches = [] }
+abbrev pub fresh : ℕ → CacheValue
+fresh room = record { entries = []; room = room; silent = pos 0; searches = [] }
+
+-- for so many neighbours there is room in a cache that is asked for this many: one at least
+abbrev pub cache_room : ℕ → ℕ
+cache_room count = max count 1
 
 -- what stands in an unused place of a table
 abbrev pub blank : Neighbor
@@ -131,9 +136,9 @@ abbrev pub ended : List Search → IpAddress → List Search
 ended searches address = ended_at (search_place searches address) searches
 
 -- who answers isn't looked for any more
-abbrev pub filled : ℕ → CacheValue → Neighbor → CacheValue
-filled room c new = record c {
-  entries = filled_at (place_of c.entries new.protocol_addr) room c.entries new;
+abbrev pub filled : CacheValue → Neighbor → CacheValue
+filled c new = record c {
+  entries = filled_at (place_of c.entries new.protocol_addr) c.room c.entries new;
   searches = ended c.searches new.protocol_addr;
 }
 

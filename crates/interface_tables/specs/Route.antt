@@ -12,6 +12,14 @@ use Rattle.ip_wire.specs.IpCidr.TheVariants as Block
 use Rattle.interface_tables.specs.Best.{first_best}
 use Rattle.interface_tables.specs.declared.route.Route.{Route}
 
+-- the routes, in the order in which they were added, and how many there can be
+pub record RoutesValue : Type 0 where
+  pub entries : List Route
+  pub room : ℕ
+
+abbrev pub no_routes : ℕ → RoutesValue
+no_routes room = record { entries = []; room = room }
+
 -- LOOKUP
 
 -- a route counts until its expiry, that moment included

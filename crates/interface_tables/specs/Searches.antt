@@ -15,10 +15,10 @@ abbrev pub nobody : IpAddress
 nobody = Address.Ipv4 (record { 0 = 10 ∷ 0 ∷ 0 ∷ 9 ∷ [] })
 
 abbrev pub twice : CacheValue
-twice = asked_at nobody (pos 0 ∷ pos 1_000_000 ∷ []) fresh
+twice = asked_at nobody (pos 0 ∷ pos 1_000_000 ∷ []) (fresh 4)
 
 abbrev pub thrice : CacheValue
-thrice = asked_at nobody (pos 0 ∷ pos 1_000_000 ∷ pos 2_000_000 ∷ []) fresh
+thrice = asked_at nobody (pos 0 ∷ pos 1_000_000 ∷ pos 2_000_000 ∷ []) (fresh 4)
 
 -- it is there by now
 abbrev pub answer : Neighbor

@@ -1,5 +1,5 @@
 -- How a host is made, what is set at it, and what is refused.
-use Rattle.std.specs.Prelude.{ℕ, ◌==◌, ◌&&◌, ◌||◌, not, nat_lt, Bool, true, false, if◌then◌else◌, ℤ, pos, int_lt, List, [], Option, None, Some, Result, Ok, Err}
+use Rattle.std.specs.Prelude.{◌≡◌, ℕ, ◌==◌, ◌&&◌, ◌||◌, not, nat_lt, Bool, true, false, if◌then◌else◌, ℤ, pos, int_lt, List, [], Option, None, Some, Result, Ok, Err, MatchResult}
 use Rattle.std.specs.List.{list_any}
 use Rattle.net_base.specs.Capabilities.{ip_mtu}
 use Rattle.net_base.specs.DeviceCapabilities.{DeviceCapabilities}
@@ -15,6 +15,7 @@ use Rattle.ip_wire.specs.IpCidr.{IpCidr}
 use Rattle.interface_tables.specs.Inner.{InnerValue}
 use Rattle.interface_tables.specs.Neighbor.{flushed}
 use Rattle.interface_tables.specs.Neighbor as Neighbors
+use Rattle.interface_tables.specs.Route.{RoutesValue}
 use Rattle.interface_tables.specs.declared.route.Route.{Route}
 use Rattle.interface_tables.specs.declared.config.Config.{Config}
 use Rattle.interface_tables.specs.declared.config.NewError.{NewError}
@@ -23,6 +24,14 @@ use Rattle.interface_tables.specs.declared.config.HardwareAddrError.{HardwareAdd
 use Rattle.interface_tables.specs.declared.config.HardwareAddrError.TheVariants as Set
 
 -- NEW
+
+-- how many neighbours and routes are kept where nothing else is asked for
+abbrev pub table_room : ℕ
+table_room = 4
+
+abbrev pub default_config : HardwareAddress → Config
+default_config hardware =
+    record { random_seed = 0; hardware_addr = hardware; isn_key = None; neighbor_cache_count = table_room; max_route_count = table_room }
 
 abbrev pub is_of_medium : HardwareAddress → Medium → Bool
 is_of_medium Hardware.Ip Medium.Ethernet = false
@@ -68,12 +77,18 @@ made config device moment = record {
   addresses = [];
   any_ip = false;
   routes = [];
-  neighbors = Neighbors.fresh;
+  route_room = config.max_route_count;
+  neighbors = Neighbors.fresh (Neighbors.cache_room config.neighbor_cache_count);
   ident = first_ident (half_word (next_state config.random_seed));
   errors_until = pos 0;
   paths = [];
   fresh = true;
 }
+
+-- A refusal has its reason. Without one it is made, or there is no memory for it.
+abbrev pub MadeUnless : {X : Type 0} → Option NewError → X → Result X NewError → Type 0
+MadeUnless (Some e) new result = result ≡ Err e
+MadeUnless None new result = MatchResult result (λ x. x ≡ new) (λ e. e ≡ New.Memory)
 
 abbrev pub unless : {X : Type 0} {E : Type 0} → Option E → X → Result X E
 unless None value = Ok value
@@ -108,6 +123,13 @@ with_any_ip i any_ip = record i { any_ip = any_ip; fresh = false }
 
 abbrev pub with_routes : InnerValue → List Route → InnerValue
 with_routes i routes = record i { routes = routes }
+
+-- the table of routes, and another in its place
+abbrev pub routes_of : InnerValue → RoutesValue
+routes_of i = record { entries = i.routes; room = i.route_room }
+
+abbrev pub with_route_table : InnerValue → RoutesValue → InnerValue
+with_route_table i rs = record i { routes = rs.entries; route_room = rs.room }
 
 -- a setting or a call that polls
 abbrev pub used : InnerValue → InnerValue

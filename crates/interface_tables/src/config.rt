@@ -1,11 +1,14 @@
 //! How a host is made, and what its settings refuse.
 ghost use Rattle.std.specs.Prelude.{◌≡◌};
 ghost use Rattle.interface_tables.specs.Refusals.{new_error_text, hardware_addr_error_text};
-ghost use Rattle.interface_tables.specs.Settings.{is_of_medium, is_station, is_mtu, refusal};
+ghost use Rattle.interface_tables.specs.Settings.{default_config, is_of_medium, is_station, is_mtu, refusal};
 
 use ip_wire::{HardwareAddress, IPV4_MIN_MTU};
 use net_base::{DeviceCapabilities, Instant, Medium};
 use std::fmt;
+
+/// How many own addresses a host keeps, and how many neighbours and routes where its configuration names no other number.
+pub const TABLE_ROOM: usize = 4;
 
 /// The longest IPv4 packet.
 const MAX_MTU: usize = 65_535;
@@ -20,17 +23,23 @@ pub struct Config {
     /// The key by which the first numbers of TCP connections are told; without one they are random
     /// words.
     pub isn_key: Option<[u8; 16]>,
+    /// How many neighbours are kept at a time. At least one is: 0 counts as 1.
+    pub neighbor_cache_count: usize,
+    /// How many routes are kept at a time.
+    pub max_route_count: usize,
 }
 
 impl Config {
-    /// This hardware address, random words of the seed 0, and no key.
+    /// This hardware address, random words of the seed 0, no key, and tables of four neighbours and four routes.
     pub fn new(hardware_addr: HardwareAddress) -> Config
-        ensures { result ≡ record { random_seed = 0; hardware_addr = hardware_addr; isn_key = None } }
+        ensures { result ≡ default_config hardware_addr }
     {
         Config {
             random_seed: 0,
             hardware_addr,
             isn_key: None,
+            neighbor_cache_count: TABLE_ROOM,
+            max_route_count: TABLE_ROOM,
         }
     }
 }

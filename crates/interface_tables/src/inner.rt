@@ -1,12 +1,12 @@
 //! A host beside its sockets and its slots: what it answers to sockets, and where its packets go.
-ghost use Rattle.std.specs.Prelude.{◌≡◌, ◌≤◌, if◌then◌else◌, List, drop, length, not, is_ok, Some};
+ghost use Rattle.std.specs.Prelude.{◌≡◌, ◌≤◌, if◌then◌else◌, drop, length, not, is_ok, Some};
 ghost use Rattle.std.specs.List.{list_any};
 ghost use Rattle.std.specs.Fn.{FnOnceReturnsAtMut};
 ghost use Rattle.net_base.specs.Time.{IsMoment};
 ghost use Rattle.arrayvec.specs.ArrayVec.{ArrayVec as Items};
 ghost use Rattle.ip_wire.specs.IpCidr.{IpCidr};
 ghost use Rattle.ip_wire.specs.AddressTests.{is_loopback};
-ghost use Rattle.interface_tables.specs.declared.route.Route.{Route};
+ghost use Rattle.interface_tables.specs.Route.{RoutesValue};
 ghost use Rattle.interface_tables.specs.Source.{first_v4, first_v6, source_v4, source_v6};
 ghost use Rattle.interface_tables.specs.Neighbor as Neighbors;
 ghost use Rattle.interface_tables.specs.PathMtu.{some_count};
@@ -17,9 +17,9 @@ ghost use Rattle.interface_tables.specs.Inner.{is_known_hop, has_neighbor, is_in
 ghost use Rattle.interface_tables.specs.Inner.{with_next_ident, with_neighbor, with_renewal, with_request, awaited_hop};
 ghost use Rattle.interface_tables.specs.Inner.{is_crowded, next_request, may_tell, with_error, mtu_to, path_end, with_path};
 ghost use Rattle.interface_tables.specs.Settings.{refusal, made, unless, first_ident, hardware_refusal, with_hardware, is_stranger, with_addresses};
-ghost use Rattle.interface_tables.specs.Settings.{with_any_ip, with_routes, used};
+ghost use Rattle.interface_tables.specs.Settings.{with_any_ip, routes_of, with_route_table, used, MadeUnless};
 
-use crate::config::{Config, HardwareAddrError, NewError, NotUnicast, refusal};
+use crate::config::{Config, HardwareAddrError, NewError, NotUnicast, TABLE_ROOM, refusal};
 use crate::link::LinkAddress;
 use crate::neighbor::{Answer, Cache, SILENT_MILLIS};
 use crate::path_mtu::Paths;
@@ -33,10 +33,8 @@ use ip_wire::{
 use net_base::{ChecksumCapabilities, DeviceCapabilities, Duration, Instant, Rand};
 use socket_base::Context;
 use socket_base::addresses::{are_of_one_family, is_multicast, is_same_address};
+use std::alloc::Global;
 use std::marker::Model;
-
-/// How many own addresses, routes and neighbours a host keeps.
-pub const TABLE_ROOM: usize = 4;
 
 /// The first half of each link-local address, `fe80::/64`.
 const LINK_PREFIX: [u8; 8] = [0xfe, 0x80, 0, 0, 0, 0, 0, 0];
@@ -52,8 +50,8 @@ pub struct InterfaceInner {
     isn_key: Option<[u8; 16]>,
     ip_addrs: ArrayVec<IpCidr, TABLE_ROOM>,
     any_ip: bool,
-    routes: Routes<TABLE_ROOM>,
-    neighbor_cache: Cache<TABLE_ROOM>,
+    routes: Routes,
+    neighbor_cache: Cache,
     ipv4_id: u16,
     errors_until: Instant,
     paths: Paths,
@@ -77,7 +75,8 @@ impl Model for InterfaceInner {
       addresses =
           i.ip_addrs.items;
       any_ip = i.any_ip;
-      routes = i.routes;
+      routes = i.routes.entries;
+      route_room = i.routes.room;
       neighbors = i.neighbor_cache;
       ident = i.ipv4_id;
       errors_until = i.errors_until;
@@ -91,15 +90,22 @@ impl Model for InterfaceInner {
 impl InterfaceInner {
     /// A host of this configuration at a device, from this moment on; else the first reason why there is none.
     pub fn new(
+        alloc: Global,
         config: &Config,
         device: &DeviceCapabilities,
         now: Instant,
     ) -> Result<InterfaceInner, NewError>
-        ensures { result ≡ unless (refusal config.now device.now now) (made config.now device.now now) }
+        ensures { MadeUnless (refusal config.now device.now now) (made config.now device.now now) result }
     {
         if let Some(error) = refusal(config, device, now) {
             return Err(error);
         }
+        let Ok(routes) = Routes::new(alloc, config.max_route_count) else {
+            return Err(NewError::Memory);
+        };
+        let Ok(neighbor_cache) = Cache::new(alloc, config.neighbor_cache_count) else {
+            return Err(NewError::Memory);
+        };
         let mut rand = Rand::new(config.random_seed);
         let word = rand.rand_u16();
         Ok(InterfaceInner {
@@ -111,8 +117,8 @@ impl InterfaceInner {
             isn_key: config.isn_key,
             ip_addrs: ArrayVec::new(),
             any_ip: false,
-            routes: Routes::new(),
-            neighbor_cache: Cache::new(),
+            routes,
+            neighbor_cache,
             ipv4_id: if word == 0 { 1 } else { word },
             errors_until: Instant::ZERO,
             paths: Paths::new(),
@@ -193,8 +199,8 @@ impl InterfaceInner {
     }
 
     /// The routes.
-    pub fn routes(&self) -> &Routes<TABLE_ROOM>
-        ensures { result.now ≡ self.now.routes }
+    pub fn routes(&self) -> &Routes
+        ensures { result.now ≡ routes_of self.now }
     {
         &self.routes
     }
@@ -538,10 +544,10 @@ impl InterfaceInner {
     }
 
     /// Lends the routes to `f`.
-    pub fn update_routes<R: Drop, F: FnOnce(&mut Routes<TABLE_ROOM>) -> R>(&mut self, f: F) -> R
+    pub fn update_routes<R: Drop, F: FnOnce(&mut Routes) -> R>(&mut self, f: F) -> R
         requires { F.IsAlwaysCallable f }
-        ensures { (before : List Route) × (after : List Route) × (before ≡ self.old.routes)
-            × FnOnceReturnsAtMut F.FnOnce f before result after × (self.new ≡ with_routes self.old after) }
+        ensures { (before : RoutesValue) × (after : RoutesValue) × (before ≡ routes_of self.old)
+            × FnOnceReturnsAtMut F.FnOnce f before result after × (self.new ≡ with_route_table self.old after) }
     {
         f(&mut self.routes)
     }

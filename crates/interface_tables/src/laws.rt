@@ -39,8 +39,8 @@ pub fn three_requests()
     ensures last { lookup thrice nobody (pos 5_999_999) ≡ Known.Unanswered }
     ensures over { lookup thrice nobody (pos 6_000_000) ≡ Known.NotFound }
     ensures asked_twice { lookup twice nobody (pos 2_000_000) ≡ Known.NotFound }
-    ensures answered { lookup (filled 4 thrice answer) nobody (pos 3_000_000) ≡ Known.Found answer.hardware_addr }
-    ensures forgotten { lookup (filled 4 thrice answer) nobody (pos 62_500_000) ≡ Known.NotFound }
+    ensures answered { lookup (filled thrice answer) nobody (pos 3_000_000) ≡ Known.Found answer.hardware_addr }
+    ensures forgotten { lookup (filled thrice answer) nobody (pos 62_500_000) ≡ Known.NotFound }
 {}
 
 /// Law: the bytes of a piece that would leave too many runs change nothing of what came.

@@ -18,9 +18,9 @@ mod route;
 mod slots;
 pub mod source;
 
-pub use config::{Config, HardwareAddrError, NewError, NotUnicast};
+pub use config::{Config, HardwareAddrError, NewError, NotUnicast, TABLE_ROOM};
 pub use fragmentation::{AssemblerError, AssemblerFullError, PacketAssembler};
-pub use inner::{InterfaceInner, TABLE_ROOM};
+pub use inner::InterfaceInner;
 pub use key::{FragKey, Ipv6FragKey};
 pub use link::LinkAddress;
 pub use look::Look;

@@ -1,16 +1,17 @@
 //! Which hardware address each neighbour has (RFC 826; RFC 4861, section 5.1).
-ghost use Rattle.std.specs.Prelude.{◌≡◌, ◌≤◌, ◌<◌, ◌+◌, if◌then◌else◌, [], pos, ◌+ℤ◌, length, nat_lt, not, slice_get, Some};
+ghost use Rattle.std.specs.Prelude.{◌≡◌, ◌≤◌, ◌<◌, ◌+◌, if◌then◌else◌, [], pos, ◌+ℤ◌, length, nat_lt, not, slice_get, Some, IfOk};
 ghost use Rattle.std.specs.Option.{ForSome};
 ghost use Rattle.net_base.specs.Time.{IsMoment};
 ghost use Rattle.ip_wire.specs.AddressTests.{is_same_hardware};
 ghost use Rattle.interface_tables.specs.Neighbor.{fresh, lookup, filled, renewed, renewed_entry, silenced, requested, searched_at, one_more, first_search};
 ghost use Rattle.interface_tables.specs.Neighbor.{count_after, search_place, search_of, oldest_search, ended, is_failed, has_failed_by, has_failed};
-ghost use Rattle.interface_tables.specs.Neighbor.{last_request, flushed, is_found, place_of, victim, search_room, entry_lifetime, silent_time};
+ghost use Rattle.interface_tables.specs.Neighbor.{last_request, flushed, is_found, place_of, victim, search_room, entry_lifetime, silent_time, cache_room};
 
 use arrayvec::ArrayVec;
 use ip_wire::{HardwareAddress, IpAddress, Ipv4Address};
 use net_base::{Duration, Instant};
 use socket_base::addresses::is_same_address;
+use std::alloc::{AllocError, Global};
 use std::marker::Model;
 
 /// How long no other request goes out after one, and how long an entry is believed, in milliseconds.
@@ -50,7 +51,7 @@ impl Neighbor {
     }
 }
 
-/// What stands in an unused place of a table.
+/// What an unused place holds in a table of places that are all filled.
 impl Default for Neighbor {
     ghost use Rattle.interface_tables.specs.Neighbor.{blank};
 
@@ -135,7 +136,7 @@ pub enum Answer {
     Found(HardwareAddress),
     /// It isn't known, and may be asked for.
     NotFound,
-    /// It isn't known, and a neighbour was asked for less than `SILENT_TIME` ago.
+    /// It isn't known, and a neighbour was asked for less than `silent_time` ago.
     RateLimited,
     /// It was asked for three times in vain, and counts as without answer for a while.
     Unanswered,
@@ -150,42 +151,51 @@ impl Answer {
     }
 }
 
-/// The hardware addresses of at most `N` neighbours, those that are asked for, and when the next may be.
+/// The hardware addresses of a number of neighbours, those that are asked for, and when the next may be. Its memory is taken when it is
+/// made.
 #[derive(Debug, Drop)]
-pub struct Cache<const N: usize> {
-    storage: ArrayVec<Neighbor, N>,
+pub struct Cache {
+    storage: Vec<Neighbor>,
     silent_until: Instant,
     searches: ArrayVec<Search, SEARCH_ROOM>,
 }
 
-impl<const N: usize> Model for Cache<N> {
-    ghost use Rattle.std.specs.Prelude.{◌≤◌};
+impl Model for Cache {
+    ghost use Rattle.std.specs.Prelude.{◌≤◌, vec_len, vec_capacity};
     ghost use Rattle.interface_tables.specs.Neighbor.{CacheValue};
 
     ghost Value = { CacheValue };
 
-    ghost view = { λ c. record { entries = c.storage.items; silent = c.silent_until; searches = c.searches.items } };
+    ghost view = { λ c. record { entries = c.storage.items; room = vec_capacity c.storage; silent = c.silent_until; searches = c.searches.items } };
 
-    ghost invariant = { λ c. 1 ≤ N };
+    ghost invariant = { λ c. (1 ≤ vec_capacity c.storage) × (vec_len c.storage ≤ vec_capacity c.storage) };
 }
 
-impl<const N: usize> Cache<N> {
+impl Cache {
     /// How long no other request goes out after one.
-    pub const SILENT_TIME: Duration = Duration::from_millis(SILENT_MILLIS);
+    pub fn silent_time() -> Duration
+        ensures { result ≡ silent_time }
+    {
+        Duration::from_millis(SILENT_MILLIS)
+    }
 
     /// How long an entry is believed.
-    pub const ENTRY_LIFETIME: Duration = Duration::from_millis(LIFETIME_MILLIS);
-
-    /// An empty cache.
-    pub fn new() -> Cache<N>
-        requires { 1 ≤ N }
-        ensures { result ≡ fresh }
+    pub fn entry_lifetime() -> Duration
+        ensures { result ≡ entry_lifetime }
     {
-        Cache {
-            storage: ArrayVec::new(),
+        Duration::from_millis(LIFETIME_MILLIS)
+    }
+
+    /// An empty cache for so many neighbours, and for one if the number is 0.
+    pub fn new(alloc: Global, count: usize) -> Result<Cache, AllocError>
+        ensures { IfOk result (λ c. c ≡ fresh (cache_room count)) }
+    {
+        let storage = Vec::with_capacity(alloc, count.max(1))?;
+        Ok(Cache {
+            storage,
             silent_until: Instant::ZERO,
             searches: ArrayVec::new(),
-        }
+        })
     }
 
     /// What is known of an address at a moment.
@@ -241,7 +251,7 @@ impl<const N: usize> Cache<N> {
         self.silent_until
     }
 
-    /// Enters a neighbour that was heard at this moment. It is believed for `ENTRY_LIFETIME`.
+    /// Enters a neighbour that was heard at this moment. It is believed for `entry_lifetime`.
     pub fn fill(
         &mut self,
         protocol_addr: IpAddress,
@@ -249,7 +259,7 @@ impl<const N: usize> Cache<N> {
         timestamp: Instant,
     )
         requires { IsMoment timestamp }
-        ensures { self.new ≡ filled N self.old (record {
+        ensures { self.new ≡ filled self.old (record {
           protocol_addr = protocol_addr;
           hardware_addr = hardware_addr;
           expires_at =
@@ -271,7 +281,7 @@ impl<const N: usize> Cache<N> {
         hardware_addr: HardwareAddress,
         expires_at: Instant,
     )
-        ensures { self.new ≡ filled N self.old (record { protocol_addr = protocol_addr; hardware_addr = hardware_addr; expires_at = expires_at }) }
+        ensures { self.new ≡ filled self.old (record { protocol_addr = protocol_addr; hardware_addr = hardware_addr; expires_at = expires_at }) }
     {
         let neighbor = Neighbor {
             protocol_addr,
@@ -283,14 +293,14 @@ impl<const N: usize> Cache<N> {
             self.storage[at] = neighbor;
             return;
         }
-        if self.storage.is_full() {
+        if self.storage.capacity() <= self.storage.len() {
             let at = victim(self.storage.as_slice());
             self.storage.remove(at);
         }
-        self.storage.push(neighbor);
+        self.storage.push_reserved(neighbor);
     }
 
-    /// Believes an entry for `ENTRY_LIFETIME` from this moment on, where it has this hardware address.
+    /// Believes an entry for `entry_lifetime` from this moment on, where it has this hardware address.
     pub fn reset_expiry_if_existing(
         &mut self,
         protocol_addr: IpAddress,

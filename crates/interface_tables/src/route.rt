@@ -5,13 +5,13 @@ ghost use Rattle.std.specs.List.{fold};
 ghost use Rattle.std.specs.Option.{ForSome};
 ghost use Rattle.ip_wire.specs.IpAddress.TheVariants as Address;
 ghost use Rattle.interface_tables.specs.Best.{at_place, first_that, better_of};
-ghost use Rattle.interface_tables.specs.Route.{is_expired, serves, serving, is_longer, best_route, router_of, is_gateway_v4, is_gateway_v6, IsGateway};
+ghost use Rattle.interface_tables.specs.Route.{no_routes, is_expired, serves, serving, is_longer, best_route, router_of, is_gateway_v4, is_gateway_v6, IsGateway};
 ghost use Rattle.interface_tables.specs.Route.{without_at, without, has_room, IsAdded};
 
-use arrayvec::ArrayVec;
 use ip_wire::{IpAddress, IpCidr, Ipv4Address, Ipv4Cidr, Ipv6Address, Ipv6Cidr};
 use net_base::Instant;
 use socket_base::addresses::are_of_one_family;
+use std::alloc::{AllocError, Global};
 use std::fmt;
 use std::marker::Model;
 
@@ -96,7 +96,7 @@ impl Route {
     }
 }
 
-/// What stands in an unused place of a table.
+/// What an unused place holds in a table of places that are all filled.
 impl Default for Route {
     ghost use Rattle.interface_tables.specs.Route.{IsBlank};
 
@@ -107,62 +107,74 @@ impl Default for Route {
     }
 }
 
-/// At most `N` routes.
+/// Routes, up to a number. Their memory is taken when the table is made.
 #[derive(Debug, Drop)]
-pub struct Routes<const N: usize> {
-    storage: ArrayVec<Route, N>,
+pub struct Routes {
+    storage: Vec<Route>,
 }
 
-impl<const N: usize> Model for Routes<N> {
-    ghost use Rattle.std.specs.Prelude.{List};
-    ghost use Rattle.interface_tables.specs.declared.route.Route.{Route};
+impl Model for Routes {
+    ghost use Rattle.std.specs.Prelude.{◌≤◌, vec_len, vec_capacity};
+    ghost use Rattle.interface_tables.specs.Route.{RoutesValue};
 
-    ghost Value = { List Route };
+    ghost Value = { RoutesValue };
 
-    ghost view = { λ r. r.storage.items };
+    ghost view = { λ r. record { entries = r.storage.items; room = vec_capacity r.storage } };
+
+    ghost invariant = { λ r. vec_len r.storage ≤ vec_capacity r.storage };
 }
 
-impl<const N: usize> Routes<N> {
-    /// No routes.
-    pub fn new() -> Routes<N>
-        ensures { result ≡ [] }
+impl Routes {
+    /// No routes, and room for so many.
+    pub fn new(alloc: Global, count: usize) -> Result<Routes, AllocError>
+        ensures { IfOk result (λ r. r ≡ no_routes count) }
     {
-        Routes {
-            storage: ArrayVec::new(),
-        }
+        let storage = Vec::with_capacity(alloc, count)?;
+        Ok(Routes { storage })
     }
 
     /// The routes, in the order in which they were added.
     pub fn as_slice(&self) -> &[Route]
-        ensures { result.now ≡ self.now }
+        ensures { result.now ≡ self.now.entries }
     {
         self.storage.as_slice()
     }
 
+    /// How many routes there can be.
+    pub fn room(&self) -> usize
+        ensures { result ≡ self.now.room }
+    {
+        self.storage.capacity()
+    }
+
     /// Adds a route behind the others, if there is room.
     pub fn push(&mut self, route: Route) -> Result<(), RouteTableFull>
-        ensures ok { IsOk result ↔ (length self.old < N) }
-        ensures added { OnOk result (self.new ≡ self.old ++ route ∷ []) }
+        ensures ok { IsOk result ↔ (length self.old.entries < self.old.room) }
+        ensures added { OnOk result (self.new ≡ record self.old { entries = self.old.entries ++ route ∷ [] }) }
         ensures err { OnErr result (self.new ≡ self.old) }
     {
-        match self.storage.try_push(route) {
-            Ok(()) => Ok(()),
-            Err(_) => Err(RouteTableFull),
+        match self.exchange(None, route) {
+            Ok(_) => Ok(()),
+            Err(error) => Err(error),
         }
     }
 
     /// Takes out the route at this place, if there is one.
     pub fn remove(&mut self, at: usize) -> Option<Route>
-        ensures value { result ≡ slice_get self.old at }
-        ensures after { IsSome result → self.new ≡ remove self.old at }
+        ensures value { result ≡ slice_get self.old.entries at }
+        ensures after { IsSome result → self.new ≡ record self.old { entries = remove self.old.entries at } }
         ensures none { IfNone result (self.new ≡ self.old) }
     {
-        self.storage.pop_at(at)
+        if at < self.storage.len() {
+            Some(self.storage.remove(at))
+        } else {
+            None
+        }
     }
 
     /// Takes out every route.
     pub fn clear(&mut self)
-        ensures { self.new ≡ [] }
+        ensures { self.new ≡ no_routes self.old.room }
     {
         self.storage.clear();
     }
@@ -172,9 +184,10 @@ impl<const N: usize> Routes<N> {
         &mut self,
         gateway: Ipv4Address,
     ) -> Result<Option<Route>, RouteTableFull>
-        ensures ok { IsOk result ↔ IsTrue (has_room N is_gateway_v4 self.old) }
-        ensures replaced { IfOk result (λ old. old ≡ first_that is_gateway_v4 self.old) }
-        ensures added { OnOk result (IsAdded is_gateway_v4 (λ r. IsGateway r (replicate 4 0) (Address.Ipv4 gateway)) self.old self.new) }
+        ensures ok { IsOk result ↔ IsTrue (has_room self.old.room is_gateway_v4 self.old.entries) }
+        ensures replaced { IfOk result (λ old. old ≡ first_that is_gateway_v4 self.old.entries) }
+        ensures added { OnOk result (IsAdded is_gateway_v4 (λ r. IsGateway r (replicate 4 0) (Address.Ipv4 gateway)) self.old.entries self.new.entries) }
+        ensures room { self.new.room ≡ self.old.room }
         ensures err { OnErr result (self.new ≡ self.old) }
     {
         let place = place_of_ipv4_gateway(self.storage.as_slice());
@@ -186,9 +199,10 @@ impl<const N: usize> Routes<N> {
         &mut self,
         gateway: Ipv6Address,
     ) -> Result<Option<Route>, RouteTableFull>
-        ensures ok { IsOk result ↔ IsTrue (has_room N is_gateway_v6 self.old) }
-        ensures replaced { IfOk result (λ old. old ≡ first_that is_gateway_v6 self.old) }
-        ensures added { OnOk result (IsAdded is_gateway_v6 (λ r. IsGateway r (replicate 16 0) (Address.Ipv6 gateway)) self.old self.new) }
+        ensures ok { IsOk result ↔ IsTrue (has_room self.old.room is_gateway_v6 self.old.entries) }
+        ensures replaced { IfOk result (λ old. old ≡ first_that is_gateway_v6 self.old.entries) }
+        ensures added { OnOk result (IsAdded is_gateway_v6 (λ r. IsGateway r (replicate 16 0) (Address.Ipv6 gateway)) self.old.entries self.new.entries) }
+        ensures room { self.new.room ≡ self.old.room }
         ensures err { OnErr result (self.new ≡ self.old) }
     {
         let place = place_of_ipv6_gateway(self.storage.as_slice());
@@ -197,7 +211,7 @@ impl<const N: usize> Routes<N> {
 
     /// The first route of all IPv4 packets.
     pub fn get_default_ipv4_route(&self) -> Option<Route>
-        ensures { result ≡ first_that is_gateway_v4 self.now }
+        ensures { result ≡ first_that is_gateway_v4 self.now.entries }
     {
         route_at(
             self.storage.as_slice(),
@@ -207,7 +221,7 @@ impl<const N: usize> Routes<N> {
 
     /// The first route of all IPv6 packets.
     pub fn get_default_ipv6_route(&self) -> Option<Route>
-        ensures { result ≡ first_that is_gateway_v6 self.now }
+        ensures { result ≡ first_that is_gateway_v6 self.now.entries }
     {
         route_at(
             self.storage.as_slice(),
@@ -217,9 +231,9 @@ impl<const N: usize> Routes<N> {
 
     /// Takes out the first route of all IPv4 packets.
     pub fn remove_default_ipv4_route(&mut self) -> Option<Route>
-        ensures value { result ≡ first_that is_gateway_v4 self.old }
-        ensures after { self.new ≡ without is_gateway_v4 self.old }
-        ensures fits { length self.new ≤ N }
+        ensures value { result ≡ first_that is_gateway_v4 self.old.entries }
+        ensures after { self.new ≡ record self.old { entries = without is_gateway_v4 self.old.entries } }
+        ensures fits { length self.new.entries ≤ self.new.room }
     {
         let place = place_of_ipv4_gateway(self.storage.as_slice());
         self.take(place)
@@ -227,9 +241,9 @@ impl<const N: usize> Routes<N> {
 
     /// Takes out the first route of all IPv6 packets.
     pub fn remove_default_ipv6_route(&mut self) -> Option<Route>
-        ensures value { result ≡ first_that is_gateway_v6 self.old }
-        ensures after { self.new ≡ without is_gateway_v6 self.old }
-        ensures fits { length self.new ≤ N }
+        ensures value { result ≡ first_that is_gateway_v6 self.old.entries }
+        ensures after { self.new ≡ record self.old { entries = without is_gateway_v6 self.old.entries } }
+        ensures fits { length self.new.entries ≤ self.new.room }
     {
         let place = place_of_ipv6_gateway(self.storage.as_slice());
         self.take(place)
@@ -237,9 +251,9 @@ impl<const N: usize> Routes<N> {
 
     /// Takes out the route at this place, if one is named.
     fn take(&mut self, place: Option<usize>) -> Option<Route>
-        requires { ForSome place (λ at. at < length self.old) }
-        ensures value { result ≡ at_place place self.old }
-        ensures after { self.new ≡ without_at place self.old }
+        requires { ForSome place (λ at. at < length self.old.entries) }
+        ensures value { result ≡ at_place place self.old.entries }
+        ensures after { self.new ≡ record self.old { entries = without_at place self.old.entries } }
     {
         match place {
             Some(at) => Some(self.storage.remove(at)),
@@ -253,21 +267,23 @@ impl<const N: usize> Routes<N> {
         place: Option<usize>,
         route: Route,
     ) -> Result<Option<Route>, RouteTableFull>
-        requires { ForSome place (λ at. at < length self.old) }
-        ensures ok { IsOk result ↔ IsTrue (is_some place || nat_lt (length self.old) N) }
-        ensures replaced { IfOk result (λ old. old ≡ at_place place self.old) }
-        ensures added { OnOk result (self.new ≡ without_at place self.old ++ route ∷ []) }
+        requires { ForSome place (λ at. at < length self.old.entries) }
+        ensures ok { IsOk result ↔ IsTrue (is_some place || nat_lt (length self.old.entries) self.old.room) }
+        ensures replaced { IfOk result (λ old. old ≡ at_place place self.old.entries) }
+        ensures added { OnOk result (self.new ≡ record self.old { entries = without_at place self.old.entries ++ route ∷ [] }) }
         ensures err { OnErr result (self.new ≡ self.old) }
     {
-        let _ = self.storage.len();
         match place {
             Some(at) => {
-                let old = self.storage.pop_at(at);
-                self.storage.push(route);
-                Ok(old)
+                let old = self.storage.remove(at);
+                self.storage.push_reserved(route);
+                Ok(Some(old))
             }
             None => {
-                self.push(route)?;
+                if self.storage.capacity() <= self.storage.len() {
+                    return Err(RouteTableFull);
+                }
+                self.storage.push_reserved(route);
                 Ok(None)
             }
         }
@@ -275,7 +291,7 @@ impl<const N: usize> Routes<N> {
 
     /// The router of a packet for this destination at this moment.
     pub fn lookup(&self, addr: &IpAddress, timestamp: Instant) -> Option<IpAddress>
-        ensures { result ≡ router_of (best_route self.now addr.now timestamp) }
+        ensures { result ≡ router_of (best_route self.now.entries addr.now timestamp) }
     {
         best_route(self.storage.as_slice(), addr, timestamp).map(|route| route.via_router)
     }

@@ -12,7 +12,7 @@ use Rattle.lan.specs.Worlds.AtLink.Host.{HostValue}
 use Rattle.lan.specs.Worlds.Made.{new_host, with_inner}
 use Rattle.lan.specs.Worlds.Set.{unmarked}
 use Rattle.lan.specs.Worlds.SocketStorage.{SocketStorage}
-use Rattle.lan.specs.Worlds.Settings.{refusal, with_addresses}
+use Rattle.lan.specs.Worlds.Settings.{default_config, refusal, with_addresses}
 use Rattle.lan.specs.Worlds.AtLink.Config.{Config}
 use Rattle.ip_address.specs.declared.hardware.HardwareAddress.{HardwareAddress}
 use Rattle.ip_address.specs.declared.hardware.HardwareAddress.TheVariants as Hardware
@@ -76,7 +76,7 @@ block_v6 side = Block.Ipv6 (record {
 })
 
 abbrev pub config_of : Medium → Side → Config
-config_of medium side = record { random_seed = number side; hardware_addr = hardware_of medium side; isn_key = None }
+config_of medium side = record (default_config (hardware_of medium side)) { random_seed = number side }
 
 -- what both devices say of themselves: they verify and compute every checksum
 abbrev pub device_of : Medium → ℕ → DeviceCapabilities

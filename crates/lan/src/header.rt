@@ -145,13 +145,13 @@ fn config_of(medium: Medium, side: Side) -> Config
     ensures { result ≡ config_of medium side }
 {
     let n = number(side);
+    let hardware_addr = match medium {
+        Medium::Ethernet => HardwareAddress::Ethernet(EthernetAddress([2, 0, 0, 0, 0, n])),
+        Medium::Ip => HardwareAddress::Ip,
+    };
     Config {
         random_seed: n as u64,
-        hardware_addr: match medium {
-            Medium::Ethernet => HardwareAddress::Ethernet(EthernetAddress([2, 0, 0, 0, 0, n])),
-            Medium::Ip => HardwareAddress::Ip,
-        },
-        isn_key: None,
+        ..Config::new(hardware_addr)
     }
 }
 

@@ -136,8 +136,8 @@ impl Header {
     fn interface(&self, alloc: Global, wire: &Wire, words: &mut Words<'_>) -> Option<Interface> {
         let config = Config {
             random_seed: self.seed,
-            hardware_addr: self.hardware,
             isn_key: self.isn_key,
+            ..Config::new(self.hardware)
         };
         match Interface::new(alloc, &config, wire, self.begins) {
             Ok(interface) => Some(interface),

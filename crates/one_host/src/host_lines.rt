@@ -5,7 +5,7 @@ use crate::host::Host;
 use crate::said::{Refusal, Said};
 use crate::stop::Class;
 use crate::words::Words;
-use interface::{HardwareAddrError, Interface, Route, Routes, TABLE_ROOM};
+use interface::{HardwareAddrError, Interface, Route, Routes};
 use ip_wire::IpAddress;
 use net_base::{Duration, Instant};
 use std::alloc::Global;
@@ -170,7 +170,7 @@ fn add_route(interface: &mut Interface, words: &mut Words<'_>) -> Answer {
     interface.update_routes(|routes| added(routes.push(route).is_ok()))
 }
 
-fn default_route(routes: &mut Routes<TABLE_ROOM>, router: IpAddress, exchanges: bool) -> Answer {
+fn default_route(routes: &mut Routes, router: IpAddress, exchanges: bool) -> Answer {
     let answer = match router {
         IpAddress::Ipv4(router) => routes.add_default_ipv4_route(router),
         IpAddress::Ipv6(router) => routes.add_default_ipv6_route(router),
@@ -199,7 +199,7 @@ fn dropped(route: Option<Route>) -> Answer {
 }
 
 /// Takes out the default routes of a family, or all routes.
-fn no_route(routes: &mut Routes<TABLE_ROOM>, verb: Verb) -> Answer {
+fn no_route(routes: &mut Routes, verb: Verb) -> Answer {
     match verb {
         Verb::NoRouteV4 => dropped(routes.remove_default_ipv4_route()),
         Verb::NoRouteV6 => dropped(routes.remove_default_ipv6_route()),

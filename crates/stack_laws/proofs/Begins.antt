@@ -3,12 +3,12 @@ use Rattle.std.proofs.Common.{rules, ◌≡◌, ℕ, ℤ, ◌<◌, Bool, true, f
 use Rattle.std.proofs.Common.{subst}
 use Rattle.net_base.specs.Capabilities.{ip_mtu}
 use Rattle.net_base.specs.DeviceCapabilities.{DeviceCapabilities}
-use Rattle.interface_tables.specs.Settings.{is_of_medium, is_station, is_mtu, is_moment, refusal}
+use Rattle.interface_tables.specs.Settings.{MadeUnless, is_of_medium, is_station, is_mtu, is_moment, refusal}
 use Rattle.interface_tables.specs.declared.config.Config.{Config}
 use Rattle.interface_tables.specs.declared.config.NewError.{NewError}
 use Rattle.interface_tables.specs.declared.config.NewError.TheVariants as New
 use Rattle.interface.specs.Host.{HostValue}
-use Rattle.interface.specs.Made.{Makes, MadeUnless, new_host}
+use Rattle.interface.specs.Made.{Makes, new_host}
 
 unless : (o : Option NewError) (h : HostValue) (r : Result HostValue NewError) (P : HostValue → Type 0) → MadeUnless o h r → P h → IfOk r P
 unless (Some e) h r P is holds = subst (λ x. IfOk x P) (sym is) tt

@@ -49,9 +49,7 @@ pub fn passes_on_inner(inner: &interface_tables::InterfaceInner) -> &interface::
 }
 
 /// A table of routes.
-pub fn passes_on_routes(
-    routes: &interface_tables::Routes<TABLE_ROOM>,
-) -> &interface::Routes<TABLE_ROOM>
+pub fn passes_on_routes(routes: &interface_tables::Routes) -> &interface::Routes
     ensures { result.now ≡ routes.now }
 {
     routes

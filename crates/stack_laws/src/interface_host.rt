@@ -1,5 +1,5 @@
 //! What `==` says of a poll's answers, and how an interface begins.
-ghost use Rattle.std.specs.Prelude.{◌≡◌, ◌↔◌, ◌<◌, IsTrue, pos, [], None, false, true, length, IsErr, IfOk};
+ghost use Rattle.std.specs.Prelude.{◌≡◌, ◌↔◌, ◌<◌, IsTrue, pos, [], None, false, true, length, max, IsErr, IfOk};
 ghost use Rattle.net_base.specs.Capabilities.{ip_mtu};
 ghost use Rattle.interface.specs.Ingress.{longest_frame};
 ghost use Rattle.interface.specs.Made.{first_timeout, slot_count};
@@ -23,7 +23,8 @@ pub fn host_numbers()
     ensures timeout { first_timeout ≡ 60000000 }
 {}
 
-/// An interface that begins has no addresses, no routes, no neighbours and no silence; two datagrams can come in pieces, each of
+/// An interface that begins has no addresses, no routes, no neighbours and no silence, and room for as many routes and neighbours as its
+/// configuration says, for one neighbour at least; two datagrams can come in pieces, each of
 /// which is waited for a minute. There is none at a device whose longest IP packet is below 576 or above 65,535 bytes.
 pub fn begins<D: Device>(
     alloc: Global,
@@ -34,7 +35,9 @@ pub fn begins<D: Device>(
     ensures addresses { IfOk result (λ h. h.inner.addresses ≡ []) }
     ensures any_ip { IfOk result (λ h. h.inner.any_ip ≡ false) }
     ensures routes { IfOk result (λ h. h.inner.routes ≡ []) }
-    ensures neighbors { IfOk result (λ h. h.inner.neighbors ≡ record { entries = []; silent = pos 0; searches = [] }) }
+    ensures route_room { IfOk result (λ h. h.inner.route_room ≡ config.now.max_route_count) }
+    ensures neighbors { IfOk result (λ h.
+        h.inner.neighbors ≡ record { entries = []; room = max config.now.neighbor_cache_count 1; silent = pos 0; searches = [] }) }
     ensures fresh { IfOk result (λ h. h.inner.fresh ≡ true) }
     ensures left { IfOk result (λ h. h.left ≡ None) }
     ensures slots { IfOk result (λ h. length h.slots ≡ 2) }

@@ -8,22 +8,22 @@ ghost use Rattle.interface_tables.specs.Route.{is_gateway_v4, is_gateway_v6, IsG
 ghost use Rattle.interface_egress.specs.Set.{places, is_fixed, free, free_place, socket_at, Adds};
 
 use interface_egress::{AddError, Idle, SocketHandle, SocketSet};
-use interface_tables::{Route, RouteTableFull, Routes, TABLE_ROOM};
+use interface_tables::{Route, RouteTableFull, Routes};
 use ip_wire::{Ipv4Address, Ipv6Address};
 
-/// A table takes four routes, and stays as it was where it refuses one.
-pub fn push_route(routes: &mut Routes<TABLE_ROOM>, route: Route) -> Result<(), RouteTableFull>
-    ensures ok { IsOk result ↔ (length routes.old < 4) }
-    ensures added { OnOk result (routes.new ≡ routes.old ++ route ∷ []) }
+/// A table takes as many routes as it has room for, and stays as it was where it refuses one.
+pub fn push_route(routes: &mut Routes, route: Route) -> Result<(), RouteTableFull>
+    ensures ok { IsOk result ↔ (length routes.old.entries < routes.old.room) }
+    ensures added { OnOk result (routes.new ≡ record routes.old { entries = routes.old.entries ++ route ∷ [] }) }
     ensures err { OnErr result (routes.new ≡ routes.old) }
 {
     routes.push(route)
 }
 
 /// A route is taken out where there is one.
-pub fn remove_route(routes: &mut Routes<TABLE_ROOM>, at: usize) -> Option<Route>
-    ensures value { result ≡ slice_get routes.old at }
-    ensures after { IsSome result → routes.new ≡ remove routes.old at }
+pub fn remove_route(routes: &mut Routes, at: usize) -> Option<Route>
+    ensures value { result ≡ slice_get routes.old.entries at }
+    ensures after { IsSome result → routes.new ≡ record routes.old { entries = remove routes.old.entries at } }
     ensures none { IfNone result (routes.new ≡ routes.old) }
 {
     routes.remove(at)
@@ -31,12 +31,13 @@ pub fn remove_route(routes: &mut Routes<TABLE_ROOM>, at: usize) -> Option<Route>
 
 /// A router of all IPv4 packets takes the place of the one before, or a free one.
 pub fn set_ipv4_router(
-    routes: &mut Routes<TABLE_ROOM>,
+    routes: &mut Routes,
     gateway: Ipv4Address,
 ) -> Result<Option<Route>, RouteTableFull>
-    ensures ok { IsOk result ↔ IsTrue (has_room 4 is_gateway_v4 routes.old) }
-    ensures replaced { IfOk result (λ old. old ≡ first_that is_gateway_v4 routes.old) }
-    ensures added { OnOk result (IsAdded is_gateway_v4 (λ r. IsGateway r (replicate 4 0) (Address.Ipv4 gateway)) routes.old routes.new) }
+    ensures ok { IsOk result ↔ IsTrue (has_room routes.old.room is_gateway_v4 routes.old.entries) }
+    ensures replaced { IfOk result (λ old. old ≡ first_that is_gateway_v4 routes.old.entries) }
+    ensures added { OnOk result (IsAdded is_gateway_v4 (λ r. IsGateway r (replicate 4 0) (Address.Ipv4 gateway)) routes.old.entries routes.new.entries) }
+    ensures room { routes.new.room ≡ routes.old.room }
     ensures err { OnErr result (routes.new ≡ routes.old) }
 {
     routes.add_default_ipv4_route(gateway)
@@ -44,12 +45,13 @@ pub fn set_ipv4_router(
 
 /// The same of IPv6 packets.
 pub fn set_ipv6_router(
-    routes: &mut Routes<TABLE_ROOM>,
+    routes: &mut Routes,
     gateway: Ipv6Address,
 ) -> Result<Option<Route>, RouteTableFull>
-    ensures ok { IsOk result ↔ IsTrue (has_room 4 is_gateway_v6 routes.old) }
-    ensures replaced { IfOk result (λ old. old ≡ first_that is_gateway_v6 routes.old) }
-    ensures added { OnOk result (IsAdded is_gateway_v6 (λ r. IsGateway r (replicate 16 0) (Address.Ipv6 gateway)) routes.old routes.new) }
+    ensures ok { IsOk result ↔ IsTrue (has_room routes.old.room is_gateway_v6 routes.old.entries) }
+    ensures replaced { IfOk result (λ old. old ≡ first_that is_gateway_v6 routes.old.entries) }
+    ensures added { OnOk result (IsAdded is_gateway_v6 (λ r. IsGateway r (replicate 16 0) (Address.Ipv6 gateway)) routes.old.entries routes.new.entries) }
+    ensures room { routes.new.room ≡ routes.old.room }
     ensures err { OnErr result (routes.new ≡ routes.old) }
 {
     routes.add_default_ipv6_route(gateway)

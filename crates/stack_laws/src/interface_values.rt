@@ -45,9 +45,10 @@ pub fn interface_texts()
     ensures slots { (e : AssemblerFullError) → ⟦<AssemblerFullError as Display>⟧.output e ≡ Some (codes "AssemblerFullError") }
 {}
 
-/// The configuration with this hardware address, and random words of the seed 0.
+/// The configuration with this hardware address, random words of the seed 0, and tables of four neighbours and four routes.
 pub fn configured(hardware_addr: HardwareAddress) -> Config
-    ensures { result ≡ record { random_seed = 0; hardware_addr = hardware_addr; isn_key = None } }
+    ensures { result ≡
+        record { random_seed = 0; hardware_addr = hardware_addr; isn_key = None; neighbor_cache_count = 4; max_route_count = 4 } }
 {
     Config::new(hardware_addr)
 }

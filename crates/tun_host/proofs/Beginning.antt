@@ -1,16 +1,17 @@
 -- A host that begins.
 use Rattle.std.proofs.Common.{◌≡◌, ℕ, zero, suc, get_or, ◌+◌, ◌-◌, not, ◌||◌, ◌&&◌, if◌then◌else◌, sym, ap, ap₂, ◌∙◌, ◌++◌, ◌∷◌, take, drop, length-append}
 use Rattle.std.proofs.Common.{length-drop, length-take, ℤ, pos, ◌≤ℤ◌, Bool, true, false, List, [], length, Result, Ok, Err, Option, None, Some, IsOk, OnOk}
-use Rattle.std.proofs.Common.{IsTrue, ◌↔◌, refl, subst, arith}
-use Rattle.std.specs.Prelude.{int_lt, position, is_some}
+use Rattle.std.proofs.Common.{◌<◌, ◌≤◌, IsTrue, ◌↔◌, refl, subst, arith}
+use Rattle.std.specs.Prelude.{int_lt, nat_lt, position, is_some}
 use Rattle.std.proofs.lemmas.Bool.{false≢true}
+use Rattle.std.proofs.lemmas.Bool.Decides.{nat_tests}
 use Rattle.std.proofs.lemmas.List.Quantifiers.{position-Some}
 use Rattle.std.specs.List.{list_any}
 use Rattle.net_base.specs.Ring.{Ring, ring}
 use Rattle.interface_tables.specs.ReceiveMap.{space}
 use Rattle.sockets.specs.TcpValue.{TcpValue, new_socket, received_of}
 use Rattle.interface.specs.Host.{HostValue}
-use Rattle.interface.specs.Made.{new_host, with_inner, MadeUnless, Makes}
+use Rattle.interface.specs.Made.{new_host, with_inner, Makes}
 use Rattle.interface_tables.specs.Inner.{InnerValue}
 use Rattle.interface_tables.specs.Neighbor.{flushed}
 use Rattle.ip_wire.specs.AddressTests.{are_of_one_family}
@@ -24,8 +25,9 @@ use Rattle.net_base.specs.Time.{IsMoment, last_moment}
 use Rattle.ip_wire.specs.IpAddress.TheVariants as Ip
 use Rattle.ip_wire.specs.Ipv4Address.{Ipv4Address}
 use Rattle.ip_wire.specs.Ipv6Address.{Ipv6Address}
-use Rattle.interface_tables.specs.Route.{is_all_v6, is_gateway_v4, is_gateway_v6, IsGateway, IsAdded, has_room, without, without_at}
-use Rattle.interface_tables.specs.Settings.{refusal, is_station, is_stranger, made, with_addresses, with_routes}
+use Rattle.interface_tables.specs.Route.{RoutesValue, no_routes, is_all_v6, is_gateway_v4, is_gateway_v6, IsGateway, IsAdded, has_room, without, without_at}
+use Rattle.interface_tables.specs.Settings.{MadeUnless, default_config, table_room, refusal, is_station, is_stranger, made, with_addresses, routes_of, with_routes, with_route_table}
+use Rattle.interface_tables.proofs.RouteTable.{same_room}
 use Rattle.interface_tables.specs.declared.config.NewError.{NewError}
 use Rattle.interface_tables.specs.declared.config.NewError.TheVariants as New
 use Rattle.interface_tables.specs.declared.route.Route.{Route}
@@ -39,7 +41,7 @@ not_below a b is = grind (arith)
 
 -- at a moment of the stack an interface is refused for a hardware address that is no station's alone
 pub refusal_is : (hardware : HardwareAddress) (seed : ℕ) (key : Option (List ℕ)) (moment : ℤ) → IsMoment moment
-    → refusal (record { random_seed = seed; hardware_addr = hardware; isn_key = key }) (capabilities_of hardware) moment ≡
+    → refusal (record (default_config hardware) { random_seed = seed; isn_key = key }) (capabilities_of hardware) moment ≡
     (if is_station hardware then None else Some New.NotUnicast)
 refusal_is Hardware.Ip seed key moment is = rw (not_below moment (pos 0) is.0, not_below (pos last_moment) moment is.1) refl
 refusal_is (Hardware.Ethernet a) seed key moment is = rw (not_below moment (pos 0) is.0, not_below (pos last_moment) moment is.1) refl
@@ -98,8 +100,12 @@ or_true : (b : Bool) → b || true ≡ true
 or_true true = refl
 or_true false = refl
 
-room_of_one : (r : Route) → has_room 4 is_gateway_v6 (r ∷ []) ≡ true
-room_of_one r = or_true (is_some (position is_gateway_v6 (r ∷ [])))
+room_for : (k n : ℕ) → k < n → nat_lt k n ≡ true
+room_for k n less = grind (arith, nat_tests)
+
+room_of_one : (r : Route) (n : ℕ) → 2 ≤ n → has_room n is_gateway_v6 (r ∷ []) ≡ true
+room_of_one r n fits =
+    ap (λ (b : Bool). is_some (position is_gateway_v6 (r ∷ [])) || b) (room_for 1 n (omega (arith, fits))) ∙ or_true (is_some (position is_gateway_v6 (r ∷ [])))
 
 second_v6 : (result : Result (Option Route) RouteTableFull) (r : Route) (new : List Route) (ipv4 : Ipv4Address) (ipv6 : Ipv6Address)
     → IsGateway r (replicate 4 0) (Ip.Ipv4 ipv4) → IsOk result
@@ -108,34 +114,42 @@ second_v6 (Ok o) r new ipv4 ipv6 first ok (r6, is, added) = (r, (r6, (first, is,
 second_v6 (Err e) r new ipv4 ipv6 first ok added = absurd (cc)
 
 module _ (ipv4 : Ipv4Address) (ipv6 : Ipv6Address) where
-  -- the first routes of an empty table
-  pub defaults_of : (one two : Result (Option Route) RouteTableFull) (old mid new : List Route)
-      → (IsOk one ↔ IsTrue (has_room 4 is_gateway_v4 old)) → OnOk one (IsAdded is_gateway_v4 (λ r. IsGateway r (replicate 4 0) (Ip.Ipv4 ipv4)) old mid)
-      → (IsOk two ↔ IsTrue (has_room 4 is_gateway_v6 mid)) → OnOk two (IsAdded is_gateway_v6 (λ r. IsGateway r (replicate 16 0) (Ip.Ipv6 ipv6)) mid new)
-      → old ≡ [] → AreDefaults ipv4 ipv6 new
-  defaults_of one two old mid new ok added ok2 added2 none =
-      let room : IsOk one ↔ IsTrue (has_room 4 is_gateway_v4 []) = subst (λ (o : List Route). IsOk one ↔ IsTrue (has_room 4 is_gateway_v4 o)) none ok in
-      let first : (r : Route) × IsGateway r (replicate 4 0) (Ip.Ipv4 ipv4) × (mid ≡ r ∷ []) =
-      first_v4 one mid ipv4 (room.1 refl)
-      (subst (λ (o : List Route). OnOk one (IsAdded is_gateway_v4 (λ r. IsGateway r (replicate 4 0) (Ip.Ipv4 ipv4)) o mid)) none added) in
+  -- the first routes of an empty table that has room for two
+  pub defaults_of : (one two : Result (Option Route) RouteTableFull) (old mid new : RoutesValue)
+      → (IsOk one ↔ IsTrue (has_room old.room is_gateway_v4 old.entries))
+      → OnOk one (IsAdded is_gateway_v4 (λ r. IsGateway r (replicate 4 0) (Ip.Ipv4 ipv4)) old.entries mid.entries) → mid.room ≡ old.room
+      → (IsOk two ↔ IsTrue (has_room mid.room is_gateway_v6 mid.entries))
+      → OnOk two (IsAdded is_gateway_v6 (λ r. IsGateway r (replicate 16 0) (Ip.Ipv6 ipv6)) mid.entries new.entries)
+      → old.entries ≡ [] → 2 ≤ old.room → AreDefaults ipv4 ipv6 new.entries
+  defaults_of one two old mid new ok added same ok2 added2 none fits =
+      let room : IsOk one ↔ IsTrue (has_room old.room is_gateway_v4 []) =
+      subst (λ (o : List Route). IsOk one ↔ IsTrue (has_room old.room is_gateway_v4 o)) none ok in
+      let first : (r : Route) × IsGateway r (replicate 4 0) (Ip.Ipv4 ipv4) × (mid.entries ≡ r ∷ []) =
+      first_v4 one mid.entries ipv4 (room.1 (room_for 0 old.room (omega (arith, fits))))
+      (subst (λ (o : List Route). OnOk one (IsAdded is_gateway_v4 (λ r. IsGateway r (replicate 4 0) (Ip.Ipv4 ipv4)) o mid.entries)) none added) in
       let r : Route = first.0 in
-      let room2 : IsOk two ↔ IsTrue (has_room 4 is_gateway_v6 (r ∷ [])) =
-      subst (λ (o : List Route). IsOk two ↔ IsTrue (has_room 4 is_gateway_v6 o)) first.2 ok2 in
-      second_v6 two r new ipv4 ipv6 first.1 (room2.1 (room_of_one r))
-      (subst (λ (o : List Route). OnOk two (IsAdded is_gateway_v6 (λ r. IsGateway r (replicate 16 0) (Ip.Ipv6 ipv6)) o new)) first.2 added2)
+      let room2 : IsOk two ↔ IsTrue (has_room mid.room is_gateway_v6 (r ∷ [])) =
+      subst (λ (o : List Route). IsOk two ↔ IsTrue (has_room mid.room is_gateway_v6 o)) first.2 ok2 in
+      second_v6 two r new.entries ipv4 ipv6 first.1 (room2.1 (room_of_one r mid.room (subst (λ (n : ℕ). 2 ≤ n) (sym same) fits)))
+      (subst (λ (o : List Route). OnOk two (IsAdded is_gateway_v6 (λ r. IsGateway r (replicate 16 0) (Ip.Ipv6 ipv6)) o new.entries)) first.2 added2)
 
 -- THE INTERFACE
 
 -- the routes of a host, set where there were none
-pub routed : (h h' : HostValue) (ipv4 : Ipv4Address) (ipv6 : Ipv6Address) (before after : List Route) → before ≡ h.inner.routes →
+pub routed : (h h' : HostValue) (ipv4 : Ipv4Address) (ipv6 : Ipv6Address) (before after : RoutesValue) → before ≡ routes_of h.inner →
     AddsRouters ipv4 ipv6 before after
-    → h' ≡ with_inner h (with_routes h.inner after) → h.inner.routes ≡ []
+    → h' ≡ with_inner h (with_route_table h.inner after) → h.inner.routes ≡ [] → 2 ≤ h.inner.route_room
     → (routes : List Route) × AreDefaults ipv4 ipv6 routes × (h' ≡ with_inner h (with_routes h.inner routes))
-routed h h' ipv4 ipv6 before after is adds set none = (after, adds.first (is ∙ none), set)
+routed h h' ipv4 ipv6 before after is adds set none fits =
+    let room : before.room ≡ h.inner.route_room = ap (λ (rs : RoutesValue). rs.room) is in (
+      after.entries,
+      adds.first (ap (λ (rs : RoutesValue). rs.entries) is ∙ none) (subst (λ (n : ℕ). 2 ≤ n) (sym room) fits),
+      set ∙ ap (with_inner h) (same_room h.inner after (adds.room ∙ room)),
+    )
 
-kept_by : (b : Bool) (i j : InnerValue) (routes : List Route) → i.routes ≡ routes → j.routes ≡ routes → (if b then i else j).routes ≡ routes
-kept_by true i j routes p q = p
-kept_by false i j routes p q = q
+kept_by : (b : Bool) (i j : InnerValue) (table : RoutesValue) → routes_of i ≡ table → routes_of j ≡ table → routes_of (if b then i else j) ≡ table
+kept_by true i j table p q = p
+kept_by false i j table p q = q
 
 both_known : (a b : Bool) → true ≡ not (not a || (not b || false)) → (a ≡ true) × (b ≡ true)
 both_known true true is = (refl, refl)
@@ -163,22 +177,25 @@ module _ (s : Settings) (moment : ℤ) (ipv4 ipv6 : IpCidr) (own_ipv4 : IsBlockO
   fresh_with = with_inner (new_host (config_of s) (capabilities_of s.hardware) moment)
       (with_addresses (made (config_of s) (capabilities_of s.hardware) moment) (ipv4 ∷ ipv6 ∷ []))
 
-  no_routes : fresh_with.inner.routes ≡ []
+  unused_table : routes_of fresh_with.inner ≡ no_routes table_room
   unfolding fresh_with
-  no_routes =
+  unused_table =
       let i = made (config_of s) (capabilities_of s.hardware) moment in
-      kept_by (list_any is_stranger (ipv4 ∷ ipv6 ∷ [])) i (record i { addresses = ipv4 ∷ ipv6 ∷ []; neighbors = flushed i.neighbors }) [] refl refl
+      kept_by (list_any is_stranger (ipv4 ∷ ipv6 ∷ [])) i (record i { addresses = ipv4 ∷ ipv6 ∷ []; neighbors = flushed i.neighbors })
+      (no_routes table_room) refl refl
 
   pub interface_begun : (first addressed last : HostValue) → first ≡ new_host (config_of s) (capabilities_of s.hardware) moment
       → addressed ≡ with_inner first (with_addresses first.inner (ipv4 ∷ ipv6 ∷ [])) → true ≡ not (list_any is_stranger (ipv4 ∷ ipv6 ∷ []))
-      → (addressed.inner.routes ≡ [] → (routes : List Route) × AreDefaults s.ipv4_router s.ipv6_router routes ×
+      → (addressed.inner.routes ≡ [] → 2 ≤ addressed.inner.route_room → (routes : List Route) × AreDefaults s.ipv4_router s.ipv6_router routes ×
       (last ≡ with_inner addressed (with_routes addressed.inner routes)))
       → IsInterface s moment last
   unfolding fresh_with
   interface_begun first addressed last first_is addressed_is known set =
       let whole : addressed ≡ fresh_with = addressed_is ∙ ap (λ (h : HostValue). with_inner h (with_addresses h.inner (ipv4 ∷ ipv6 ∷ []))) first_is in
-      let none : addressed.inner.routes ≡ [] = ap (λ (h : HostValue). h.inner.routes) whole ∙ no_routes in
-      let routes : List Route = (set none).0 in
+      let table : routes_of addressed.inner ≡ no_routes table_room = ap (λ (h : HostValue). routes_of h.inner) whole ∙ unused_table in
+      let room : addressed.inner.route_room ≡ 4 = ap (λ (rs : RoutesValue). rs.room) table in
+      let routed = set (ap (λ (rs : RoutesValue). rs.entries) table) (omega (arith, room)) in
+      let routes : List Route = routed.0 in
       let hosts = are_hosts known in
       record {
         ipv4 = ipv4;
@@ -188,8 +205,8 @@ module _ (s : Settings) (moment : ℤ) (ipv4 ipv6 : IpCidr) (own_ipv4 : IsBlockO
         own_ipv6 = own_ipv6;
         ipv4_is_host = hosts.0;
         ipv6_is_host = hosts.1;
-        routers = (set none).1;
-        host = (set none).2 ∙ ap (λ (h : HostValue). with_inner h (with_routes h.inner routes)) whole;
+        routers = routed.1;
+        host = routed.2 ∙ ap (λ (h : HostValue). with_inner h (with_routes h.inner routes)) whole;
       }
 
 -- STREAMS

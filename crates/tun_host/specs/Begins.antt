@@ -1,13 +1,13 @@
 -- A host that begins: its interface, its device and its sockets.
-use Rattle.std.specs.Prelude.{◌≡◌, ℕ, ◌+◌, ◌<◌, ◌&&◌, ◌||◌, ℤ, Bool, true, false, List, [], ◌∷◌, length, replicate, slice_index_or, Option, None, Some, ⊤}
+use Rattle.std.specs.Prelude.{◌≡◌, ℕ, ◌+◌, ◌<◌, ◌≤◌, ◌&&◌, ◌||◌, ℤ, Bool, true, false, List, [], ◌∷◌, length, replicate, slice_index_or, Option, None, Some, ⊤}
 use Rattle.interface.specs.Host.{HostValue}
 use Rattle.interface.specs.Made.{new_host, with_inner}
 use Rattle.interface.specs.State.{State}
 use Rattle.interface.specs.Set.{free}
 use Rattle.interface.specs.Item.{Item}
 use Rattle.interface.specs.SocketStorage.{SocketStorage}
-use Rattle.interface_tables.specs.Route.{IsGateway}
-use Rattle.interface_tables.specs.Settings.{is_station, made, with_addresses, with_routes}
+use Rattle.interface_tables.specs.Route.{RoutesValue, IsGateway}
+use Rattle.interface_tables.specs.Settings.{default_config, is_station, made, with_addresses, with_routes}
 use Rattle.interface_tables.specs.declared.config.Config.{Config}
 use Rattle.interface_tables.specs.declared.route.Route.{Route}
 use Rattle.ip_wire.specs.AddressTests.{is_unicast, is_unspecified}
@@ -60,7 +60,7 @@ capabilities_of hardware =
     record { medium = medium_of hardware; max_transmission_unit = MTU + head_len (medium_of hardware); checksum = all_checksums Both }
 
 abbrev pub config_of : Settings → Config
-config_of s = record { random_seed = s.seed; hardware_addr = s.hardware; isn_key = s.isn_key }
+config_of s = record (default_config s.hardware) { random_seed = s.seed; isn_key = s.isn_key }
 
 -- one host's address, or the unspecified one
 abbrev pub is_host_address : IpAddress → Bool
@@ -75,9 +75,10 @@ abbrev pub AreDefaults : Ipv4Address → Ipv6Address → List Route → Type 0
 AreDefaults ipv4 ipv6 routes =
     (r4 : Route) × ((r6 : Route) × (IsGateway r4 (replicate 4 0) (Ip.Ipv4 ipv4) × IsGateway r6 (replicate 16 0) (Ip.Ipv6 ipv6) × (routes ≡ r4 ∷ r6 ∷ [])))
 
--- a table without routes gets these routers
-pub record AddsRouters (ipv4 : Ipv4Address) (ipv6 : Ipv6Address) (old new : List Route) : Type 0 where
-  pub first : old ≡ [] → AreDefaults ipv4 ipv6 new
+-- a table without routes gets these routers, where there is room for both
+pub record AddsRouters (ipv4 : Ipv4Address) (ipv6 : Ipv6Address) (old new : RoutesValue) : Type 0 where
+  pub first : old.entries ≡ [] → 2 ≤ old.room → AreDefaults ipv4 ipv6 new.entries
+  pub room : new.room ≡ old.room
 
 abbrev pub begun_host : Settings → ℤ → List IpCidr → List Route → HostValue
 begun_host s moment own routes =

@@ -1,5 +1,5 @@
 //! The interface of a host that begins.
-ghost use Rattle.std.specs.Prelude.{◌≡◌, List, [], ◌∷◌, not, IfOk, IfErr};
+ghost use Rattle.std.specs.Prelude.{◌≡◌, ◌≤◌, List, [], ◌∷◌, not, IfOk, IfErr};
 ghost use Rattle.std.specs.List.{list_any};
 ghost use Rattle.net_base.specs.Time.{IsMoment};
 ghost use Rattle.interface.specs.Made.{new_host, with_inner};
@@ -52,8 +52,8 @@ fn put(addresses: &mut ArrayVec<IpCidr, TABLE_ROOM>, ipv4: IpCidr, ipv6: IpCidr)
     };
 }
 
-/// The routers of all other packets, where there was no route.
-fn add_routers(routes: &mut Routes<TABLE_ROOM>, ipv4: Ipv4Address, ipv6: Ipv6Address)
+/// The routers of all other packets, where there was no route, and room for two.
+fn add_routers(routes: &mut Routes, ipv4: Ipv4Address, ipv6: Ipv6Address)
     ensures { AddsRouters ipv4 ipv6 routes.old routes.new }
 {
     let _ = routes.add_default_ipv4_route(ipv4);
@@ -70,9 +70,9 @@ fn set_addresses(interface: &mut Interface, ipv4: IpCidr, ipv6: IpCidr) -> bool
         .is_ok()
 }
 
-/// Sets the routers, where there was no route.
+/// Sets the routers, where there was no route, and room for two.
 fn set_routers(interface: &mut Interface, ipv4: Ipv4Address, ipv6: Ipv6Address)
-    ensures { interface.old.inner.routes ≡ [] → (routes : List Route) × AreDefaults ipv4 ipv6 routes ×
+    ensures { interface.old.inner.routes ≡ [] → 2 ≤ interface.old.inner.route_room → (routes : List Route) × AreDefaults ipv4 ipv6 routes ×
         (interface.new ≡ with_inner interface.old (with_routes interface.old.inner routes)) }
 {
     interface.update_routes(|routes| add_routers(routes, ipv4, ipv6));
@@ -92,8 +92,8 @@ fn fresh(
 {
     let config = Config {
         random_seed: settings.seed,
-        hardware_addr: settings.hardware,
         isn_key: settings.isn_key,
+        ..Config::new(settings.hardware)
     };
     match Interface::new(alloc, &config, drain, now) {
         Ok(interface) => Ok(interface),

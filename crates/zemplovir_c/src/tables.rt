@@ -76,9 +76,9 @@ pub extern "C" fn zv_route_add(
 ) -> u32
     ensures { (named : Result Block Refusal) × IsBlockBy (required_in network.now) prefix named
         × (result ≡ checked_answer named (λ block. checked_answer (required_in router.now) (λ to.
-        answer_by handle.old.inside (λ host. is_done (routes_with host.host.inner.routes (route_to block to))))))
+        answer_by handle.old.inside (λ host. is_done (routes_with host.host.inner (route_to block to))))))
         × (handle.new.inside ≡ checked named (λ block. checked (required_in router.now) (λ to.
-        after_by handle.old.inside (λ host. with_table host (routes_with host.host.inner.routes (route_to block to)))) handle.old.inside) handle.old.inside) }
+        after_by handle.old.inside (λ host. with_table host (routes_with host.host.inner (route_to block to)))) handle.old.inside) handle.old.inside) }
 {
     let network = match block(network, prefix) {
         Ok(network) => network,

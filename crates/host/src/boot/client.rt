@@ -49,8 +49,7 @@ fn bare(
 {
     let config = Config {
         random_seed: seed,
-        hardware_addr: HardwareAddress::Ethernet(station),
-        isn_key: None,
+        ..Config::new(HardwareAddress::Ethernet(station))
     };
     Ok(Interface::new(alloc, &config, drain, now)?)
 }

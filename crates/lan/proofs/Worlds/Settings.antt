@@ -13,7 +13,7 @@ use Rattle.interface_tables.specs.Inner.{InnerValue}
 use Rattle.interface_tables.specs.Neighbor.{flushed}
 use Rattle.interface_tables.specs.Route.{is_gateway_v4, is_gateway_v6, IsGateway, IsAdded}
 use Rattle.interface_tables.specs.declared.route.Route.{Route}
-use Rattle.interface_tables.specs.Settings.{hardware_refusal, if_none, is_stranger, with_addresses, with_any_ip, with_routes, used}
+use Rattle.interface_tables.specs.Settings.{hardware_refusal, if_none, is_stranger, with_addresses, with_any_ip, routes_of, with_routes, used}
 use Rattle.interface_tables.specs.declared.config.HardwareAddrError.TheVariants as Set
 use Rattle.interface_egress.specs.Fragments.{LeftValue}
 use Rattle.interface.specs.Host.{HostValue}
@@ -196,7 +196,7 @@ module _ (p q : Party) (first most : ℕ) (out others : List Outgoing) (s : Stat
   set_acts (Settings.Route router) h range is =
       subst (λ (x : HostValue). HasActed p q first most out others s (record s { host = x })) (sym is.2)
       (settled_acts p q first most out others s (record s { host = with_inner s.host (with_routes s.host.inner is.0) })
-      (inner_settled s (with_routes s.host.inner is.0) refl refl (routed_sound s.host.inner is.0 router (has_route_room router s.host.inner.routes) range is.1))
+      (inner_settled s (with_routes s.host.inner is.0) refl refl (routed_sound s.host.inner is.0 router (has_route_room router (routes_of s.host.inner)) range is.1))
       sends receives few)
   set_acts (Settings.AnyIp any) h range is =
       subst (λ (x : HostValue). HasActed p q first most out others s (record s { host = x })) (sym is)

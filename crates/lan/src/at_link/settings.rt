@@ -12,7 +12,7 @@ use crate::at_link::answer::Brief;
 use crate::at_link::history::Fault;
 use crate::at_link::host::Host;
 use arrayvec::ArrayVec;
-use interface::{HardwareAddrError, Interface, RouteTableFull, Routes, TABLE_ROOM};
+use interface::{HardwareAddrError, Interface, RouteTableFull, Routes};
 use ip_wire::{EthernetAddress, HardwareAddress, IpAddress, IpCidr, Ipv4Address, Ipv6Address};
 use net_base::{Duration, Instant};
 
@@ -69,16 +69,18 @@ fn set_route_v4(interface: &mut Interface, router: Ipv4Address) -> Brief
 }
 
 #[tactic(auto, using(crate::proofs::Worlds::AtLink::Routing::routed_same))]
-fn add_v4(routes: &mut Routes<TABLE_ROOM>, router: Ipv4Address) -> bool
+fn add_v4(routes: &mut Routes, router: Ipv4Address) -> bool
     ensures room { result ≡ has_route_room (address.Ipv4 router) routes.old }
-    ensures added { RoutedIf (has_route_room (address.Ipv4 router) routes.old) (address.Ipv4 router) routes.old routes.new }
+    ensures added { RoutedIf (has_route_room (address.Ipv4 router) routes.old) (address.Ipv4 router) routes.old.entries routes.new.entries }
+    ensures table { routes.new.room ≡ routes.old.room }
 {
     is_added_v4(routes, router)
 }
 
-fn is_added_v4(routes: &mut Routes<TABLE_ROOM>, router: Ipv4Address) -> bool
+fn is_added_v4(routes: &mut Routes, router: Ipv4Address) -> bool
     ensures room { result ≡ has_route_room (address.Ipv4 router) routes.old }
-    ensures added { RoutedIf result (address.Ipv4 router) routes.old routes.new }
+    ensures added { RoutedIf result (address.Ipv4 router) routes.old.entries routes.new.entries }
+    ensures table { routes.new.room ≡ routes.old.room }
 {
     match routes.add_default_ipv4_route(router) {
         Ok(_) => true,
@@ -95,16 +97,18 @@ fn set_route_v6(interface: &mut Interface, router: Ipv6Address) -> Brief
 }
 
 #[tactic(auto, using(crate::proofs::Worlds::AtLink::Routing::routed_same))]
-fn add_v6(routes: &mut Routes<TABLE_ROOM>, router: Ipv6Address) -> bool
+fn add_v6(routes: &mut Routes, router: Ipv6Address) -> bool
     ensures room { result ≡ has_route_room (address.Ipv6 router) routes.old }
-    ensures added { RoutedIf (has_route_room (address.Ipv6 router) routes.old) (address.Ipv6 router) routes.old routes.new }
+    ensures added { RoutedIf (has_route_room (address.Ipv6 router) routes.old) (address.Ipv6 router) routes.old.entries routes.new.entries }
+    ensures table { routes.new.room ≡ routes.old.room }
 {
     is_added_v6(routes, router)
 }
 
-fn is_added_v6(routes: &mut Routes<TABLE_ROOM>, router: Ipv6Address) -> bool
+fn is_added_v6(routes: &mut Routes, router: Ipv6Address) -> bool
     ensures room { result ≡ has_route_room (address.Ipv6 router) routes.old }
-    ensures added { RoutedIf result (address.Ipv6 router) routes.old routes.new }
+    ensures added { RoutedIf result (address.Ipv6 router) routes.old.entries routes.new.entries }
+    ensures table { routes.new.room ≡ routes.old.room }
 {
     match routes.add_default_ipv6_route(router) {
         Ok(_) => true,

@@ -23,7 +23,7 @@ use Rattle.interface_ingress.specs.Reassembled.{is_heard}
 use Rattle.interface_ingress.specs.Sent.{AreSealed}
 use Rattle.interface_ingress.proofs.OneContent.{one-content}
 use Rattle.interface_tables.specs.Best.{at_place}
-use Rattle.interface_tables.specs.Inner.{InnerValue, at_moment, table_room, is_own, next_hop, link_by, link_of_hop, link_on, link_address}
+use Rattle.interface_tables.specs.Inner.{InnerValue, at_moment, is_own, next_hop, link_by, link_of_hop, link_on, link_address}
 use Rattle.interface_tables.specs.Inner.{all_stations, group_station, with_neighbor}
 use Rattle.interface_tables.specs.Neighbor.{CacheValue, lookup, missing, answer_by, place_of, is_of, unless_failed, has_failed, filled, filled_at, victim}
 use Rattle.interface_tables.specs.Neighbor.{entry_lifetime}
@@ -45,13 +45,13 @@ use Rattle.stack_laws.specs.Progress.Asked.{IsNext, IsNeighbor, IsVia, arp_reply
 
 -- WHO WAS HEARD IS KNOWN
 
-module _ (entries : List Neighbor) (new : Neighbor) where
+module _ (room : ℕ) (entries : List Neighbor) (new : Neighbor) where
   abbrev ours : Neighbor → Bool
   ours = is_of new.protocol_addr
 
-  entered : (o : Option ℕ) → position ours entries ≡ o → find ours (filled_at o table_room entries new) ≡ Some new
+  entered : (o : Option ℕ) → position ours entries ≡ o → find ours (filled_at o room entries new) ≡ Some new
   entered (Some at) is = is_found ours entries at new is (itself new.protocol_addr)
-  entered None is = by (nat_lt (length entries) table_room) where
+  entered None is = by (nat_lt (length entries) room) where
     none : find ours entries ≡ None
     none = none_found ours entries is
 
@@ -59,19 +59,19 @@ module _ (entries : List Neighbor) (new : Neighbor) where
     by true = find_last ours entries new none (itself new.protocol_addr)
     by false = find_last ours (remove entries (victim entries)) new (none_removed ours entries (victim entries) none) (itself new.protocol_addr)
 
-  entry : at_place (place_of (filled_at (place_of entries new.protocol_addr) table_room entries new) new.protocol_addr)
-      (filled_at (place_of entries new.protocol_addr) table_room entries new) ≡ Some new
+  entry : at_place (place_of (filled_at (place_of entries new.protocol_addr) room entries new) new.protocol_addr)
+      (filled_at (place_of entries new.protocol_addr) room entries new) ≡ Some new
   entry =
-      at_first ours (filled_at (place_of entries new.protocol_addr) table_room entries new)
+      at_first ours (filled_at (place_of entries new.protocol_addr) room entries new)
       ∙ entered (place_of entries new.protocol_addr) refl
 
 pub known_now : (c : CacheValue) (new : Neighbor) (moment : ℤ) → int_lt moment new.expires_at ≡ true
-    → lookup (filled table_room c new) new.protocol_addr moment ≡ Known.Found new.hardware_addr
+    → lookup (filled c new) new.protocol_addr moment ≡ Known.Found new.hardware_addr
 known_now c new moment early =
-    ap (λ (o : Option Neighbor). unless_failed (has_failed (filled table_room c new) new.protocol_addr moment) (answer_by o (filled table_room c new) moment))
-    (entry c.entries new)
-    ∙ ap (λ (b : Bool). unless_failed (has_failed (filled table_room c new) new.protocol_addr moment)
-    (if b then Known.Found new.hardware_addr else missing (filled table_room c new) moment)) early
+    ap (λ (o : Option Neighbor). unless_failed (has_failed (filled c new) new.protocol_addr moment) (answer_by o (filled c new) moment))
+    (entry c.room c.entries new)
+    ∙ ap (λ (b : Bool). unless_failed (has_failed (filled c new) new.protocol_addr moment)
+    (if b then Known.Found new.hardware_addr else missing (filled c new) moment)) early
 
 pub lives : (t : ℤ) (n : ℕ) → 0 < n → int_lt t (t +ℤ pos n) ≡ true
 lives t n some = grind (arith, ints)

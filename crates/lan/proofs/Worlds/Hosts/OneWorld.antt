@@ -6,7 +6,7 @@ use Rattle.interface_egress.specs.declared.socket_set.Item.{Item}
 use Rattle.interface_egress.specs.declared.socket_set.SocketStorage.{SocketStorage}
 use Rattle.interface.specs.Made.{with_inner}
 use Rattle.interface_tables.specs.Inner.{context_of}
-use Rattle.interface_tables.specs.Settings.{with_routes}
+use Rattle.interface_tables.specs.Settings.{routes_of, with_routes}
 use Rattle.interface_tables.specs.declared.route.Route.{Route}
 use Rattle.interface.proofs.OneEnd.{OneOffer}
 use Rattle.lan.specs.Worlds.AtLink.Call.{SocketCall}
@@ -58,7 +58,7 @@ setting_once : (h one other : HostValue) (setting : Setting) → SetsTo h settin
 setting_once h one other (Set.HardwareAddr address) first second = first ∙ sym second
 setting_once h one other (Set.Addrs blocks) first second = first ∙ sym second
 setting_once h one other (Set.Route router) first second =
-    let routes = routed_once (has_route_room router h.inner.routes) router h.inner.routes first.0 second.0 first.1 second.1 in
+    let routes = routed_once (has_route_room router (routes_of h.inner)) router h.inner.routes first.0 second.0 first.1 second.1 in
     first.2 ∙ ap (λ (rs : List Route). with_inner h (with_routes h.inner rs)) routes ∙ sym second.2
 setting_once h one other (Set.AnyIp any) first second = first ∙ sym second
 setting_once h one other (Set.ReassemblyTimeout timeout) first second = first ∙ sym second

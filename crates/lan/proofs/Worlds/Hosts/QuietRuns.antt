@@ -17,7 +17,7 @@ use Rattle.interface_egress.specs.declared.socket_set.SocketStorage.{SocketStora
 use Rattle.interface_tables.specs.Inner.{InnerValue, at_moment, context_of, drawn}
 use Rattle.interface_tables.specs.Neighbor.{flushed}
 use Rattle.interface_tables.specs.Route.{is_gateway_v4, is_gateway_v6, IsGateway, IsAdded, without}
-use Rattle.interface_tables.specs.Settings.{hardware_refusal, if_none, is_stranger}
+use Rattle.interface_tables.specs.Settings.{hardware_refusal, if_none, is_stranger, routes_of}
 use Rattle.interface_tables.specs.declared.config.HardwareAddrError.{HardwareAddrError}
 use Rattle.interface_tables.specs.declared.route.Route.{Route}
 use Rattle.lan.specs.Worlds.AtLink.Call.{SocketCall}
@@ -112,7 +112,7 @@ setting_routes h h' (Set.Addrs blocks) answer kept is said are =
 setting_routes h h' (Set.Route router) answer kept is said are =
     let new : h'.inner.routes ≡ is.0 = ap (λ (x : HostValue). x.inner.routes) is.2 in
     subst (RoutesAre (routes_by (Set.Route router) answer kept)) (sym new)
-    (routed (has_route_room router h.inner.routes) router answer kept h.inner.routes is.0 said is.1 are)
+    (routed (has_route_room router (routes_of h.inner)) router answer kept h.inner.routes is.0 said is.1 are)
 setting_routes h h' (Set.AnyIp any) answer kept is said are = same_routes kept h.inner.routes h'.inner.routes (ap (λ (x : HostValue). x.inner.routes) is) are
 setting_routes h h' (Set.ReassemblyTimeout timeout) answer kept is said are =
     same_routes kept h.inner.routes h'.inner.routes (ap (λ (x : HostValue). x.inner.routes) is) are

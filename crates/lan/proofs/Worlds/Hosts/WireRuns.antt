@@ -11,7 +11,7 @@ use Rattle.interface_ingress.specs.HardwareAddress.{HardwareAddress}
 use Rattle.interface_ingress.specs.HardwareAddress.TheVariants as Hardware
 use Rattle.interface.specs.IpRepr.{IpRepr}
 use Rattle.interface_tables.specs.Inner.{context_of}
-use Rattle.interface_tables.specs.Settings.{hardware_refusal, if_none, is_stranger}
+use Rattle.interface_tables.specs.Settings.{hardware_refusal, if_none, is_stranger, routes_of}
 use Rattle.interface_tables.specs.Neighbor.{flushed}
 use Rattle.interface_tables.specs.declared.config.HardwareAddrError.TheVariants as Refusals
 use Rattle.interface_egress.specs.Fragments.{LeftValue}
@@ -102,7 +102,7 @@ set_so : (h h' : HostValue) (setting : Setting) → HasRange setting → SetsTo 
 set_so h h' (Settings.HardwareAddr address) range is = subst (IsSetSo h) (sym is) (hardware_by h h.inner.hardware address refl range.0)
 set_so h h' (Settings.Addrs blocks) range is = subst (IsSetSo h) (sym is) (addresses_by (list_any is_stranger blocks) h blocks)
 set_so h h' (Settings.Route router) range is = subst (IsSetSo h) (sym is.2) (record {
-  sound = routed_sound h.inner is.0 router (has_route_room router h.inner.routes) range is.1;
+  sound = routed_sound h.inner is.0 router (has_route_room router (routes_of h.inner)) range is.1;
   own = λ was. was;
   left = refl;
 })

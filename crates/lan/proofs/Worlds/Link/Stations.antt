@@ -22,7 +22,7 @@ use Rattle.interface_ingress.specs.ArpRepr.TheVariants as ArpIs
 use Rattle.interface_ingress.specs.EthernetRepr.{EthernetRepr}
 use Rattle.sockets.specs.Packet.{PayloadValue, ControlV4, ControlV6, Bytes, Datagram, Segment}
 use Rattle.interface_tables.specs.Best.{at_place}
-use Rattle.interface_tables.specs.Inner.{InnerValue, context_of, with_neighbor, table_room, is_for_us}
+use Rattle.interface_tables.specs.Inner.{InnerValue, context_of, with_neighbor, is_for_us}
 use Rattle.interface_tables.specs.Neighbor.{entry_lifetime, renewed_entry, renewed_at, filled_at, place_of, victim}
 use Rattle.interface_tables.specs.declared.neighbor.Neighbor.{Neighbor}
 use Rattle.interface_egress.specs.Fragments.{LeftValue}
@@ -92,7 +92,7 @@ renewed_all (Some at) (Some entry) entries hardware moment is all =
 
 near_neighbor : (i : InnerValue) (address : IpAddress) (station : EthernetAddress) → AreNear i → AreNear (with_neighbor i address (Hardware.Ethernet station))
 near_neighbor i address station near =
-    filled_near (place_of i.neighbors.entries address) table_room i.neighbors.entries
+    filled_near (place_of i.neighbors.entries address) i.neighbors.room i.neighbors.entries
     (record { protocol_addr = address; hardware_addr = Hardware.Ethernet station; expires_at = i.moment +ℤ pos entry_lifetime }) near tt
 
 near_renewed_by : (i : InnerValue) (link : Option EthernetRepr) (sender : IpAddress) → AreNear i → AreNear (renewed_by i link sender)

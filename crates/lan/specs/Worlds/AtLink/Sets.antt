@@ -8,8 +8,8 @@ use Rattle.interface.specs.Made.{with_inner, with_timeout}
 use Rattle.interface.specs.Host.{HostValue, host_at}
 use Rattle.interface.specs.Instant.{poll_instant}
 use Rattle.interface_egress.specs.Inner.{at_moment}
-use Rattle.interface_ingress.specs.Route.{is_gateway_v4, is_gateway_v6, IsGateway, IsAdded, has_room}
-use Rattle.interface.specs.Settings.{hardware_refusal, with_hardware, is_stranger, with_addresses, with_any_ip, with_routes}
+use Rattle.interface_ingress.specs.Route.{RoutesValue, is_gateway_v4, is_gateway_v6, IsGateway, IsAdded, has_room}
+use Rattle.interface.specs.Settings.{hardware_refusal, with_hardware, is_stranger, with_addresses, with_any_ip, routes_of, with_routes}
 use Rattle.interface.specs.HardwareAddrError.{HardwareAddrError}
 use Rattle.interface.specs.HardwareAddrError.TheVariants as Set
 use Rattle.interface.specs.Route.{Route}
@@ -21,10 +21,6 @@ use Rattle.lan.specs.declared.at_link.history.answer.Fault.{Fault}
 use Rattle.lan.specs.declared.at_link.history.answer.Fault.TheVariants as For
 use Rattle.lan.specs.Worlds.AtLink.Station.{StationValue}
 
--- how many routes a host has at most
-abbrev pub route_room : ℕ
-route_room = 4
-
 abbrev pub hardware_fault : HardwareAddrError → Fault
 hardware_fault Set.Medium = For.Medium
 hardware_fault Set.NotUnicast = For.NotUnicast
@@ -34,14 +30,14 @@ hardware_answer None = To.Done
 hardware_answer (Some e) = To.Error (hardware_fault e)
 
 -- a default route takes the place of that of its family, and else that of none, where there is room
-abbrev pub has_route_room : IpAddress → List Route → Bool
-has_route_room (Address.Ipv4 router) routes = has_room route_room is_gateway_v4 routes
-has_route_room (Address.Ipv6 router) routes = has_room route_room is_gateway_v6 routes
+abbrev pub has_route_room : IpAddress → RoutesValue → Bool
+has_route_room (Address.Ipv4 router) table = has_room table.room is_gateway_v4 table.entries
+has_route_room (Address.Ipv6 router) table = has_room table.room is_gateway_v6 table.entries
 
 abbrev pub setting_answer : HostValue → Setting → Answer
 setting_answer h (Sets.HardwareAddr address) = hardware_answer (hardware_refusal h.inner.hardware (Hardware.Ethernet address))
 setting_answer h (Sets.Addrs blocks) = if list_any is_stranger blocks then To.Error For.NotUnicast else To.Done
-setting_answer h (Sets.Route router) = if has_route_room router h.inner.routes then To.Done else To.Error For.RouteTableFull
+setting_answer h (Sets.Route router) = if has_route_room router (routes_of h.inner) then To.Done else To.Error For.RouteTableFull
 setting_answer h (Sets.AnyIp any) = To.Done
 setting_answer h (Sets.ReassemblyTimeout timeout) = To.Done
 
@@ -58,7 +54,7 @@ abbrev pub SetsTo : HostValue → Setting → HostValue → Type 0
 SetsTo h (Sets.HardwareAddr address) h' = h' ≡ with_inner h (with_hardware h.inner (Hardware.Ethernet address))
 SetsTo h (Sets.Addrs blocks) h' = h' ≡ with_inner h (with_addresses h.inner blocks)
 SetsTo h (Sets.Route router) h' =
-    (routes : List Route) × RoutedIf (has_route_room router h.inner.routes) router h.inner.routes routes
+    (routes : List Route) × RoutedIf (has_route_room router (routes_of h.inner)) router h.inner.routes routes
     × (h' ≡ with_inner h (with_routes h.inner routes))
 SetsTo h (Sets.AnyIp any) h' = h' ≡ with_inner h (with_any_ip h.inner any)
 SetsTo h (Sets.ReassemblyTimeout timeout) h' = h' ≡ with_timeout h timeout

@@ -1,4 +1,5 @@
 use Rattle.std.proofs.Common.{◌≡◌, pos, [], None, true, false, length, refl}
+use Rattle.std.specs.Prelude.{max}
 use Rattle.interface.specs.Host.{HostValue}
 use Rattle.stack_laws.proofs.Begins.{made-has, refused-short, refused-long}
 use Rattle.stack_laws.proofs.interface_host.begins.Goals as goal
@@ -14,8 +15,9 @@ returns g c =
       addresses = made-has config device moment result (λ (h : HostValue). h.inner.addresses ≡ []) made refl;
       any_ip = made-has config device moment result (λ (h : HostValue). h.inner.any_ip ≡ false) made refl;
       routes = made-has config device moment result (λ (h : HostValue). h.inner.routes ≡ []) made refl;
+      route_room = made-has config device moment result (λ (h : HostValue). h.inner.route_room ≡ config.max_route_count) made refl;
       neighbors = made-has config device moment result (λ (h : HostValue). h.inner.neighbors ≡
-          record { entries = []; silent = pos 0; searches = [] }) made refl;
+          record { entries = []; room = max config.neighbor_cache_count 1; silent = pos 0; searches = [] }) made refl;
       fresh = made-has config device moment result (λ (h : HostValue). h.inner.fresh ≡ true) made refl;
       left = made-has config device moment result (λ (h : HostValue). h.left ≡ None) made refl;
       slots = made-has config device moment result (λ (h : HostValue). length h.slots ≡ 2) made refl;

@@ -36,8 +36,8 @@ enum Step {
 
 use Step::{Fills, Finds, Misses, Renews};
 
-impl Goes<Cache<4>> for Step {
-    fn goes(&self, _alloc: Global, cache: &mut Cache<4>) -> bool {
+impl Goes<Cache> for Step {
+    fn goes(&self, _alloc: Global, cache: &mut Cache) -> bool {
         match self {
             Fills(last, until, hardware) => {
                 cache.fill_with_expiration(host(*last), *hardware, at(*until));
@@ -60,8 +60,10 @@ struct Cached(&'static [Step]);
 
 impl Life for Cached {
     fn stops_at(&self, alloc: Global) -> Option<usize> {
-        let mut cache: Cache<4> = Cache::new();
-        first_wrong(alloc, &mut cache, self.0)
+        match Cache::new(alloc, 4) {
+            Ok(mut cache) => first_wrong(alloc, &mut cache, self.0),
+            Err(_) => Some(0),
+        }
     }
 }
 
@@ -85,7 +87,7 @@ fn renews(rt: HostRuntime) {
 
 #[test]
 fn times_are_a_second_and_a_minute(rt: HostRuntime) {
-    let (silent, lifetime) = (Cache::<4>::SILENT_TIME, Cache::<4>::ENTRY_LIFETIME);
+    let (silent, lifetime) = (Cache::silent_time(), Cache::entry_lifetime());
     all(
         &rt,
         &[

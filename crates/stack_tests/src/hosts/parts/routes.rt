@@ -29,8 +29,8 @@ enum Step {
 
 use Step::{Adds4, Adds6, Leads4, Leads6, Removes6};
 
-impl Goes<Routes<2>> for Step {
-    fn goes(&self, _alloc: Global, routes: &mut Routes<2>) -> bool {
+impl Goes<Routes> for Step {
+    fn goes(&self, _alloc: Global, routes: &mut Routes) -> bool {
         match self {
             Adds4(address) => {
                 let _ = routes.add_default_ipv4_route(*address);
@@ -55,8 +55,10 @@ struct Table(&'static [Step]);
 
 impl Life for Table {
     fn stops_at(&self, alloc: Global) -> Option<usize> {
-        let mut routes: Routes<2> = Routes::new();
-        first_wrong(alloc, &mut routes, self.0)
+        match Routes::new(alloc, 2) {
+            Ok(mut routes) => first_wrong(alloc, &mut routes, self.0),
+            Err(_) => Some(0),
+        }
     }
 }
 

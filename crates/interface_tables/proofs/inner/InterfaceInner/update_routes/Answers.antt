@@ -1,7 +1,7 @@
 use Rattle.std.proofs.Common.{rules, ap}
 use Rattle.std.specs.Fn.{FnOnceReturnsAtMut}
 use Rattle.interface_tables.specs.Inner.{InnerValue}
-use Rattle.interface_tables.specs.Settings.{with_routes}
+use Rattle.interface_tables.specs.Settings.{routes_of, with_route_table}
 use Rattle.interface_tables.proofs.inner.InterfaceInner.update_routes.Goals as goal
 
 pub returns : goal.returns
@@ -9,7 +9,7 @@ returns g c =
     let called : FnOnceReturnsAtMut g.F.FnOnce c.args.f c.self.inside.routes c.f.result c.f.new.arg2 = search rules in (
       c.self.inside.routes,
       c.f.new.arg2,
-      ap (λ (i : InnerValue). i.routes) c.self.view_is,
+      ap routes_of c.self.view_is,
       called,
-      ap (λ (i : InnerValue). with_routes i c.f.new.arg2) c.self.view_is,
+      ap (λ (i : InnerValue). with_route_table i c.f.new.arg2) c.self.view_is,
     )

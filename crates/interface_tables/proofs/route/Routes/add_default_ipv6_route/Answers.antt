@@ -1,12 +1,12 @@
 use Rattle.std.proofs.Common.{◌≡◌, ◌∙◌, ap}
 use Rattle.std.specs.Prelude.{position}
 use Rattle.std.proofs.lemmas.Result.{on_ok_weaker}
-use Rattle.interface_tables.specs.Route.{is_gateway_v6}
+use Rattle.interface_tables.specs.Route.{RoutesValue, is_gateway_v6}
 use Rattle.interface_tables.proofs.route.Routes.add_default_ipv6_route.Goals as goal
 
 pub returns-clause-added : goal.returns-clause-added
-returns-clause-added g c =
-    let items = c.as_slice.ensures.value ∙ c.self.view_is in
-    let place : c.place_of_ipv6_gateway-place.result ≡ position is_gateway_v6 c.args.self.now = c.place_of_ipv6_gateway-place.ensures.place ∙
+returns-clause-added c =
+    let items = c.as_slice.ensures.value ∙ ap (λ (rs : RoutesValue). rs.entries) c.self.view_is in
+    let place : c.place_of_ipv6_gateway-place.result ≡ position is_gateway_v6 c.args.self.now.entries = c.place_of_ipv6_gateway-place.ensures.place ∙
     ap (position is_gateway_v6) items in
-    on_ok_weaker c.exchange.result (λ added. (c.new_ipv6_gateway.result, c.new_ipv6_gateway.ensures, rw place at added)) c.exchange.ensures.added
+    on_ok_weaker c.exchange.result (λ added. let entries = ap (λ (rs : RoutesValue). rs.entries) added in (c.new_ipv6_gateway.result, c.new_ipv6_gateway.ensures, rw place at entries)) c.exchange.ensures.added
