@@ -18,5 +18,6 @@ mod memory;
 mod pieces;
 mod port;
 mod settings;
+mod settling;
 mod steps;
 mod texts;

@@ -36,13 +36,13 @@ fn described(wrong: &str) -> DeviceCapabilities {
 
 /// The settings of host n.
 fn config(n: u8, medium: Medium) -> Config {
+    let hardware_addr = match medium {
+        Medium::Ethernet => HardwareAddress::Ethernet(EthernetAddress([2, 0, 0, 0, 0, n])),
+        Medium::Ip => HardwareAddress::Ip,
+    };
     Config {
         random_seed: u64::from(n),
-        hardware_addr: match medium {
-            Medium::Ethernet => HardwareAddress::Ethernet(EthernetAddress([2, 0, 0, 0, 0, n])),
-            Medium::Ip => HardwareAddress::Ip,
-        },
-        isn_key: None,
+        ..Config::new(hardware_addr)
     }
 }
 

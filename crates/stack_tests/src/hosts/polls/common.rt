@@ -70,8 +70,7 @@ fn hardware(plan: &Plan) -> HardwareAddress {
 fn bare<D: Device>(alloc: Global, plan: &Plan, device: &D) -> Option<Interface> {
     let config = Config {
         random_seed: u64::from(plan.number),
-        hardware_addr: hardware(plan),
-        isn_key: None,
+        ..Config::new(hardware(plan))
     };
     Interface::new(alloc, &config, device, at(0)).ok()
 }
