@@ -1,4 +1,4 @@
-use Rattle.std.proofs.Common.{◌≡◌, ◌≤◌, ◌∙◌, length, arith}
+use Rattle.std.proofs.Common.{◌≤◌, ◌∙◌, length, arith}
 use Rattle.interface_tables.proofs.Places.{as_long, one_more_key}
 use Rattle.interface_tables.proofs.indexed.index_from.Goals as goal
 
