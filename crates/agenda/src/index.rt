@@ -68,6 +68,7 @@ impl Index {
     pub fn note(&mut self, at: usize, key: u64) -> bool
         ensures value { self.new ≡ (if result then put at key self.old else self.old) }
         ensures is_place { result ≡ true → at ≤ length self.old }
+        ensures within { at < length self.old → result ≡ true }
     {
         if at < self.keys.len() {
             if self.keys[at] != key {

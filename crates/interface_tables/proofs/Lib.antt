@@ -4,6 +4,7 @@ pub mod Changed
 pub mod ErrorLimit
 pub mod Orders
 pub mod PathMtu
+pub mod Places
 pub mod Rebuilt
 pub mod Renewed
 pub mod RouteTable

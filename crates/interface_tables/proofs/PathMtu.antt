@@ -224,7 +224,7 @@ never_up paths address told now later whole since early = by (is_news paths addr
 
 -- OTHERS
 
-same_address : (a b : IpAddress) → is_same_address a b ≡ true → a ≡ b
+pub same_address : (a b : IpAddress) → is_same_address a b ≡ true → a ≡ b
 same_address (Address.Ipv4 a) (Address.Ipv4 b) is = ap (λ (bs : List ℕ). Address.Ipv4 (record { 0 = bs })) ((bytes_eq-Decides a.0 b.0).0 is)
 same_address (Address.Ipv6 a) (Address.Ipv6 b) is = ap (λ (bs : List ℕ). Address.Ipv6 (record { 0 = bs })) ((bytes_eq-Decides a.0 b.0).0 is)
 same_address (Address.Ipv4 a) (Address.Ipv6 b) is = absurd (let no = is in cc)

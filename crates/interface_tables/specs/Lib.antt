@@ -1,5 +1,6 @@
 pub mod Best
 pub mod ErrorLimit
+pub mod Indexed
 pub mod Inner
 pub mod Looks
 pub mod Neighbor

@@ -6,6 +6,7 @@ mod config;
 pub mod error_laws;
 mod error_limit;
 mod fragmentation;
+mod indexed;
 mod inner;
 mod key;
 pub mod laws;

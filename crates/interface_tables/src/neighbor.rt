@@ -1,12 +1,14 @@
 //! Which hardware address each neighbour has (RFC 826; RFC 4861, section 5.1).
-ghost use Rattle.std.specs.Prelude.{◌≡◌, ◌≤◌, ◌<◌, ◌+◌, if◌then◌else◌, [], pos, ◌+ℤ◌, length, nat_lt, not, slice_get, Some, IfOk};
+ghost use Rattle.std.specs.Prelude.{◌≡◌, ◌≤◌, ◌<◌, ◌+◌, if◌then◌else◌, [], pos, ◌+ℤ◌, length, nat_lt, not, slice_get, Some, None, IfOk};
 ghost use Rattle.std.specs.Option.{ForSome};
 ghost use Rattle.net_base.specs.Time.{IsMoment};
 ghost use Rattle.ip_wire.specs.AddressTests.{is_same_hardware};
-ghost use Rattle.interface_tables.specs.Neighbor.{fresh, lookup, filled, renewed, renewed_entry, silenced, requested, searched_at, one_more, first_search};
+ghost use Rattle.interface_tables.specs.Neighbor.{fresh, lookup, filled, filled_at, renewed, renewed_entry, silenced, requested, searched_at, one_more, first_search};
 ghost use Rattle.interface_tables.specs.Neighbor.{count_after, search_place, search_of, oldest_search, ended, is_failed, has_failed_by, has_failed};
-ghost use Rattle.interface_tables.specs.Neighbor.{last_request, flushed, is_found, place_of, victim, search_room, entry_lifetime, silent_time, cache_room};
+ghost use Rattle.interface_tables.specs.Neighbor.{last_request, flushed, is_found, victim, search_room, entry_lifetime, silent_time, cache_room};
 
+use crate::indexed::{index_for, index_from, place_in};
+use agenda::Index;
 use arrayvec::ArrayVec;
 use ip_wire::{HardwareAddress, IpAddress, Ipv4Address};
 use net_base::{Duration, Instant};
@@ -152,23 +154,26 @@ impl Answer {
 }
 
 /// The hardware addresses of a number of neighbours, those that are asked for, and when the next may be. Its memory is taken when it is
-/// made.
+/// made. A neighbour is found by a key of its address, without a look at the others.
 #[derive(Debug, Drop)]
 pub struct Cache {
     storage: Vec<Neighbor>,
+    places: Index,
     silent_until: Instant,
     searches: ArrayVec<Search, SEARCH_ROOM>,
 }
 
 impl Model for Cache {
-    ghost use Rattle.std.specs.Prelude.{◌≤◌, vec_len, vec_capacity};
+    ghost use Rattle.std.specs.Prelude.{◌≤◌, length, vec_len, vec_capacity};
+    ghost use Rattle.interface_tables.specs.Indexed.{AreIndexed};
     ghost use Rattle.interface_tables.specs.Neighbor.{CacheValue};
 
     ghost Value = { CacheValue };
 
     ghost view = { λ c. record { entries = c.storage.items; room = vec_capacity c.storage; silent = c.silent_until; searches = c.searches.items } };
 
-    ghost invariant = { λ c. (1 ≤ vec_capacity c.storage) × (vec_len c.storage ≤ vec_capacity c.storage) };
+    ghost invariant = { λ c. (1 ≤ vec_capacity c.storage) × (vec_len c.storage ≤ vec_capacity c.storage)
+        × (vec_capacity c.storage ≤ length c.places) × AreIndexed c.storage.items c.places };
 }
 
 impl Cache {
@@ -190,9 +195,12 @@ impl Cache {
     pub fn new(alloc: Global, count: usize) -> Result<Cache, AllocError>
         ensures { IfOk result (λ c. c ≡ fresh (cache_room count)) }
     {
-        let storage = Vec::with_capacity(alloc, count.max(1))?;
+        let room = count.max(1);
+        let storage = Vec::with_capacity(alloc, room)?;
+        let places = index_for(alloc, room)?;
         Ok(Cache {
             storage,
+            places,
             silent_until: Instant::ZERO,
             searches: ArrayVec::new(),
         })
@@ -202,7 +210,7 @@ impl Cache {
     pub fn lookup(&self, protocol_addr: &IpAddress, timestamp: Instant) -> Answer
         ensures { result ≡ lookup self.now protocol_addr.now timestamp }
     {
-        if let Some(at) = place_of(self.storage.as_slice(), protocol_addr) {
+        if let Some(at) = place_in(self.storage.as_slice(), &self.places, protocol_addr) {
             let neighbor = self.storage[at];
             if timestamp < neighbor.expires_at {
                 return Answer::Found(neighbor.hardware_addr);
@@ -289,15 +297,27 @@ impl Cache {
             expires_at,
         };
         self.end_search(&protocol_addr);
-        if let Some(at) = place_of(self.storage.as_slice(), &protocol_addr) {
-            self.storage[at] = neighbor;
-            return;
+        match place_in(self.storage.as_slice(), &self.places, &protocol_addr) {
+            Some(at) => self.storage[at] = neighbor,
+            None => self.add(neighbor),
         }
-        if self.storage.capacity() <= self.storage.len() {
+    }
+
+    /// Enters a neighbour behind the others. In a full cache one makes room.
+    #[tactic(auto, using(crate::proofs::Places::before_last, crate::proofs::Places::before_removed))]
+    fn add(&mut self, neighbor: Neighbor)
+        ensures { self.new ≡ record self.old { entries = filled_at None self.old.room self.old.entries neighbor } }
+    {
+        if self.storage.len() < self.storage.capacity() {
+            let last = self.storage.len();
+            self.storage.push_reserved(neighbor);
+            index_from(self.storage.as_slice(), &mut self.places, last);
+        } else {
             let at = victim(self.storage.as_slice());
             self.storage.remove(at);
+            self.storage.push_reserved(neighbor);
+            index_from(self.storage.as_slice(), &mut self.places, at);
         }
-        self.storage.push_reserved(neighbor);
     }
 
     /// Believes an entry for `entry_lifetime` from this moment on, where it has this hardware address.
@@ -310,7 +330,7 @@ impl Cache {
         requires { IsMoment timestamp }
         ensures { self.new ≡ renewed self.old protocol_addr source_hardware_addr timestamp }
     {
-        if let Some(at) = place_of(self.storage.as_slice(), &protocol_addr) {
+        if let Some(at) = place_in(self.storage.as_slice(), &self.places, &protocol_addr) {
             let entry = entry_at(self.storage.as_slice(), at);
             let known = is_same_hardware(&entry.hardware_addr, &source_hardware_addr);
             self.end_search_if(known, &protocol_addr);
@@ -377,16 +397,6 @@ fn entry_at(entries: &[Neighbor], at: usize) -> Neighbor
     ensures { slice_get entries.now at ≡ Some result }
 {
     entries[at]
-}
-
-/// Where the entry of this address stands.
-fn place_of(entries: &[Neighbor], address: &IpAddress) -> Option<usize>
-    ensures place { result ≡ place_of entries.now address.now }
-    ensures in_range { ForSome result (λ at. at < length entries.now) }
-{
-    entries
-        .iter()
-        .position(|entry| is_same_address(&entry.protocol_addr, address))
 }
 
 fn search_at(searches: &[Search], at: usize) -> Search
