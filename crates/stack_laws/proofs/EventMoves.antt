@@ -7,7 +7,11 @@ use Rattle.std.proofs.lemmas.Int.{ints}
 use Rattle.net_base.specs.Time.{IsMoment}
 use Rattle.ip_wire.specs.Block.{block_address}
 use Rattle.interface_ingress.specs.AddressTests.{is_loopback}
+use Rattle.ip_wire.specs.HardwareAddress.TheVariants as Hardware
+use Rattle.lan_base.specs.DeviceCapabilities.{DeviceCapabilities}
+use Rattle.lan_base.specs.Medium.TheVariants as Medium
 use Rattle.interface_tables.specs.Inner.{InnerValue}
+use Rattle.interface_tables.specs.Settings.{is_mtu}
 use Rattle.sockets.specs.Context.{ContextValue}
 use Rattle.tcp_model.specs.Value.{TcpValue}
 use Rattle.tcp_tie.specs.Pair.Values.{context_on}
@@ -22,7 +26,7 @@ use Rattle.lan.specs.Worlds.AtLink.Kinds.Kind.{OfHost, OfLink}
 use Rattle.lan.specs.Worlds.AtLink.Kinds.LinkAct.{Cuts, Hands}
 use Rattle.lan.specs.Worlds.AtLink.Moves.{IsNoCall, IsRun, May, Move, Step, after, history_after, run}
 use Rattle.lan.specs.Worlds.AtLink.Moves.Move.{Invokes, Passes, Offers, Gives, Takes, Receives, Resets, Changes}
-use Rattle.lan.specs.Worlds.AtLink.Origins.{goes_to}
+use Rattle.lan.specs.Worlds.AtLink.Origins.{goes_to, medium_of}
 use Rattle.lan.specs.Worlds.AtLink.PacketsSafe.{IsFreshParty}
 use Rattle.lan.specs.Worlds.AtLink.Paired.{AreHosted, Seat, at_zero, clock_after, clocks_after, clocks_in, if_at, shown_to}
 use Rattle.lan.specs.Worlds.AtLink.Parties.{Net, party, socket_at}
@@ -41,6 +45,7 @@ use Rattle.lan.specs.Worlds.Moves.Joined.{first_net}
 use Rattle.lan.specs.Worlds.Still.{AreStill, StillRun, seats_of}
 use Rattle.lan.proofs.Worlds.Acts.{joins_grow}
 use Rattle.lan.proofs.Worlds.AtLink.Extended.{IsRun-append, run-append}
+use Rattle.lan.proofs.Worlds.AtLink.Growing.{happens_stays}
 use Rattle.lan.proofs.Worlds.Beginnings.{firsts}
 use Rattle.lan.proofs.Worlds.Events.{plain_joins}
 use Rattle.lan.proofs.Worlds.Hosts.Calling.{call_quiet, setting_quiet}
@@ -60,7 +65,8 @@ use Rattle.lan.proofs.Worlds.StillPlain.{plain_run}
 use Rattle.lan.proofs.Worlds.StillSources.{PairKeeps}
 use Rattle.lan.proofs.Worlds.StillSteps.{AreAllHeld, all-append, all-at, one-held, raised}
 use Rattle.lan.specs.Worlds.Still.{host_in}
-use Rattle.stack_laws.specs.Progress.Events.{AreOfEvent, IsOfPoll, MoveBy, MoveByEvents, all_at, clock_in, shown_by, shown_in, untimed}
+use Rattle.stack_laws.proofs.SentOff.{all_sent_off, is_ip, mtu_least}
+use Rattle.stack_laws.specs.Progress.Events.{AreOfEvent, AreSentOff, IsOfPoll, MoveBy, MoveByEvents, all_at, clock_in, shown_by, shown_in, untimed}
 
 -- WHAT CLOCKS SHOW
 
@@ -253,6 +259,7 @@ record Goes (starts : Starts) (past : List Entry) (old : Stations) (e : Entry) (
   pub well : AreWell starts (e ∷ past) new comes.next
   pub held : AreAllHeld (first starts) (moments starts old) net comes.steps (moments starts new)
   pub are : AreOfEvent e (kind_of e.event) (shown_in starts past) comes.steps
+  pub sent_off : AreSentOff (kind_of e.event) new comes.steps
 
 module _ (starts : Starts) (fresh : IsFreshWorld starts) (past : List Entry) (old new : Stations) (e : Entry) (still : StillRun starts past old)
     (leads : Leads past old e new) (typed : IsTyped (kind_of e.event)) (all : AreStill starts new) (net : Net) (w : AreWell starts past old net)
@@ -281,6 +288,14 @@ module _ (starts : Starts) (fresh : IsFreshWorld starts) (past : List Entry) (ol
   fit : AreFit old
   fit = worlds_fit starts fresh past old (ran starts past old still)
 
+  -- a SYN of IPv6 fits a frame
+  first_enough : (s : Side) → is_mtu (first starts s).mtu ≡ true
+  first_enough A = fresh.a.mtu
+  first_enough B = fresh.b.mtu
+
+  enough : (s : Side) → 80 ≤ (station old s).host.inner.mtu
+  enough s = let same = (seen s).mtu in let least = mtu_least (first starts s).mtu (first_enough s) in omega (arith, same, least)
+
   -- that is no poll
   rests_well : (c : Comes names net new (e ∷ past)) → AreJoined (firsts starts) w.most new net → AreWell starts (e ∷ past) new c.next
   rests_well c joined =
@@ -291,9 +306,9 @@ module _ (starts : Starts) (fresh : IsFreshWorld starts) (past : List Entry) (ol
 
   -- that moves no socket
   passes : (k : Kind) → kind_of e.event ≡ k → IsNoCall k → ((steps : List Step) → (side : Side) × (steps ≡ step_of side (Passes e) ∷ []) →
-      AreOfEvent e k (shown_in starts past) steps)
+      AreOfEvent e k (shown_in starts past) steps) → ((steps : List Step) → AreSentOff k new steps)
       → ((s : Side) → sockets_of (station new s).places ≡ sockets_of (station old s).places) → AreJoined (firsts starts) w.most new net → Goes starts past old e new net
-  passes k is none as_its same joined =
+  passes k is none as_its no_poll same joined =
       let i0 = (station old A).host.inner in
       let none_there = subst IsNoCall (sym is) none in
       let c = still_comes i0 (pos 0) net old new past e of none_there same in
@@ -303,6 +318,7 @@ module _ (starts : Starts) (fresh : IsFreshWorld starts) (past : List Entry) (ol
         well = rests_well c joined;
         held = subst Held (sym steps) (one-held (first starts) before net (step_of A (Passes e)) behind (behind A) (all A).moment (up A) (no_earlier (behind A)) up tt);
         are = subst (λ (x : Kind). AreOfEvent e x (shown_in starts past) c.steps) (sym is) (as_its c.steps (A, steps));
+        sent_off = subst (λ (x : Kind). AreSentOff x new c.steps) (sym is) (no_poll c.steps);
       }
 
   plain : IsPlain (kind_of e.event) → AreJoined (firsts starts) w.most new net
@@ -337,6 +353,7 @@ module _ (starts : Starts) (fresh : IsFreshWorld starts) (past : List Entry) (ol
           held = subst Held (sym one.1) (one-held (first starts) before net (step_of side move) behind (before side) (was side).moment
               (no_earlier (before side)) (up side) up (shown_so called));
           are = subst (λ (x : Kind). AreOfEvent e x (shown_in starts past) c.steps) (sym is) its;
+          sent_off = subst (λ (x : Kind). AreSentOff x new c.steps) (sym is) tt;
         }
 
   -- a poll
@@ -374,6 +391,12 @@ module _ (starts : Starts) (fresh : IsFreshWorld starts) (past : List Entry) (ol
         let held : AreHeld (station old side).host.inner t side net c.steps = pol.held ((all side).paths, (all side).errors ∙ sym (was side).errors) in
         let kept : (run net c.steps).history ≡ e ∷ net.history =
         ap (λ (n : Net). n.history) c.ends ∙ c.of.history ∙ ap (λ (h : List Entry). e ∷ h) (sym of.history) in
+        let on_ip : medium_of (station new side) ≡ Medium.Ip → (station old side).host.inner.hardware ≡ Hardware.Ip =
+        λ ip. is_ip (station old side).host.inner.hardware (sym (w.joined.device side) ∙ sym (ap (λ (c : DeviceCapabilities). c.medium)
+        (happens_stays old new (OfHost side (Polls t budget)) e.answer e.found side acts).link.capabilities) ∙ ip) in
+        let goes_off : AreSentOff (OfHost side (Polls t budget)) new c.steps =
+        λ leave ip. all_sent_off (station old side).host.inner t side net c.steps (on_ip ip) (enough side) held
+        (pol.went ((all side).paths, (all side).errors ∙ sym (was side).errors) leave) in
         let its : AreOfEvent e (OfHost side (Polls t budget)) (shown_in starts past) c.steps =
         one_kept (station old side).host.inner t side e budget is net c.steps c.may held kept in
         record {
@@ -389,23 +412,24 @@ module _ (starts : Starts) (fresh : IsFreshWorld starts) (past : List Entry) (ol
               (subst (λ (u : ℤ). before side ≤ℤ u) now (up side)) up
               (all_so (first starts side) (station old side).host.inner (seen side) t side net c.steps held);
           are = subst (λ (x : Kind). AreOfEvent e x (shown_in starts past) c.steps) (sym is) its;
+          sent_off = subst (λ (x : Kind). AreSentOff x new c.steps) (sym is) goes_off;
         }
 
   by_kind : (k : Kind) → kind_of e.event ≡ k → IsTyped k → Happens old k e.answer e.found new → Goes starts past old e new net
   by_kind (OfHost side (Calls i call)) is so acts = invokes side i call is acts
   by_kind (OfHost side (Sets setting)) is so acts =
-      passes (OfHost side (Sets setting)) is tt (λ steps its. its)
+      passes (OfHost side (Sets setting)) is tt (λ steps its. its) (λ steps. tt)
       (same_sockets side acts.rests (ap (λ (x : StationValue). sockets_of x.places) acts.acts.0.3))
       (setting_joins (firsts starts) w.most old new net side setting e.answer w.joined so acts.acts.0 acts.rests)
   by_kind (OfHost side (Opens n)) is so acts =
-      passes (OfHost side (Opens n)) is tt (λ steps its. its)
+      passes (OfHost side (Opens n)) is tt (λ steps its. its) (λ steps. tt)
       (same_sockets side acts.rests (ap (λ (x : StationValue). sockets_of x.places) acts.acts.2)) (plain (subst IsPlain (sym is) tt))
   by_kind (OfHost side (Asks t)) is so acts =
-      passes (OfHost side (Asks t)) is tt (λ steps its. its)
+      passes (OfHost side (Asks t)) is tt (λ steps its. its) (λ steps. tt)
       (same_sockets side acts.rests (ap (λ (x : StationValue). sockets_of x.places) acts.acts.2)) (plain (subst IsPlain (sym is) tt))
   by_kind (OfHost side (Polls t budget)) is so acts = polls side t budget is acts
   by_kind (OfLink act) is so acts =
-      passes (OfLink act) is tt (λ steps its. its)
+      passes (OfLink act) is tt (λ steps its. its) (λ steps. tt)
       (λ s. ap (λ (h : Stations). sockets_of (station h s).places) acts.2 ∙ link_places old act s) (plain (subst IsPlain (sym is) tt))
 
   goes : Goes starts past old e new net
@@ -465,7 +489,7 @@ module _ (starts : Starts) (fresh : IsFreshWorld starts) where
             these,
             refl,
             so_far.by_events,
-            record { are = one.are; may = one.comes.may; of = subst (λ (n : Net). IsNetOf n new (e ∷ more ++ past)) ends one.comes.of },
+            record { are = one.are; sent_off = one.sent_off; may = one.comes.may; of = subst (λ (n : Net). IsNetOf n new (e ∷ more ++ past)) ends one.comes.of },
           );
         }
 

@@ -28,6 +28,7 @@ use Rattle.lan.proofs.Worlds.Moves.Calls.{names}
 use Rattle.lan.proofs.Worlds.Moves.Worlds.{fresh_net}
 use Rattle.stack_laws.proofs.EventAsked.{are_asked}
 use Rattle.stack_laws.proofs.EventClocks.{at_moments}
+use Rattle.stack_laws.proofs.EventLeave.{are_let_go}
 use Rattle.stack_laws.proofs.EventMoves.{events_move}
 use Rattle.stack_laws.proofs.EventReads.{are_read}
 use Rattle.stack_laws.proofs.MovedOn as MovedOn
@@ -97,6 +98,7 @@ go_on_by_events starts past more hosts places news fresh typed still new keys te
             MovedOn.go_on (first_port starts) names net ways.before moves seats at_clocks pair.pair (fresh_net starts fresh) ways.may pair.reached pair.shows
             (subst (IsRun names at) (these moves is) ways.may_on) (subst (AreHosted seats at_clocks at) (these moves is) (ways.hosted_on places)) keys
             (subst (λ (ss : List Step). ArePartners (run at ss).history A (places A) (places B)) (these moves is) paired) numbered;
+        let_go = λ moves is on_ip leave. are_let_go starts fresh on_ip seats at past more hosts still moves (by moves is) leave;
         in_time = λ moves is side read wait delay so let_go heard.
             record {
               opened = λ s. to_net starts places at between past ways.of s (λ v. IsOpen v.block) (so.opened s);

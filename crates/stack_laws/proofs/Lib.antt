@@ -10,7 +10,10 @@ pub mod Runs
 pub mod Partnered
 pub mod StillPartners
 pub mod Settled
+pub mod OfferLengths
+pub mod SentOff
 pub mod EventMoves
+pub mod EventLeave
 pub mod EventClocks
 pub mod EventAsked
 pub mod EventQuiet

@@ -1,10 +1,12 @@
 -- The moves of a port.
-use Rattle.std.proofs.Common.{◌≡◌, ℕ, ◌-◌, ◌<◌, ◌≤◌, ℤ, Bool, true, false, cond, List, [], ◌∷◌, length, sym, ap, ◌∙◌, arith}
+use Rattle.std.proofs.Common.{◌≡◌, ℕ, ◌+◌, ◌-◌, ◌^◌, ◌<◌, ◌≤◌, ℤ, Bool, true, false, cond, ltb, IsTrue, List, [], ◌∷◌, length, sym, ap, ◌∙◌, arith}
+use Rattle.std.proofs.lemmas.Bool.{and_from, and_parts, lt-ltb, ltb-true}
 use Rattle.std.specs.Prelude.{nat_le, drop}
-use Rattle.lan_base.specs.Device.{Move, Took, Empty, Allowed, Emitted, Denied}
+use Rattle.lan_base.specs.Device.{Move, Took, Empty, Allowed, Emitted, Denied, gives_tokens}
 use Rattle.lan.specs.Worlds.AtLink.Port.{PortValue, PortMove, has_leave}
 use Rattle.interface_egress.specs.Determined.{IsDetermined}
 use Rattle.interface.proofs.Unrefused.{IsCounting, head_is, none_waits, given_or_not}
+use Rattle.lan.proofs.Worlds.Moves.Leave.{IsGiving}
 
 -- a port before a frame was taken
 abbrev before : List ℕ → PortValue → PortValue
@@ -69,3 +71,40 @@ denied old new len goes = let more = ap refusals goes.0 in omega (arith, more)
 
 pub counting_ports : IsCounting PortMove (λ (p : PortValue). p.link.refusals)
 counting_ports = record { one_end = one_end; one_frame = one_frame; looks = looks; gives = gives; kept = kept; denied = denied }
+
+-- LEAVE IS ONLY LOST
+
+abbrev leave : PortValue → Bool
+leave p = has_leave p.link
+
+room_before : (room : ℕ) → ltb 0 (room - 1) ≡ true → ltb 0 room ≡ true
+room_before room some = let more : 0 < room - 1 = ltb-true 0 (room - 1) some in lt-ltb 0 room (omega (arith, more))
+
+pub fewer_refused : (n : ℕ) → IsTrue (gives_tokens (n + 1)) → IsTrue (gives_tokens n)
+fewer_refused n gives = below (2 ^ 64) (ltb-true (n + 1 + 1) (2 ^ 64) gives)
+  where
+    below : (top : ℕ) → n + 1 + 1 < top → ltb (n + 1) top ≡ true
+    below top less = lt-ltb (n + 1) top (omega (arith, less))
+
+pub had_leave : (old new : PortValue) (m : Move) → PortMove old m new → IsTrue (has_leave new.link) → IsTrue (has_leave old.link)
+had_leave old new (Took t frame) goes has = goes.0
+had_leave old new (Empty t) goes has = sym (ap leave goes.0) ∙ has
+had_leave old new (Allowed t given) goes has = sym (ap leave goes.0) ∙ has
+had_leave old new (Emitted frame) goes has =
+    let parts = and_parts (ltb 0 (old.link.room - 1)) (gives_tokens old.link.refusals) (sym (ap leave goes) ∙ has) in
+    and_from (ltb 0 old.link.room) (gives_tokens old.link.refusals) (room_before old.link.room parts.0) parts.1
+had_leave old new (Denied len) goes has =
+    let parts = and_parts (ltb 0 old.link.room) (gives_tokens (old.link.refusals + 1)) (sym (ap leave goes.0) ∙ has) in
+    and_from (ltb 0 old.link.room) (gives_tokens old.link.refusals) parts.0 (fewer_refused old.link.refusals parts.1)
+
+-- one that gives leave, and refused no more than so many
+abbrev pub GivesLeave : ℕ → PortValue → Type 0
+GivesLeave refused p = IsTrue (has_leave p.link) × (p.link.refusals ≤ refused)
+
+pub giving_ports : (refused : ℕ) → IsGiving PortMove (λ p. refused ≤ p.link.refusals) (GivesLeave refused)
+giving_ports refused = record {
+  since = λ old new m moved since. (let more = kept old new m moved in omega (arith, more, since));
+  had = λ old new m moved gives. (had_leave old new m moved gives.0, (let more = kept old new m moved in let few = gives.1 in omega (arith, more, few)));
+  leave = λ old new t moved since gives. given_or_not (has_leave old.link) (sym (had_leave old new (Allowed t false) moved gives.0)) moved.1;
+  takes = λ old new len moved since gives. (let more = denied old new len moved in let few = gives.1 in absurd (omega (arith, more, since, few)));
+}

@@ -1,7 +1,7 @@
 -- Devices at which frames wait in order.
 use Rattle.std.proofs.Common.{◌≡◌, ℕ, zero, suc, ◌+◌, ◌-◌, ◌<◌, ◌≤◌, ◌^◌, Bool, true, false, not, ◌||◌, ltb, IsTrue, ℤ, pos, List, [], ◌∷◌, ◌++◌, Option, Some, None, option_to_list}
 use Rattle.std.proofs.Common.{refl, sym, ap, ◌∙◌, arith}
-use Rattle.std.proofs.lemmas.Bool.{and_from, and_parts, lt-ltb, ltb-true}
+use Rattle.std.proofs.lemmas.Bool.{and_parts, ltb-true}
 use Rattle.std.specs.List.{list_any}
 use Rattle.net_base.specs.Device.{Move, Took, Empty, Allowed, Emitted, Denied, gives_tokens}
 use Rattle.net_base.specs.Loopback.{LoopbackValue, LoopbackMove}
@@ -9,7 +9,7 @@ use Rattle.net_base.specs.Medium.TheVariants as Medium
 use Rattle.lan_base.specs.Port.{PortValue, PortMove, has_leave, ready_after}
 use Rattle.tun_host.specs.Link.Drain.{DrainValue, DrainMove}
 use Rattle.interface.specs.QuietPoll.{HasNoFrame}
-use Rattle.lan.proofs.Worlds.PortMoves.{counting_ports}
+use Rattle.lan.proofs.Worlds.PortMoves.{counting_ports, fewer_refused, had_leave}
 use Rattle.stack_laws.specs.Progress.Delivered.{RefusesNothing}
 use Rattle.stack_laws.specs.Progress.Inbox.{IsInbox}
 use Rattle.stack_laws.specs.Progress.Leave.{IsInboxWhile}
@@ -24,12 +24,6 @@ parts_are a b xs ys is = (cc, cc)
 
 none_waits : (f : List ℕ) (more : Frames) → f ∷ more ≡ [] → ⊥
 none_waits f more is = absurd cc
-
-fewer_refused : (n : ℕ) → IsTrue (gives_tokens (n + 1)) → IsTrue (gives_tokens n)
-fewer_refused n gives = below (2 ^ 64) (ltb-true (n + 1 + 1) (2 ^ 64) gives)
-  where
-    below : (top : ℕ) → n + 1 + 1 < top → ltb (n + 1) top ≡ true
-    below top less = lt-ltb (n + 1) top (omega (arith, less))
 
 -- A QUEUE
 
@@ -55,20 +49,6 @@ waiting p = p.link.waiting
 abbrev pub leave : PortValue → Bool
 leave p = has_leave p.link
 
-room_before : (room : ℕ) → ltb 0 (room - 1) ≡ true → ltb 0 room ≡ true
-room_before room some = let more : 0 < room - 1 = ltb-true 0 (room - 1) some in lt-ltb 0 room (omega (arith, more))
-
-port_had : (old new : PortValue) (m : Move) → PortMove old m new → IsTrue (leave new) → IsTrue (leave old)
-port_had old new (Took t frame) goes has = ap leave goes.1 ∙ has
-port_had old new (Empty t) goes has = sym (ap leave goes.0) ∙ has
-port_had old new (Allowed t given) goes has = sym (ap leave goes.0) ∙ has
-port_had old new (Emitted frame) goes has =
-    let parts = and_parts (ltb 0 (old.link.room - 1)) (gives_tokens old.link.refusals) (sym (ap leave goes) ∙ has) in
-    and_from (ltb 0 old.link.room) (gives_tokens old.link.refusals) (room_before old.link.room parts.0) parts.1
-port_had old new (Denied len) goes has =
-    let parts = and_parts (ltb 0 old.link.room) (gives_tokens (old.link.refusals + 1)) (sym (ap leave goes.0) ∙ has) in
-    and_from (ltb 0 old.link.room) (gives_tokens old.link.refusals) parts.0 (fewer_refused old.link.refusals parts.1)
-
 port_out : (old new : PortValue) (m : Move) → goes_out m ≡ true → PortMove old m new → waiting new ≡ waiting old
 port_out old new (Took t frame) is goes = absurd cc
 port_out old new (Empty t) is goes = absurd cc
@@ -81,7 +61,7 @@ ports = record {
   first = λ old new t frame other more wait goes. parts_are other frame (waiting new) more (sym (ap waiting goes.1) ∙ wait);
   found = λ old new t frame more has wait goes. none_waits frame more (sym wait ∙ goes.1 has);
   out = port_out;
-  had = port_had;
+  had = had_leave;
 }
 
 pub ports_are_bare : (t : ℤ) (p : PortValue) → waiting p ≡ [] → HasNoFrame PortMove t p
@@ -105,7 +85,7 @@ between (m ∷ more) old new goes =
           let first = counting_ports.kept old goes.0 m goes.1 in
           let then_ = rest.counted in
           omega (arith, first, then_);
-      has = λ given. port_had old goes.0 m goes.1 (rest.has given);
+      has = λ given. had_leave old goes.0 m goes.1 (rest.has given);
     }
 
 one_taken : (old new : PortValue) (m : Move) → PortMove old m new → refusals new ≤ refusals old → IsTrue (leave old) → is_refused m ≡ false
@@ -123,7 +103,7 @@ all_taken (m ∷ more) old new none given goes =
     let first = counting_ports.kept old goes.0 m goes.1 in
     let later = rest.counted in
     ap (λ (b : Bool). b || list_any is_refused more)
-    (one_taken old goes.0 m goes.1 (omega (arith, later, none)) (port_had old goes.0 m goes.1 (rest.has given)))
+    (one_taken old goes.0 m goes.1 (omega (arith, later, none)) (had_leave old goes.0 m goes.1 (rest.has given)))
     ∙ all_taken more goes.0 new (omega (arith, first, none)) given goes.2
 
 pub refuse_nothing : (old new : PortValue) → refusals new ≡ refusals old → IsTrue (leave new) → RefusesNothing PortMove old new

@@ -7,15 +7,16 @@ use Rattle.lan.specs.Worlds.AtLink.Moves.{Step}
 use Rattle.lan.specs.Worlds.AtLink.Runs.{Starts}
 use Rattle.lan.specs.Worlds.AtLink.Station.{Stations}
 use Rattle.lan.specs.Worlds.Still.{StillRun, seats_of}
+use Rattle.lan_base.specs.Medium.TheVariants as Medium
 use Rattle.stack_laws.specs.Progress.Events.{MoveBy, clock_in}
 use Rattle.stack_laws.specs.Progress.Moving.{AreHeard, AreLetGo, GoOnByMoves, MoveInTime, moves_of}
 use Rattle.stack_laws.specs.Progress.OneClock.{timed}
 use Rattle.stack_laws.specs.Progress.Partners.{GoOnBetween}
-use Rattle.stack_laws.specs.Progress.Serving.{AreEventsInTime}
+use Rattle.stack_laws.specs.Progress.Serving.{AreEventsInTime, GiveLeave}
 
 -- The sockets of two partners at the hosts between are a pair that events led to, which goes on by the moves of the later events, whatever numbers are
--- given to the segments that come; and some fit. If those events are in time, what the sockets offer goes, and each segment is heard in time, then the
--- moves are in time.
+-- given to the segments that come; and some fit. Over a medium that has no hardware addresses, where each link gives leave to send, what the sockets offer
+-- goes. If those events are in time, what the sockets offer goes, and each segment is heard in time, then the moves are in time.
 pub record GoOnByEvents (starts : Starts) (past : List Entry) (between : Stations) (more : List Entry) (hosts : Stations)
     (still : StillRun starts (more ++ past) hosts) (places : Side → ℕ) : Type 0 where
   pub goes : GoOnBetween starts past between (more ++ past) hosts (seats_of starts places)
@@ -24,6 +25,8 @@ pub record GoOnByEvents (starts : Starts) (past : List Entry) (between : Station
   pub numbers : (moves : List (ℤ × Happening)) × (timed moves ≡ steps) × AreNumbered (seats_of starts places) goes.net (moves_of moves)
   pub by_moves : (moves : List (ℤ × Happening)) → timed moves ≡ steps → AreNumbered (seats_of starts places) goes.net (moves_of moves)
       → GoOnByMoves (seats_of starts places) goes.clocks goes.net goes.reached.pair moves
+  pub let_go : (moves : List (ℤ × Happening)) → timed moves ≡ steps → starts.a.capabilities.medium ≡ Medium.Ip → GiveLeave starts past more hosts still
+      → AreLetGo (seats_of starts places) moves
   pub in_time : (moves : List (ℤ × Happening)) → timed moves ≡ steps → (side : Side) (read wait delay : ℕ)
       → AreEventsInTime starts places read wait side past between more hosts still → AreLetGo (seats_of starts places) moves
       → AreHeard (seats_of starts places) delay goes.net moves

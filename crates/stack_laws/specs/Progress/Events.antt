@@ -1,7 +1,9 @@
 -- Which moves the events of a world are, and at which moments they are made.
-use Rattle.std.specs.Prelude.{◌≡◌, ℕ, ℤ, pos, ◌≤ℤ◌, if◌then◌else◌, List, [], ◌∷◌, ◌++◌, map}
+use Rattle.std.specs.Prelude.{◌≡◌, ℕ, ℤ, pos, ◌≤ℤ◌, if◌then◌else◌, true, IsTrue, List, [], ◌∷◌, ◌++◌, map}
 use Rattle.std.specs.List.{AllByRecursion}
+use Rattle.tcp_model.specs.Offers.{offer_of}
 use Rattle.lan.specs.declared.at_link.history.event.Side.{Side}
+use Rattle.lan.specs.Worlds.AtLink.Happening.{goes}
 use Rattle.lan.specs.Worlds.AtLink.History.{Entry}
 use Rattle.lan.specs.Worlds.AtLink.Kinds.{Kind, kind_of, same_side}
 use Rattle.lan.specs.Worlds.AtLink.Kinds.Act.{Asks, Calls, Polls}
@@ -9,15 +11,17 @@ use Rattle.lan.specs.Worlds.AtLink.Kinds.Kind.{OfHost}
 use Rattle.lan.specs.Worlds.AtLink.Call.{SocketCall}
 use Rattle.lan.specs.Worlds.AtLink.Moves.{IsRun, Move, Step, run}
 use Rattle.lan.specs.Worlds.AtLink.Moves.Move.{Invokes, Passes, Offers, Gives, Takes, Receives}
+use Rattle.lan.specs.Worlds.AtLink.Origins.{medium_of}
 use Rattle.lan.specs.Worlds.AtLink.Paired.{at_zero, clocks_in}
 use Rattle.lan.specs.Worlds.AtLink.Parties.{Net}
 use Rattle.lan.specs.Worlds.AtLink.Runs.{Starts, start}
-use Rattle.lan.specs.Worlds.AtLink.Station.{Stations}
+use Rattle.lan.specs.Worlds.AtLink.Station.{Stations, station}
 use Rattle.lan.specs.Worlds.Moves.Follows.{IsNetOf}
 use Rattle.lan.specs.Worlds.Moves.Joined.{first_net}
 use Rattle.lan.specs.Worlds.Still.{MovePlainly, StillRun, seats_of}
 use Rattle.lan_base.specs.Carried.{names_tcp_or_udp}
 use Rattle.lan_base.specs.Medium.TheVariants as Medium
+use Rattle.lan_base.specs.Port.{has_leave}
 
 -- MOMENTS. Two events have one: a poll, and the question when a host wants to be polled.
 
@@ -67,9 +71,22 @@ AreOfEvent e (OfHost side (Calls place call)) shown steps =
     (move : Move) × (steps ≡ record { side = side; move = move } ∷ []) × IsOfCall e place call (shown side) move
 AreOfEvent e kind shown steps = (side : Side) × (steps ≡ record { side = side; move = Passes e } ∷ [])
 
+-- what a TCP socket offers goes, if it offers anything
+abbrev pub IsSentOff : Move → Type 0
+IsSentOff (Offers at cx v from sent) = goes (offer_of cx v).socket.offered sent ≡ true
+IsSentOff move = Unit {0}
+
+-- Of a poll behind which the link of its host gives leave to send, over a medium that has no hardware addresses to ask for: whatever TCP sockets offer
+-- goes.
+abbrev pub AreSentOff : Kind → Stations → List Step → Type 0
+AreSentOff (OfHost side (Polls moment budget)) new steps =
+    IsTrue (has_leave (station new side).link) → medium_of (station new side) ≡ Medium.Ip → AllByRecursion (λ step. IsSentOff step.move) steps
+AreSentOff kind new steps = Unit {0}
+
 -- These moves are an event's own, and lead on to a net of the hosts behind it.
 pub record HappensBy (starts : Starts) (past : List Entry) (e : Entry) (new : Stations) (net : Net) (steps : List Step) : Type 0 where
   pub are : AreOfEvent e (kind_of e.event) (shown_in starts past) steps
+  pub sent_off : AreSentOff (kind_of e.event) new steps
   pub may : IsRun (names_tcp_or_udp Medium.Ip) net steps
   pub of : IsNetOf (run net steps) new (e ∷ past)
 

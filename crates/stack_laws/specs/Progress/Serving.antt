@@ -17,7 +17,7 @@ use Rattle.lan.specs.declared.at_link.history.event.Side.{Side}
 use Rattle.lan.specs.Worlds.AtLink.Call as Call
 use Rattle.lan.specs.Worlds.AtLink.History.{Entry}
 use Rattle.lan.specs.Worlds.AtLink.Kinds.{Kind, kind_of, other, same_side}
-use Rattle.lan.specs.Worlds.AtLink.Kinds.Act.{Calls}
+use Rattle.lan.specs.Worlds.AtLink.Kinds.Act.{Calls, Polls}
 use Rattle.lan.specs.Worlds.AtLink.Kinds.Kind.{OfHost}
 use Rattle.lan.specs.Worlds.AtLink.Paired.{told}
 use Rattle.lan.specs.Worlds.AtLink.Runs.{Starts}
@@ -70,6 +70,18 @@ abbrev pub WaitsForNone : ℕ → StationValue → Type 0
 WaitsForNone place s =
     (at : SocketStorage Socket) (item : Item Socket) → slice_get s.places place ≡ Some at → at.inner ≡ Some item
     → is_waiting s.host.inner item.meta ≡ false
+
+-- LEAVE TO SEND
+
+-- behind a poll the link gives its host leave to send, and so it did throughout the poll
+abbrev pub GivesLeave : Kind → Stations → Type 0
+GivesLeave (OfHost side (Polls moment budget)) hosts = IsTrue (has_leave (station hosts side).link)
+GivesLeave kind hosts = Unit {0}
+
+-- behind each poll
+abbrev pub GiveLeave : (starts : Starts) (past more : List Entry) (hosts : Stations) → StillRun starts (more ++ past) hosts → Type 0
+GiveLeave starts past [] hosts still = Unit {0}
+GiveLeave starts past (e ∷ more) hosts still = GiveLeave starts past more still.0 still.1 × GivesLeave (kind_of e.event) hosts
 
 -- USERS READ
 

@@ -18,13 +18,14 @@ ghost use Rattle.lan.specs.Worlds.AtLink.Station.{Stations, station};
 ghost use Rattle.lan.specs.Worlds.Events.{AreTyped};
 ghost use Rattle.lan.specs.Worlds.Moves.Joined.{first_net};
 ghost use Rattle.lan.specs.Worlds.Still.{IsStill, StillRun, seats_of};
+ghost use Rattle.lan_base.specs.Medium.TheVariants as Medium;
 ghost use Rattle.stack_laws.specs.Progress.ByEvents.{GoOnByEvents};
 ghost use Rattle.stack_laws.specs.Progress.Events.{MoveBy, MoveByEvents, clock_in};
-ghost use Rattle.stack_laws.specs.Progress.Moving.{AreAsked, AreAtMoments, IsReadInTime};
+ghost use Rattle.stack_laws.specs.Progress.Moving.{AreAsked, AreAtMoments, AreLetGo, IsReadInTime};
 ghost use Rattle.stack_laws.specs.Progress.OneClock.{KeepOneClock, timed};
 ghost use Rattle.stack_laws.specs.Progress.Partners.{HoldText};
 ghost use Rattle.stack_laws.specs.Progress.Patience.{ArePatient};
-ghost use Rattle.stack_laws.specs.Progress.Serving.{AreServed, IsAtRest, IsQuietPoll, IsReadOften, WaitsForNone, with_rest};
+ghost use Rattle.stack_laws.specs.Progress.Serving.{AreServed, GiveLeave, IsAtRest, IsQuietPoll, IsReadOften, WaitsForNone, with_rest};
 
 use super::inboxes::ports_refuse_nothing;
 use super::partners::{moves_go_on, partners_are_reached, partners_go_on};
@@ -61,6 +62,14 @@ pub fn users_that_read_often_read_in_time()
         → IsReadOften (seats side).place read side past more last → IsReadInTime seats read (clock_in past) net side moves }
 {}
 
+/// Law: over a medium that has no hardware addresses, where each link gives leave to send behind each poll of its host, whatever two TCP sockets offer in
+/// the moves of the events goes: no neighbour is asked for, and no segment is too long for a frame. Links give leave while they have room.
+pub fn offers_go_while_links_give_leave()
+    ensures { (starts : Starts) (net : Net) (past more : List Entry) (hosts : Stations) (still : StillRun starts (more ++ past) hosts)
+        (seats : Side → Seat) (moves : List (ℤ × Happening)) → IsFreshWorld starts → starts.a.capabilities.medium ≡ Medium.Ip
+        → MoveBy starts net past more hosts still (timed moves) → GiveLeave starts past more hosts still → AreLetGo seats moves }
+{}
+
 /// Law: behind a poll in which nothing happens any more each TCP socket of its host is at rest that waits for no neighbor, where no socket has a user
 /// timeout of 0.
 pub fn sockets_rest_behind_a_quiet_poll()
@@ -88,8 +97,8 @@ pub fn quiet_polls_go_on_in_time()
 }
 
 /// Law: in such a world two TCP sockets that were partners before some last events go on by the moves of those events. So one can ask of the events
-/// themselves whether they come in time: of hosts, that they are polled in time, and of users, that they read. Of the moves nothing else is asked than
-/// that what the sockets offer goes, and that each segment is heard in time.
+/// themselves whether they come in time: of hosts, that they are polled in time, of links, that they give leave to send, and of users, that they read. Of
+/// the moves nothing else is asked than that each segment is heard in time; and, where hosts ask for hardware addresses, that what the sockets offer goes.
 pub fn partners_go_on_by_their_events()
     ensures { (starts : Starts) (past more : List Entry) (hosts : Stations) (places : Side → ℕ) (news : Side → NewSocket)
         → IsFreshWorld starts → AreTyped (more ++ past) → (still : StillRun starts (more ++ past) hosts)
@@ -104,4 +113,5 @@ pub fn partners_go_on_by_their_events()
     moves_of_events_keep_one_clock();
     sockets_that_are_served_are_asked();
     users_that_read_often_read_in_time();
+    offers_go_while_links_give_leave();
 }

@@ -1,14 +1,26 @@
-//! Pieces fit their paths, and go.
+//! Segments and pieces fit their paths, and pieces go.
 
 ghost use Rattle.std.specs.Prelude.{◌≡◌, ℕ, ℤ, ◌+◌, ◌≤◌, Bool, length, Option, Some};
 ghost use Rattle.interface_tables.specs.Inner.{InnerValue, at_moment};
+ghost use Rattle.tcp_control.specs.declared.offer.OpenOffer.{OpenOffer};
+ghost use Rattle.tcp_model.specs.Offers.{offer_of};
+ghost use Rattle.tcp_model.specs.Value.{TcpValue};
+ghost use Rattle.sockets.specs.Context.{ContextValue};
 ghost use Rattle.interface_egress.specs.Departure.{Part, piece_header_len};
 ghost use Rattle.interface_egress.specs.Fragments.{LeftValue, cut_mtu, departure_from, left_from, piece_from};
+ghost use Rattle.interface_egress.specs.Plan.{total_len};
 ghost use Rattle.interface.specs.Egress.{EgressStep};
 ghost use Rattle.interface.specs.State.{State};
 ghost use Rattle.stack_laws.specs.Progress.Queued.{PieceWent};
 
 use net_base::Device;
+
+/// Law: a segment that a TCP socket offers is no longer than the longest packet that it is shown, where that is long enough for a SYN of IPv6 with all its
+/// options. So none has to be cut.
+pub fn segments_fit_their_packets()
+    ensures { (cx : ContextValue) (v : TcpValue) (o : OpenOffer) → 80 ≤ cx.ip_mtu → (offer_of cx v).socket.offered ≡ Some o
+        → total_len o.header ≤ cx.ip_mtu }
+{}
 
 /// Law: of a datagram that is half sent the next piece goes where the first one went, behind the same header; and with its headers it
 /// is no longer than the path to the datagram's destination carries, as that is known then.

@@ -9,10 +9,11 @@ use Rattle.lan.specs.Worlds.AtLink.Parties.{Party, Net, party}
 use Rattle.lan.specs.Worlds.Moves.Made.{Grows}
 use Rattle.lan.specs.Worlds.Moves.Follows.{sockets_of}
 use Rattle.lan.proofs.Worlds.Moves.Held.{AreHeld, Stays}
+use Rattle.lan.proofs.Worlds.Moves.Leave.{AreLet}
 
 -- Moves lead from one net to another, and neither the other host nor the history is touched. Under the condition C the host showed itself at this
--- moment as it was, and made no reset.
-pub record Reaches (names : List ℕ → Bool) (side : Side) (C : Type 0) (i0 : InnerValue) (t : ℤ) (net now : Net) : Type 0 where
+-- moment as it was, and made no reset; and if its device gives leave, as G says, too, then what its sockets offered went, or had to stay.
+pub record Reaches (names : List ℕ → Bool) (side : Side) (C G : Type 0) (i0 : InnerValue) (t : ℤ) (net now : Net) : Type 0 where
   pub steps : List Step
   pub may : IsRun names net steps
   pub ends : run net steps ≡ now
@@ -20,18 +21,20 @@ pub record Reaches (names : List ℕ → Bool) (side : Side) (C : Type 0) (i0 : 
   pub history : now.history ≡ net.history
   pub grows : Grows (party net side) (party now side)
   pub held : C → AreHeld i0 t side net steps
+  pub went : C → G → AreLet i0 t steps
 
--- moves of this host lead to a net with these sockets, of which L holds with what was made
-pub record Follows {D : Type 0} (names : List ℕ → Bool) (side : Side) (i0 : InnerValue) (t : ℤ) (L : State D → Party → Type 0) (net : Net) (s : State D) : Type 0 where
+-- moves of this host lead to a net with these sockets, of which L holds with what was made, where Gives says what a device is that gives leave
+pub record Follows {D : Type 0} (names : List ℕ → Bool) (side : Side) (Gives : D → Type 0) (i0 : InnerValue) (t : ℤ) (L : State D → Party → Type 0) (net : Net) (s : State D) : Type 0 where
   pub now : Net
-  pub reaches : Reaches names side (Stays i0 s.host.inner) i0 t net now
+  pub reaches : Reaches names side (Stays i0 s.host.inner) (Gives s.device) i0 t net now
   pub sockets : (party now side).sockets ≡ sockets_of s.places
   pub link : L s (party now side)
 
--- the condition may be a narrower one
-pub narrowed : (names : List ℕ → Bool) (side : Side) (C C' : Type 0) (i0 : InnerValue) (t : ℤ) (net now : Net) → (C' → C) → Reaches names side C i0 t net now →
-    Reaches names side C' i0 t net now
-narrowed names side C C' i0 t net now back r = record {
+-- the conditions may be narrower ones
+pub narrowed : (names : List ℕ → Bool) (side : Side) (C C' G G' : Type 0) (i0 : InnerValue) (t : ℤ) (net now : Net) → (C' → C) → (G' → G) →
+    Reaches names side C G i0 t net now →
+    Reaches names side C' G' i0 t net now
+narrowed names side C C' G G' i0 t net now back gives r = record {
   steps = r.steps;
   may = r.may;
   ends = r.ends;
@@ -39,4 +42,5 @@ narrowed names side C C' i0 t net now back r = record {
   history = r.history;
   grows = r.grows;
   held = λ c. r.held (back c);
+  went = λ c g. r.went (back c) (gives g);
 }

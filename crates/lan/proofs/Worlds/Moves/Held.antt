@@ -74,7 +74,7 @@ abbrev pub Stays : InnerValue → InnerValue → Type 0
 Stays first i = (i.paths ≡ []) × (i.errors_until ≡ first.errors_until)
 
 -- where nothing is known of paths a packet may be as long as a frame carries
-whole_path : (a : IpAddress) (now : ℤ) (whole : ℕ) → mtu_towards [] a now whole ≡ whole
+pub whole_path : (a : IpAddress) (now : ℤ) (whole : ℕ) → mtu_towards [] a now whole ≡ whole
 unfolding mtu_towards
 whole_path a now whole = refl
 

@@ -2,7 +2,7 @@
 use Rattle.std.proofs.Common.{◌≡◌, ◌≤◌, ◌+◌, ◌*◌, arith, ℕ, Bool, true, false, inl, inr, List, Option, Some, None, IfSome, refl, sym, ap, ◌∙◌, subst}
 use Rattle.std.specs.Prelude.{ℤ}
 use Rattle.std.proofs.Math.Nat.{mul-le-mul_left}
-use Rattle.lan_base.specs.Device.{Move, Took}
+use Rattle.lan_base.specs.Device.{Move, Empty, Took}
 use Rattle.interface_egress.specs.Fragments.{LeftValue}
 use Rattle.interface_ingress.specs.ArpRepr.{ArpRepr}
 use Rattle.interface_egress.specs.Departure as Departures
@@ -27,9 +27,11 @@ use Rattle.lan.specs.Worlds.Moves.Follows.{sockets_of}
 use Rattle.interface.proofs.Runs.{receives_same}
 use Rattle.interface.proofs.SameHost.{place_same}
 use Rattle.interface_tables.specs.Inner.{InnerValue}
-use Rattle.lan.proofs.Worlds.Moves.Following.{Follows, narrowed}
+use Rattle.lan.proofs.Worlds.Moves.Devices.{piece_leaves, place_turns, takes}
+use Rattle.lan.proofs.Worlds.Moves.Following.{Follows, Reaches, narrowed}
 use Rattle.lan.proofs.Worlds.Moves.Held.{IsAsAt, Stays, stays_before}
 use Rattle.lan.proofs.Worlds.Moves.Later.{IsSince, as_since, brings_later, brought_home, since_arrival, since_begun, since_out, stayed}
+use Rattle.lan.proofs.Worlds.Moves.Leave.{IsGiving}
 use Rattle.lan.specs.Worlds.Moves.Fit.{IsFit}
 use Rattle.lan.specs.Worlds.Moves.Link.{IsLink, brought}
 use Rattle.lan.proofs.Worlds.Moves.MadeReplies.{IsMadeReply}
@@ -42,9 +44,17 @@ use Rattle.lan.proofs.Worlds.Moves.Turns.{turn_follows}
 use Rattle.lan.proofs.Worlds.Moves.Wide.{CanBeWide, brings_wide}
 
 module _ {D : Type 0} (moves : D → Move → D → Type 0) (t : ℤ) (names : List ℕ → Bool) (side : Side) (i0 : InnerValue) (net : Net) (L : ℕ →
-    State D → Party → Type 0) (link : IsLink moves (party net (other side)) L) where
+    State D → Party → Type 0) (link : IsLink moves (party net (other side)) L) (Begun Gives : D → Type 0)
+    (giving : IsGiving moves Begun Gives) where
   abbrev At : ℕ → State D → Type 0
-  At n s = Follows names side i0 t (L n) net s
+  At n s = Follows names side Gives i0 t (L n) net s
+
+  -- a device that gives leave gave it at this one
+  abbrev GaveAt : D → D → Type 0
+  GaveAt before d = Gives d → Gives before
+
+  gave_back : (before d d' : D) (m : Move) → moves d m d' → GaveAt before d → GaveAt before d'
+  gave_back before d d' m moved gave given = gave (giving.had d d' m moved given)
 
   more : (n m : ℕ) (s : State D) → n ≤ m → At n s → At m s
   more n m s up f = record { now = f.now; reaches = f.reaches; sockets = f.sockets; link = link.more n m s (party f.now side) up f.link }
@@ -74,7 +84,8 @@ module _ {D : Type 0} (moves : D → Move → D → Type 0) (t : ℤ) (names : L
       x'.inner ≡ x.inner → At n (sending_as h x ps) → At n (sending_as h x' ps)
   pieces n h ps x x' l gone is leaves same f = record {
     now = f.now;
-    reaches = narrowed names side (Stays i0 x.inner) (Stays i0 x'.inner) i0 t net f.now (subst (Stays i0) same) f.reaches;
+    reaches = narrowed names side (Stays i0 x.inner) (Stays i0 x'.inner) (Gives x.device) (Gives x'.device) i0 t net f.now (subst (Stays i0) same)
+        (piece_leaves moves (GaveAt x.device) (gave_back x.device) l x x' gone leaves (λ g. g)) f.reaches;
     sockets = f.sockets;
     link = left_link n h ps x x' l gone (party f.now side) is leaves same f.link;
   }
@@ -108,13 +119,14 @@ module _ {D : Type 0} (moves : D → Move → D → Type 0) (t : ℤ) (names : L
       let a = receives.0 in
       let back : Stays i0 s'.host.inner → Stays i0 a.inner =
       stays_before i0 a.inner s'.host.inner (receives_same moves content (at_device s mid) s' receives).1 in
-      let so_far = narrowed names side (Stays i0 s.host.inner) (Stays i0 s'.host.inner) i0 t net f.now
-      (λ c. stayed i0 s.host.inner a.inner like.low (brings_later s.host.inner s.places (brought s content) a receives.1.1) (back c)) f.reaches in
+      let gave = takes moves (GaveAt s.device) (gave_back s.device) s s' (Some true) (frame, mid, took, reads, (content, is, receives)) (λ g. g) in
+      let so_far = narrowed names side (Stays i0 s.host.inner) (Stays i0 s'.host.inner) (Gives s.device) (Gives s'.device) i0 t net f.now
+      (λ c. stayed i0 s.host.inner a.inner like.low (brings_later s.host.inner s.places (brought s content) a receives.1.1) (back c)) gave f.reaches in
       let p = party f.now side in
       let g : HostValue = record s.host { slots = s'.host.slots } in
       let x = sender mid a.inner s.host.left in
       let made = link.brings n s p frame mid content took reads is f.link in
-      let end = brings_moves names side (Stays i0 s'.host.inner) i0 t net f.now so_far s.host.inner s.places f.sockets like (brought s content) a
+      let end = brings_moves names side (Stays i0 s'.host.inner) (Gives s'.device) i0 t net f.now so_far s.host.inner s.places f.sockets like (brought s content) a
       (brought_home s.host.inner s.host.timeout s.host.slots content) (λ c. (back c).1) receives.1.1 made in
       let p' = party end.moved.next side in
       let taken : L n (sending_as g x s.places) p = link.takes n s p frame mid content s'.host.slots a took reads is receives.1 f.link in
@@ -135,20 +147,27 @@ module _ {D : Type 0} (moves : D → Move → D → Type 0) (t : ℤ) (names : L
         link = subst (λ (u : State D). L (n + 1) u p') there placed;
       }
 
+  -- a move of the device alone
+  looked : (s s' : State D) (m : Move) → moves s.device m s'.device → (now : Net) →
+      Reaches names side (Stays i0 s.host.inner) (Gives s.device) i0 t net now → Reaches names side (Stays i0 s.host.inner) (Gives s'.device) i0 t net now
+  looked s s' m moved now r =
+      narrowed names side (Stays i0 s.host.inner) (Stays i0 s.host.inner) (Gives s.device) (Gives s'.device) i0 t net now (λ c. c)
+      (giving.had s.device s'.device m moved) r
+
   arrivals : (n : ℕ) (s s' : State D) (answer : Option Bool) → IsAsAt i0 t s.host.inner → At n s → Takes moves s answer s' → At (n + 1) s'
-  arrivals n s s' None like f takes = more n (n + 1) s' (omega arith) (subst (At n) (sym takes.1) (record {
+  arrivals n s s' None like f took = more n (n + 1) s' (omega arith) (subst (At n) (sym took.1) (record {
     now = f.now;
-    reaches = f.reaches;
+    reaches = looked s s' (Empty s.host.inner.moment) took.0 f.now f.reaches;
     sockets = f.sockets;
-    link = link.looks n s (party f.now side) s'.device takes.0 f.link;
+    link = link.looks n s (party f.now side) s'.device took.0 f.link;
   }))
-  arrivals n s s' (Some false) like f takes = more n (n + 1) s' (omega arith) (subst (At n) (sym takes.3) (record {
+  arrivals n s s' (Some false) like f took = more n (n + 1) s' (omega arith) (subst (At n) (sym took.3) (record {
     now = f.now;
-    reaches = f.reaches;
+    reaches = looked s s' (Took s.host.inner.moment took.0) took.1 f.now f.reaches;
     sockets = f.sockets;
-    link = link.skips n s (party f.now side) takes.0 s'.device takes.1 takes.2 f.link;
+    link = link.skips n s (party f.now side) took.0 s'.device took.1 took.2 f.link;
   }))
-  arrivals n s s' (Some true) like f takes = read n s s' takes.0 takes.1 takes.2 takes.3 takes.4 like f
+  arrivals n s s' (Some true) like f took = read n s s' took.0 took.1 took.2 took.3 took.4 like f
 
   -- ALL
 
@@ -171,42 +190,51 @@ module _ {D : Type 0} (moves : D → Move → D → Type 0) (t : ℤ) (names : L
       (brings_later s.host.inner s.places (brought s content) receives.0 receives.1.1) since)
 
   abbrev Both : ℕ → State D → Type 0
-  Both n s = Fit s × (Since s × At n s)
+  Both n s = Fit s × (Since s × (Begun s.device × At n s))
 
   all_priced : IsPriced moves t 0 Both
   all_priced = record {
-    more = λ n m s up both. (both.0, (both.1.0, more n m s up both.1.1));
-    maintenance = λ n s both. (fit_kept.maintenance s both.0, (since_begun i0 s.host.inner t both.1.0, maintenance n s both.1.1));
-    arrivals = λ n s s' answer runs both takes. (
-      fit_kept.arrivals s s' answer runs both.0 takes,
+    more = λ n m s up both. (both.0, (both.1.0, (both.1.1.0, more n m s up both.1.1.1)));
+    maintenance = λ n s both. (fit_kept.maintenance s both.0, (since_begun i0 s.host.inner t both.1.0, (both.1.1.0, maintenance n s both.1.1.1)));
+    arrivals = λ n s s' answer runs both took. (
+      fit_kept.arrivals s s' answer runs both.0 took,
       (
-        since_arrivals s s' answer both.1.0 takes,
-        arrivals n s s' answer (as_since i0 s.host.inner t runs.0 both.1.0) both.1.1 takes,
+        since_arrivals s s' answer both.1.0 took,
+        (
+          takes moves Begun giving.since s s' answer took both.1.1.0,
+          arrivals n s s' answer (as_since i0 s.host.inner t runs.0 both.1.0) both.1.1.1 took,
+        ),
       ),
     );
     pieces = λ n h ps x x' l gone runs is both leaves same. (
       fit_kept.pieces h ps x x' l gone runs is both.0 leaves same,
       (
         subst (IsSince i0) (sym same) both.1.0,
-        more n (n + 0) (sending_as h x' ps) (omega arith) (pieces n h ps x x' l gone is leaves same both.1.1),
+        (
+          piece_leaves moves Begun giving.since l x x' gone leaves both.1.1.0,
+          more n (n + 0) (sending_as h x' ps) (omega arith) (pieces n h ps x x' l gone is leaves same both.1.1.1),
+        ),
       ),
     );
     turns = λ turn n h before after p p' x x' turned used runs both took. (
       fit_kept.turns turn h before after p p' x x' turned runs both.0 took,
       (
         since_out i0 x.inner x'.inner (place_same moves turn x x' p p' turned took) both.1.0,
-        turn_follows moves turn names side i0 t net (party net (other side)) L link n h before after p p' x x' turned took
-            (as_since i0 x.inner t runs.0 both.1.0) (middle IsFit before after p both.0) both.1.1,
+        (
+          place_turns moves Begun giving.since turn x x' both.1.1.0 p p' turned took,
+          turn_follows moves turn names side i0 t net (party net (other side)) L link Begun Gives giving n h before after p p' x x' turned took both.1.1.0
+              (as_since i0 x.inner t runs.0 both.1.0) (middle IsFit before after p both.0) both.1.1.1,
+        ),
       ),
     );
   }
 
   -- What holds before a poll holds behind it, where moves of this host have led to its sockets. It counted no more packets than one for
   -- each frame that it took and each socket's turn.
-  pub polls_follow : (budget n : ℕ) (s s' : State D) (changed : Bool) → OfEach IsFit s.places → Since s → Follows names side i0 t (L n) net s →
+  pub polls_follow : (budget n : ℕ) (s s' : State D) (changed : Bool) → OfEach IsFit s.places → Since s → Begun s.device → Follows names side Gives i0 t (L n) net s →
       Polls moves t budget s changed s'
-      → OfEach IsFit s'.places × Follows names side i0 t (L (n + budget * (1 + sockets_in s.places))) net s'
-  polls_follow budget n s s' changed fit since f polls =
-      let both = (polls_cost moves t 0 Both all_priced budget n s s' changed (fit, (since, f)) polls).0 in
+      → OfEach IsFit s'.places × Follows names side Gives i0 t (L (n + budget * (1 + sockets_in s.places))) net s'
+  polls_follow budget n s s' changed fit since begins f polls =
+      let both = (polls_cost moves t 0 Both all_priced budget n s s' changed (fit, (since, (begins, f))) polls).0 in
       let most : budget * (1 + (0 + sockets_in s.places)) ≤ budget * (1 + sockets_in s.places) = mul-le-mul_left budget (omega arith) in
-      (both.0, more (n + budget * (1 + (0 + sockets_in s.places))) (n + budget * (1 + sockets_in s.places)) s' (omega (arith, most)) both.1.1)
+      (both.0, more (n + budget * (1 + (0 + sockets_in s.places))) (n + budget * (1 + sockets_in s.places)) s' (omega (arith, most)) both.1.1.1)

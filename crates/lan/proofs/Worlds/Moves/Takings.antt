@@ -47,8 +47,8 @@ use Rattle.lan.proofs.Worlds.Moves.Places.{Places}
 use Rattle.lan.proofs.Worlds.Moves.Replies.{control_v4_made, control_v6_made, port_error_made, unread_made, answered_made, told_made}
 
 -- moves lead to these sockets, and what answers was made
-pub record Ended (names : List ℕ → Bool) (side : Side) (C : Type 0) (i0 : InnerValue) (t : ℤ) (net now : Net) (places : Places) (reply : Option ReplyValue) : Type 0 where
-  pub moved : Moved names side C i0 t net now (sockets_of places)
+pub record Ended (names : List ℕ → Bool) (side : Side) (C G : Type 0) (i0 : InnerValue) (t : ℤ) (net now : Net) (places : Places) (reply : Option ReplyValue) : Type 0 where
+  pub moved : Moved names side C G i0 t net now (sockets_of places)
   pub made : IfSome reply (IsMadeReply (party moved.next side))
 
 abbrev if_goes : Bool → Option PacketValue → Option PacketValue
@@ -66,16 +66,16 @@ counted_later : (i0 i after now : InnerValue) → i0.errors_until ≤ℤ i.error
 counted_later i0 i after now low same is still = past_it i0.errors_until i.errors_until after.moment low
     (ap (λ (u : ℤ). answered_at u after.moment) (sym same) ∙ ap (λ (x : InnerValue). x.errors_until) (sym is) ∙ still)
 
-module _ (names : List ℕ → Bool) (side : Side) (C : Type 0) (i0 : InnerValue) (t : ℤ) (net now : Net) (r : Reaches names side C i0 t net now) where
+module _ (names : List ℕ → Bool) (side : Side) (C G : Type 0) (i0 : InnerValue) (t : ℤ) (net now : Net) (r : Reaches names side C G i0 t net now) where
   -- A PAYLOAD
 
   module _ (i : InnerValue) (places : Places) (ip : IpRepr) (payload : List ℕ) (taken : Bool) (has : (party now side).sockets ≡ sockets_of places)
       (like : IsAsAt i0 t i) (here : is_astray i0 (source_of ip) (destination_of ip) ≡ false) where
     abbrev Ends : Places → Option PacketValue → Type 0
-    Ends qs reply = Answered names side C i0 t net now (sockets_of qs) reply
+    Ends qs reply = Answered names side C G i0 t net now (sockets_of qs) reply
 
     same_with : (qs : Places) (reply : Option PacketValue) → sockets_of qs ≡ sockets_of places → ((p : Party) → IfSome reply (IsMade p)) → Ends qs reply
-    same_with qs reply same free = record { moved = stays names side C i0 t net now r (sockets_of qs) (has ∙ sym same); made = free (party now side) }
+    same_with qs reply same free = record { moved = stays names side C G i0 t net now r (sockets_of qs) (has ∙ sym same); made = free (party now side) }
 
     control_v4 : (ip : IpRepr) (message : Icmpv4Header) (bytes : List ℕ) → sockets_of (control_v4_places ip message bytes places) ≡ sockets_of places
     control_v4 (Ip.Ipv4 header) message bytes = icmpv4_delivered_same header message bytes places
@@ -106,17 +106,17 @@ module _ (names : List ℕ → Bool) (side : Side) (C : Type 0) (i0 : InnerValue
 
       reset_if : (quiet goes : Bool) → names_nobody i ip ≡ false → (quiet ≡ false → goes ≡ true → C → ⊥)
           → Ends places (let r : Option PacketValue = if_goes goes (if quiet then None else packet_by (Some (rst_reply ip header (length bytes)))) in r)
-      reset_if true goes somebody none = nothing names side C i0 t net now r places has
+      reset_if true goes somebody none = nothing names side C G i0 t net now r places has
       reset_if false true somebody none =
-          reset names side C i0 t net now r places has cx ip header bytes made (shows i0 i t like) (between somebody) (none refl refl)
-      reset_if false false somebody none = nothing names side C i0 t net now r places has
+          reset names side C G i0 t net now r places has cx ip header bytes made (shows i0 i t like) (between somebody) (none refl refl)
+      reset_if false false somebody none = nothing names side C G i0 t net now r places has
 
       segment_by : (nobody : Bool) (o : Option ℕ) → names_nobody i ip ≡ nobody → segment_place ip header places ≡ o → (Goes → C → ⊥)
           → Ends (if nobody then places else changed_at (with_segment cx ip header bytes) o places)
           (let_go (not nobody && not (is_some o)) i (if nobody then None else segment_answer_at o cx ip header bytes taken places))
-      segment_by true o named there none = nothing names side C i0 t net now r places has
+      segment_by true o named there none = nothing names side C G i0 t net now r places has
       segment_by false (Some at) named there none =
-          segment_taken names side C i0 t net now r places has cx ip header bytes made (shows i0 i t like) (between named) taken at there
+          segment_taken names side C G i0 t net now r places has cx ip header bytes made (shows i0 i t like) (between named) taken at there
       segment_by false None named there none =
           subst (λ (x : Option PacketValue). Ends places x) (goes_is i (taken || is_rst header.control) (packet_in (rst_reply ip header (length bytes))))
           (reset_if (taken || is_rst header.control) (may_tell i) named (λ quiet may c. none (named, there, quiet, may) c))
@@ -156,11 +156,11 @@ module _ (names : List ℕ → Bool) (side : Side) (C : Type 0) (i0 : InnerValue
         limited_of (Some (ControlV6 message bytes)) a.places
         (same_with a.places _ (ap (λ (ps : Places). sockets_of ps) to ∙ control_v6 ip message bytes) (λ p. control_v6_made p i ip message bytes))
     handed (Some (Bytes bytes)) is made a c inner to =
-        limited_of (Some (Bytes bytes)) a.places (subst (λ (ps : Places). Ends ps None) (sym to) (nothing names side C i0 t net now r places has))
+        limited_of (Some (Bytes bytes)) a.places (subst (λ (ps : Places). Ends ps None) (sym to) (nothing names side C G i0 t net now r places has))
     handed (Some (Datagram udp bytes)) is made a c inner to =
         let was : WasMade (party now (other side)) (datagram_of udp bytes) =
         subst (λ (p : Party). WasMade p (datagram_of udp bytes)) (sym r.rests) (made.datagrams udp bytes is) in
-        let moved = datagram_given names side C i0 t net now r places has (context_of i) ip udp bytes was a.places to in
+        let moved = datagram_given names side C G i0 t net now r places has (context_of i) ip udp bytes was a.places to in
         limited_of (Some (Datagram udp bytes)) a.places (record {
           moved = moved;
           made = port_error_made (party moved.next side) (is_some (datagram_place (context_of i) ip udp places) || taken) i ip payload;
@@ -172,22 +172,22 @@ module _ (names : List ℕ → Bool) (side : Side) (C : Type 0) (i0 : InnerValue
         (segment_by header bytes was (names_nobody i ip) (segment_place ip header places) refl refl (no_reset header bytes a c inner))
 
     hands : (caps : ChecksumCapabilities) (a : Arrived) → i.checksums ≡ caps → (C → a.inner.errors_until ≡ i0.errors_until) → Hands i places ip payload taken a →
-        HandsMade (party net (other side)) caps ip payload → Ended names side C i0 t net now a.places a.reply
+        HandsMade (party net (other side)) caps ip payload → Ended names side C G i0 t net now a.places a.reply
     hands caps a same c (carried, is, so) made =
         let end = handed carried is (subst (λ (c : ChecksumCapabilities). HandsMade (party net (other side)) c ip payload) (sym same) made) a c so.inner
         so.places_are in
-        let given : Ended names side C i0 t net now a.places (answered (limited_reply i places ip payload taken carried)) =
+        let given : Ended names side C G i0 t net now a.places (answered (limited_reply i places ip payload taken carried)) =
         record { moved = end.moved; made = answered_made (party end.moved.next side) (limited_reply i places ip payload taken carried) end.made } in
-        subst (λ (o : Option ReplyValue). Ended names side C i0 t net now a.places o) (sym so.reply) given
+        subst (λ (o : Option ReplyValue). Ended names side C G i0 t net now a.places o) (sym so.reply) given
 
   -- A CONTENT
 
   silent : (i : InnerValue) (places qs : Places) (a : Arrived) → (party now side).sockets ≡ sockets_of places → sockets_of qs ≡ sockets_of places →
-      IsSilent i qs a → Ended names side C i0 t net now a.places a.reply
+      IsSilent i qs a → Ended names side C G i0 t net now a.places a.reply
   silent i places qs a has same is =
-      let quiet : Ended names side C i0 t net now qs None = record { moved = stays names side C i0 t net now r (sockets_of qs) (has ∙ sym same); made = tt } in
-      subst (λ (ps : Places). Ended names side C i0 t net now ps a.reply) (sym is.places_are)
-      (subst (λ (o : Option ReplyValue). Ended names side C i0 t net now qs o) (sym is.reply) quiet)
+      let quiet : Ended names side C G i0 t net now qs None = record { moved = stays names side C G i0 t net now r (sockets_of qs) (has ∙ sym same); made = tt } in
+      subst (λ (ps : Places). Ended names side C G i0 t net now ps a.reply) (sym is.places_are)
+      (subst (λ (o : Option ReplyValue). Ended names side C G i0 t net now qs o) (sym is.reply) quiet)
 
   by_renewal : (i : InnerValue) (link : Option EthernetRepr) (sender : IpAddress) → IsAsAt i0 t i → IsAsAt i0 t (renewed_by i link sender)
   by_renewal i None sender like = like
@@ -216,7 +216,7 @@ module _ (names : List ℕ → Bool) (side : Side) (C : Type 0) (i0 : InnerValue
   module _ (i : InnerValue) (places : Places) (has : (party now side).sockets ≡ sockets_of places) (like : IsAsAt i0 t i) where
     here : (link : Option EthernetRepr) (ip : IpRepr) (payload : List ℕ) (a : Arrived) → is_astray i (source_of ip) (destination_of ip) ≡ false →
         (C → a.inner.errors_until ≡ i0.errors_until) → Hands (renewed i link ip) (packet_delivered ip payload places) ip payload (is_taken_raw ip places) a
-        → HandsMade (party net (other side)) i.checksums ip payload → Ended names side C i0 t net now a.places a.reply
+        → HandsMade (party net (other side)) i.checksums ip payload → Ended names side C G i0 t net now a.places a.reply
     here link ip payload a home c is made =
         let later = renewed_as i link ip like in
         hands (renewed i link ip) (packet_delivered ip payload places) ip payload (is_taken_raw ip places) (has ∙
@@ -225,24 +225,24 @@ module _ (names : List ℕ → Bool) (side : Side) (C : Type 0) (i0 : InnerValue
 
     v4 : (ours : Bool) (link : Option EthernetRepr) (ip : IpRepr) (payload : List ℕ) (a : Arrived) → is_astray i (source_of ip) (destination_of ip) ≡ false →
         (C → a.inner.errors_until ≡ i0.errors_until) → ArrivesV4 ours i places link ip payload a →
-        HandsMade (party net (other side)) i.checksums ip payload → Ended names side C i0 t net now a.places a.reply
+        HandsMade (party net (other side)) i.checksums ip payload → Ended names side C G i0 t net now a.places a.reply
     v4 true link ip payload a home c is made = here link ip payload a home c is made
     v4 false link ip payload a home c is made = silent i places (packet_delivered ip payload places) a has (packet_delivered_same ip payload places) is
 
     v6 : (ours : Bool) (link : Option EthernetRepr) (ip : IpRepr) (payload : List ℕ) (a : Arrived) → is_astray i (source_of ip) (destination_of ip) ≡ false →
         (C → a.inner.errors_until ≡ i0.errors_until) → ArrivesV6 ours i places link ip payload a →
-        HandsMade (party net (other side)) i.checksums ip payload → Ended names side C i0 t net now a.places a.reply
+        HandsMade (party net (other side)) i.checksums ip payload → Ended names side C G i0 t net now a.places a.reply
     v6 true link ip payload a home c is made = here link ip payload a home c is made
     v6 false link ip payload a home c is made = silent i places places a has refl is
 
     pub brings_moves : (content : Option IncomingValue) (a : Arrived) → IsHome i content → (C → a.inner.errors_until ≡ i0.errors_until) →
-        Brings i places content a → BringsMade (party net (other side)) i.checksums content → Ended names side C i0 t net now a.places a.reply
+        Brings i places content a → BringsMade (party net (other side)) i.checksums content → Ended names side C G i0 t net now a.places a.reply
     brings_moves None a home c is made = silent i places places a has refl is
     brings_moves (Some (Arp link packet)) a home c is made =
-        let told : Ended names side C i0 t net now places (Replies.told (arp_answer i packet)) =
-        record { moved = stays names side C i0 t net now r (sockets_of places) has; made = told_made (party now side) (arp_answer i packet) } in
-        subst (λ (ps : Places). Ended names side C i0 t net now ps a.reply) (sym is.places_are)
-        (subst (λ (o : Option ReplyValue). Ended names side C i0 t net now places o) (sym is.reply) told)
+        let told : Ended names side C G i0 t net now places (Replies.told (arp_answer i packet)) =
+        record { moved = stays names side C G i0 t net now r (sockets_of places) has; made = told_made (party now side) (arp_answer i packet) } in
+        subst (λ (ps : Places). Ended names side C G i0 t net now ps a.reply) (sym is.places_are)
+        (subst (λ (o : Option ReplyValue). Ended names side C G i0 t net now places o) (sym is.reply) told)
     brings_moves (Some (Ip4 link header piece payload)) a home c is made =
         v4 (is_for_us i (Address.Ipv4 header.dst_addr)) link (Ip.Ipv4 header) payload a home c is made
     brings_moves (Some (Ip6 link header payload)) a home c is made =

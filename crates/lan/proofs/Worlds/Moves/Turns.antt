@@ -1,5 +1,5 @@
 -- A socket's turn is a move, or none.
-use Rattle.std.proofs.Common.{◌≡◌, ℕ, ℤ, Bool, true, false, inl, inr, List, [], ◌∷◌, ◌++◌, length, Option, Some, None, IfSome, refl, sym, ap, ◌∙◌, subst, arith}
+use Rattle.std.proofs.Common.{◌≡◌, ◌⊎◌, is_some, ℕ, ℤ, Bool, true, false, inl, inr, List, [], ◌∷◌, ◌++◌, length, Option, Some, None, IfSome, refl, sym, ap, ◌∙◌, subst, arith}
 use Rattle.std.proofs.Common.{append-nil, ◌+◌}
 use Rattle.std.specs.Prelude.{slice_set, slice_index_or}
 use Rattle.interface.specs.Ip.{source_of, destination_of}
@@ -53,8 +53,10 @@ use Rattle.lan.specs.Worlds.Moves.Follows.{seen_place, sockets_of}
 use Rattle.interface.proofs.SameHost.{place_same}
 use Rattle.interface.specs.SameHost.{IsSameHost}
 use Rattle.interface_tables.specs.Inner.{InnerValue}
+use Rattle.lan.proofs.Worlds.Moves.Devices.{leaves as device_leaves}
 use Rattle.lan.proofs.Worlds.Moves.Following.{Reaches, Follows, narrowed}
 use Rattle.lan.proofs.Worlds.Moves.Held.{IsAsAt, IsShownAt, Stays, seen_at, shows_towards, source_by, sources, stays_before}
+use Rattle.lan.proofs.Worlds.Moves.Leave.{IsGiving, IsHindered, IsHindrance, leaves_so, leaving_by}
 use Rattle.lan.specs.Worlds.Moves.Fit.{IsFit}
 use Rattle.lan.specs.Worlds.Moves.Link.{IsLink}
 use Rattle.lan.specs.Worlds.Moves.Made.{Grows, MadeBy, IsMade, IsWide}
@@ -77,17 +79,17 @@ CanBeWide x = IsWellFormed x → IsWide x
 
 -- moves lead to these sockets, and a packet that is done with was made, as it leaves from this address
 pub record Gives (names : List ℕ →
-    Bool) (side : Side) (C : Type 0) (i0 : InnerValue) (t : ℤ) (net now : Net) (sockets : List (Option Parties.Socket)) (from : IpAddress) (sent : Bool) (packet : Option PacketValue) : Type 0 where
-  pub moved : Moved names side C i0 t net now sockets
+    Bool) (side : Side) (C G : Type 0) (i0 : InnerValue) (t : ℤ) (net now : Net) (sockets : List (Option Parties.Socket)) (from : IpAddress) (sent : Bool) (packet : Option PacketValue) : Type 0 where
+  pub moved : Moved names side C G i0 t net now sockets
   pub made : sent ≡ true → IfSome packet (IsMadeFrom (party moved.next side) from)
 
-module _ (names : List ℕ → Bool) (side : Side) (C : Type 0) (i0 : InnerValue) (t : ℤ) (net now : Net) (r : Reaches names side C i0 t net now) (before after : Places) (from : IpAddress) where
+module _ (names : List ℕ → Bool) (side : Side) (C G : Type 0) (i0 : InnerValue) (t : ℤ) (net now : Net) (r : Reaches names side C G i0 t net now) (before after : Places) (from : IpAddress) where
   -- the party has the sockets of the places, of which one holds this socket
   abbrev Has : Meta → Socket → Type 0
   Has m s = (party now side).sockets ≡ sockets_of (before ++ holding m s ∷ after)
 
   abbrev To : Meta → Socket → Bool → Option PacketValue → Type 0
-  To m s sent packet = Gives names side C i0 t net now (sockets_of (before ++ holding m s ∷ after)) from sent packet
+  To m s sent packet = Gives names side C G i0 t net now (sockets_of (before ++ holding m s ∷ after)) from sent packet
 
   found : (m : Meta) (s : Socket) → Has m s → Parties.socket_at (party now side) (length before) ≡ seen s
   found m s has =
@@ -99,9 +101,9 @@ module _ (names : List ℕ → Bool) (side : Side) (C : Type 0) (i0 : InnerValue
       ap (λ (xs : List (Option Parties.Socket)). slice_set xs (length before) (seen s')) has ∙
       set-middle seen_place before (holding m s) (holding m' s') after
 
-  abbrev looks_same : (m m' : Meta) (s s' : Socket) → seen s' ≡ seen s → Has m s → Moved names side C i0 t net now (sockets_of (before ++ holding m' s' ∷ after))
+  abbrev looks_same : (m m' : Meta) (s s' : Socket) → seen s' ≡ seen s → Has m s → Moved names side C G i0 t net now (sockets_of (before ++ holding m' s' ∷ after))
   looks_same m m' s s' same has =
-      stays names side C i0 t net now r (sockets_of (before ++ holding m' s' ∷ after)) (has ∙
+      stays names side C G i0 t net now r (sockets_of (before ++ holding m' s' ∷ after)) (has ∙
       sym (same-middle seen_place before (holding m s) (holding m' s') after same))
 
   -- a raw packet and a control message are neither segments nor datagrams
@@ -128,10 +130,10 @@ module _ (names : List ℕ → Bool) (side : Side) (C : Type 0) (i0 : InnerValue
       To m' (settled sent (Is.Udp v')) sent v'.offered
   udp_gives m m' cx v v' answer sent offers has = record {
     moved =
-        moves_by names side C i0 t net now r move (sockets_of (before ++ holding m' (settled sent (Is.Udp v')) ∷ after)) (found m (Is.Udp v) has, offers) refl
+        moves_by names side C G i0 t net now r move (sockets_of (before ++ holding m' (settled sent (Is.Udp v')) ∷ after)) (found m (Is.Udp v) has, offers) refl
         (changed m m' (Is.Udp v) (settled sent (Is.Udp v')) has)
         (grows_by (party now side) (Moves.party_after (party now side) move) [] (datagrams_of v'.offered) (sym (append-nil (party now side).segments)) refl)
-        (λ c. tt);
+        (λ c. tt) (λ c g. tt);
     made = λ done. there now side move (λ (y : Party). IfSome v'.offered (IsMadeFrom y from))
         (if_some v'.offered (IsMadeFrom (Moves.party_after (party now side) move) from) (λ x is.
         let took = takes_one (Udps.TakesDatagram cx) v (first v.queued) answer v' x offers is in
@@ -150,26 +152,27 @@ module _ (names : List ℕ → Bool) (side : Side) (C : Type 0) (i0 : InnerValue
 
   tcp_gives : (m m' : Meta) (cx : ContextValue) (v : TcpValue) (sent : Bool)
       → IfSome (offer_of cx v).socket.offered (λ o. LeavesFrom cx from o.header)
-      → (C → IsShownAt i0 t cx × IfSome (offer_of cx v).socket.offered (λ o. from ≡ source_by i0 o.header)) → Has m (Is.Tcp v) →
+      → (C → IsShownAt i0 t cx × IfSome (offer_of cx v).socket.offered (λ o. from ≡ source_by i0 o.header))
+      → (C → G → IfSome (offer_of cx v).socket.offered (λ o. (sent ≡ true) ⊎ IsHindered i0 t (λ i. leaving_by i o.header))) → Has m (Is.Tcp v) →
       To m' (settled sent (Is.Tcp (offer_of cx v).socket)) sent (offered_packet (offer_of cx v).socket)
-  tcp_gives m m' cx v true leaves held has = record {
+  tcp_gives m m' cx v true leaves held goes has = record {
     moved =
-        moves_by names side C i0 t net now r move (sockets_of (before ++ holding m' (settled true (Is.Tcp (offer_of cx v).socket)) ∷ after))
+        moves_by names side C G i0 t net now r move (sockets_of (before ++ holding m' (settled true (Is.Tcp (offer_of cx v).socket)) ∷ after))
         (found m (Is.Tcp v) has, leaves) refl
         (changed m m' (Is.Tcp v) (settled true (Is.Tcp (offer_of cx v).socket)) has)
-        (more_offered (Moves.party_after (party now side) move) (offer_of cx v).socket.offered (offer_of cx v).socket.queued.queue refl refl) held;
+        (more_offered (Moves.party_after (party now side) move) (offer_of cx v).socket.offered (offer_of cx v).socket.queued.queue refl refl) held goes;
     made = λ done. there now side move (λ (y : Party). IfSome (offered_packet (offer_of cx v).socket) (IsMadeFrom y from))
         (if_some (offered_packet (offer_of cx v).socket) (IsMadeFrom (Moves.party_after (party now side) move) from) (λ x is.
         tcp_made (Moves.party_after (party now side) move) from (party now side).segments cx v x refl is));
   } where
     move : Moves.Move
     move = Moves.Offers (length before) cx v from true
-  tcp_gives m m' cx v false leaves held has = record {
+  tcp_gives m m' cx v false leaves held goes has = record {
     moved =
-        moves_by names side C i0 t net now r move (sockets_of (before ++ holding m' (settled false (Is.Tcp (offer_of cx v).socket)) ∷ after))
+        moves_by names side C G i0 t net now r move (sockets_of (before ++ holding m' (settled false (Is.Tcp (offer_of cx v).socket)) ∷ after))
         (found m (Is.Tcp v) has, leaves) refl
         (changed m m' (Is.Tcp v) (settled false (Is.Tcp (offer_of cx v).socket)) has)
-        (grows_to (party now side) (Moves.party_after (party now side) move) refl refl) held;
+        (grows_to (party now side) (Moves.party_after (party now side) move) refl refl) held goes;
     made = λ done. absurd (cc);
   } where
     move : Moves.Move
@@ -186,15 +189,23 @@ module _ (names : List ℕ → Bool) (side : Side) (C : Type 0) (i0 : InnerValue
   source_given i like None queue given = tt
   source_given i like (Some o) queue given = given ∙ sources i0 i (seen_at i0 i t like) o.header
 
+  -- its segment goes as its packet does
+  way_so : (sent : Bool) (o : Option OpenOffer) (queue : List ℕ) →
+      IfSome (packet_with o queue) (λ x. (sent ≡ true) ⊎ IsHindered i0 t (λ j. (sourced j x).header)) →
+      IfSome o (λ o. (sent ≡ true) ⊎ IsHindered i0 t (λ j. leaving_by j o.header))
+  way_so sent None queue goes = tt
+  way_so sent (Some o) queue goes = goes
+
   module _ (i : InnerValue) (like : IsAsAt i0 t i) where
     pub gives : (m m' : Meta) (cx : ContextValue) (s offered : Socket) (answer : Answer.Offer) (sent : Bool) → IsFit s → Offers cx s answer offered
         → IfSome (offered_by offered) (λ x. LeavesFrom cx from x.header)
-        → (C → IsShownAt i0 t cx × IfSome (offered_by offered) (λ x. from ≡ source_of (sourced i x).header)) → Has m s
+        → (C → IsShownAt i0 t cx × IfSome (offered_by offered) (λ x. from ≡ source_of (sourced i x).header))
+        → (C → G → IfSome (offered_by offered) (λ x. (sent ≡ true) ⊎ IsHindered i0 t (λ i. (sourced i x).header))) → Has m s
         → To m' (settled sent offered) sent (offered_by offered)
-    gives m m' cx (Is.Raw v) (Is.Raw v') answer sent fit offers leaves held has = raw_gives m m' cx v v' answer sent offers has
-    gives m m' cx (Is.Icmp v) (Is.Icmp v') answer sent fit offers leaves held has = icmp_gives m m' cx v v' answer sent offers has
-    gives m m' cx (Is.Udp v) (Is.Udp v') answer sent fit offers leaves held has = udp_gives m m' cx v v' answer sent offers has
-    gives m m' cx (Is.Tcp v) (Is.Tcp v') answer sent fit offers leaves held has =
+    gives m m' cx (Is.Raw v) (Is.Raw v') answer sent fit offers leaves held goes has = raw_gives m m' cx v v' answer sent offers has
+    gives m m' cx (Is.Icmp v) (Is.Icmp v') answer sent fit offers leaves held goes has = icmp_gives m m' cx v v' answer sent offers has
+    gives m m' cx (Is.Udp v) (Is.Udp v') answer sent fit offers leaves held goes has = udp_gives m m' cx v v' answer sent offers has
+    gives m m' cx (Is.Tcp v) (Is.Tcp v') answer sent fit offers leaves held goes has =
         let o = (offer_of cx v).socket.offered in
         let queue = (offer_of cx v).socket.queued.queue in
         subst (λ (w : TcpValue). To m' (settled sent (Is.Tcp w)) sent (offered_packet w)) (sym offers.1) (tcp_gives m m' cx v sent
@@ -203,10 +214,12 @@ module _ (names : List ℕ → Bool) (side : Side) (C : Type 0) (i0 : InnerValue
           (held c).0,
           source_given i like o queue
               (subst (λ (w : TcpValue). IfSome (offered_packet w) (λ x. from ≡ source_of (sourced i x).header)) offers.1 (held c).1),
-        )) has)
-    gives m m' cx (Is.Dhcpv4 v) offered answer sent fit offers leaves held has = absurd fit.0
-    gives m m' cx (Is.Dns v) offered answer sent fit offers leaves held has = absurd fit.0
-    gives m m' cx s offered answer sent fit offers leaves held has = absurd offers
+        ))
+        (λ c g. way_so sent o queue (subst (λ (w : TcpValue). IfSome (offered_packet w) (λ x. (sent ≡ true) ⊎ IsHindered i0 t (λ j. (sourced j x).header)))
+        offers.1 (goes c g))) has)
+    gives m m' cx (Is.Dhcpv4 v) offered answer sent fit offers leaves held goes has = absurd fit.0
+    gives m m' cx (Is.Dns v) offered answer sent fit offers leaves held goes has = absurd fit.0
+    gives m m' cx s offered answer sent fit offers leaves held goes has = absurd offers
 
 -- an offer that is silent leaves none open
 none_open : (o : Option OpenOffer) (queue : List ℕ) → packet_with o queue ≡ None → o ≡ None
@@ -240,16 +253,16 @@ nowhere = Address.Ipv4 (record { 0 = [] })
 -- THE TURN
 
 module _ {D : Type 0} (moves : D → Move → D → Type 0) (turn_of : Option IpAddress) (names : List ℕ → Bool) (side : Side) (i0 : InnerValue) (t : ℤ) (net : Net) (q : Party) (L : ℕ →
-    State D → Party → Type 0) (link : IsLink moves q L) (n : ℕ) (h : HostValue) (before after : Places) where
+    State D → Party → Type 0) (link : IsLink moves q L) (Since Gives : D → Type 0) (giving : IsGiving moves Since Gives) (n : ℕ) (h : HostValue) (before after : Places) where
   abbrev At : Sender D → Option (Item Socket) → State D
   At x o = sending_as h x (before ++ record { inner = o } ∷ after)
 
   -- before the turn, and behind it
   abbrev Now : State D → Type 0
-  Now s = Follows names side i0 t (L n) net s
+  Now s = Follows names side Gives i0 t (L n) net s
 
   abbrev Next : State D → Type 0
-  Next s = Follows names side i0 t (L (n + 1)) net s
+  Next s = Follows names side Gives i0 t (L (n + 1)) net s
 
   uncounted : (s : State D) → Now s → Next s
   uncounted s f = record { now = f.now; reaches = f.reaches; sockets = f.sockets; link = link.more n (n + 1) s (party f.now side) (omega arith) f.link }
@@ -278,7 +291,7 @@ module _ {D : Type 0} (moves : D → Move → D → Type 0) (turn_of : Option Ip
   })
 
   -- moves lead on, while nothing goes
-  abbrev moved_on : (x : Sender D) (o : Option (Item Socket)) (places : Places) (f : Now (At x o)) → (m : Moved names side (Stays i0 x.inner) i0 t net f.now (sockets_of places)) →
+  abbrev moved_on : (x : Sender D) (o : Option (Item Socket)) (places : Places) (f : Now (At x o)) → (m : Moved names side (Stays i0 x.inner) (Gives x.device) i0 t net f.now (sockets_of places)) →
       Now (sending_as h x places)
   moved_on x o places f m = record {
     now = m.next;
@@ -298,12 +311,12 @@ module _ {D : Type 0} (moves : D → Move → D → Type 0) (turn_of : Option Ip
       let cx = context_for x.inner item.socket in
       let none : offered_by offered ≡ None =
       none_offered (offered_by offered) changed (has_packet item.socket offered cx (Offer.Silent changed) offers) in
-      let given = gives names side (Stays i0 x.inner) i0 t net f.now f.reaches before after nowhere x.inner like item.meta unmarked cx item.socket offered (Offer.Silent changed) false
+      let given = gives names side (Stays i0 x.inner) (Gives x.device) i0 t net f.now f.reaches before after nowhere x.inner like item.meta unmarked cx item.socket offered (Offer.Silent changed) false
       fit offers (subst (λ (o : Option PacketValue). IfSome o (λ x. LeavesFrom cx nowhere x.header)) (sym none) tt)
       (λ c. (
         shows_towards i0 x.inner t like (remote_of item.socket) c.0,
         subst (λ (o : Option PacketValue). IfSome o (λ y. nowhere ≡ source_of (sourced x.inner y).header)) (sym none) tt,
-      )) f.sockets in
+      )) (λ c g. subst (λ (o : Option PacketValue). IfSome o (λ y. (false ≡ true) ⊎ IsHindered i0 t (λ j. (sourced j y).header))) (sym none) tt) f.sockets in
       let same : settled false offered ≡ offered = unsettled offered none in
       let still : Now (At x (Some (record { meta = unmarked; socket = offered }))) =
       subst (λ (s : Socket). Now (At x (Some (record { meta = unmarked; socket = s })))) same
@@ -311,13 +324,25 @@ module _ {D : Type 0} (moves : D → Move → D → Type 0) (turn_of : Option Ip
       subst (λ (i : Item Socket). Now (At x' (Some i))) (sym answers.2)
       (subst (λ (y : Sender D). Now (At y (Some (record { meta = unmarked; socket = offered })))) (sym answers.1) still)
 
+  -- its packet is done with, or the host had no way for it
+  or_hindered : (x : Sender D) (leaving packet : PacketValue) (done : Bool) → leaving ≡ sourced x.inner packet → Shown x → x.inner.paths ≡ [] →
+      (done ≡ true) ⊎ IsHindrance (plan_at x leaving) → (done ≡ true) ⊎ IsHindered i0 t (λ j. (sourced j packet).header)
+  or_hindered x leaving packet done is like none (inl so) = inl so
+  or_hindered x leaving packet done is like none (inr stays) = inr (record {
+    i = x.inner;
+    like = like;
+    paths = none;
+    busy = is_some x.left;
+    plan = subst (λ (p : PacketValue). IsHindrance (plan_at x p)) is stays;
+  })
+
   sends : (x x' : Sender D) (item item' : Item Socket) (offered : Socket) (changed : Bool) (turned : Turned) (packet : Option PacketValue) →
-      Shown x → IsSameHost x.inner x'.inner → packet ≡ offered_by offered → IfSome packet CanBeWide → IsFit item.socket
+      Since x.device → Shown x → IsSameHost x.inner x'.inner → packet ≡ offered_by offered → IfSome packet CanBeWide → IsFit item.socket
       → Offers (context_for x.inner item.socket) item.socket (Offer.Packet changed) offered →
       SendsBy moves turn_of packet x (record item { socket = offered }) changed turned x' item'
       → Now (At x (Some item)) → Next (At x' (Some item'))
-  sends x x' item item' offered changed turned None like same is wide fit offers goes f = absurd goes
-  sends x x' item item' offered changed turned (Some packet) like same is wide fit offers sending f =
+  sends x x' item item' offered changed turned None since like same is wide fit offers goes f = absurd goes
+  sends x x' item item' offered changed turned (Some packet) since like same is wide fit offers sending f =
       let leaving = sending.0 in
       let goes : SendsAs moves turn_of leaving x (record item { socket = offered }) changed turned x' item' = sending.3 in
       let sent = goes.0 in
@@ -326,56 +351,65 @@ module _ {D : Type 0} (moves : D → Move → D → Type 0) (turn_of : Option Ip
       let cx = context_for x.inner item.socket in
       let from = source_of (sourced x.inner packet).header in
       let from_it : LeavesFrom cx from packet.header = leaves_from x.inner packet in
-      let given = gives names side (Stays i0 x.inner) i0 t net f.now f.reaches before after from x.inner like item.meta meta cx item.socket
+      let back : Gives x'.device → Gives x.device =
+      device_leaves moves (λ (d : D). Gives d → Gives x.device) (λ d d' m moved had given. had (giving.had d d' m moved given)) turn_of x x' (λ g. g)
+      item.meta leaving sent goes.1 in
+      let reaches = narrowed names side (Stays i0 x.inner) (Stays i0 x.inner) (Gives x.device) (Gives x'.device) i0 t net f.now (λ c. c) back f.reaches in
+      let given = gives names side (Stays i0 x.inner) (Gives x'.device) i0 t net f.now reaches before after from x.inner like item.meta meta cx item.socket
       offered (Offer.Packet changed) (is_done sent) fit offers (subst (λ (o : Option PacketValue). IfSome o (λ y. LeavesFrom cx from y.header)) is from_it)
       (λ c. (
         shows_towards i0 x.inner t like (remote_of item.socket) c.0,
         subst (λ (o : Option PacketValue). IfSome o (λ y. from ≡ source_of (sourced x.inner y).header)) is refl,
-      )) f.sockets in
-      let on = moved_on x (Some item) places f given.moved in
+      ))
+      (λ c g. subst (λ (o : Option PacketValue). IfSome o (λ y. (is_done sent ≡ true) ⊎ IsHindered i0 t (λ j. (sourced j y).header))) is
+      (or_hindered x leaving packet (is_done sent) sending.1 like c.0 (leaves_so moves Since Gives giving turn_of x x' item.meta leaving sent goes.1 since g)))
+      f.sockets in
+      let linked : L n (sending_as h x places) (party given.moved.next side) =
+      link.grown n (At x (Some item)) places (party f.now side) (party given.moved.next side) given.moved.grows f.link in
       let told : Next (sending_as h x' places) = record {
-        now = on.now;
-        reaches = narrowed names side (Stays i0 x.inner) (Stays i0 x'.inner) i0 t net on.now (stays_before i0 x.inner x'.inner same) on.reaches;
-        sockets = on.sockets;
+        now = given.moved.next;
+        reaches = narrowed names side (Stays i0 x.inner) (Stays i0 x'.inner) (Gives x'.device) (Gives x'.device) i0 t net given.moved.next
+            (stays_before i0 x.inner x'.inner same) (λ g. g) given.moved.reaches;
+        sockets = given.moved.sockets_are;
         link = leaves x x' places (party given.moved.next side) item.meta leaving sent
             (subst IsWide (sym sending.1) (sourced_wide x.inner packet (wide sending.2) (subst IsWellFormed sending.1 goes.4)))
             (λ done. subst (IsMade (party given.moved.next side)) (sym sending.1)
             (sourced_made (party given.moved.next side) x.inner packet
-            (some_so (offered_by offered) (IsMadeFrom (party given.moved.next side) from) packet (sym is) (given.made done)))) goes.1 on.link;
+            (some_so (offered_by offered) (IsMadeFrom (party given.moved.next side) from) packet (sym is) (given.made done)))) goes.1 linked;
       } in
       subst (λ (i : Item Socket). Next (At x' (Some i))) (sym goes.3) told
 
-  asks : (x x' : Sender D) (item item' : Item Socket) (answer : Answer.Offer) (offered : Socket) (turned : Turned) → Shown x → IsSameHost x.inner x'.inner
+  asks : (x x' : Sender D) (item item' : Item Socket) (answer : Answer.Offer) (offered : Socket) (turned : Turned) → Since x.device → Shown x → IsSameHost x.inner x'.inner
       → IfSome (offered_by offered) CanBeWide → IsFit item.socket
       → Offers (context_for x.inner item.socket) item.socket answer offered → Answers moves turn_of answer x (record item { socket = offered }) turned x' item'
       → Now (At x (Some item)) → Next (At x' (Some item'))
-  asks x x' item item' (Offer.Silent changed) offered turned like same wide fit offers answers f =
+  asks x x' item item' (Offer.Silent changed) offered turned since like same wide fit offers answers f =
       uncounted (At x' (Some item')) (silent x x' item item' offered changed turned like fit offers answers f)
-  asks x x' item item' (Offer.Packet changed) offered turned like same wide fit offers answers f =
-      sends x x' item item' offered changed turned (offered_by offered) like same refl wide fit offers answers f
+  asks x x' item item' (Offer.Packet changed) offered turned since like same wide fit offers answers f =
+      sends x x' item item' offered changed turned (offered_by offered) since like same refl wide fit offers answers f
 
   turns : (waits : Bool) (x x' : Sender D) (item item' : Item Socket) (turned : Turned) →
-      TurnsIf moves turn_of waits x (let_through x.inner item) turned x' item' → Shown x → IsSameHost x.inner x'.inner → IsFit item.socket
+      TurnsIf moves turn_of waits x (let_through x.inner item) turned x' item' → Since x.device → Shown x → IsSameHost x.inner x'.inner → IsFit item.socket
       → Now (At x (Some item)) → Next (At x' (Some item'))
-  turns true x x' item item' turned waits like same fit f =
+  turns true x x' item item' turned waits since like same fit f =
       uncounted (At x' (Some item')) (stays_put x x' (Some item) (Some item') waits.1 (ap (λ (i : Item Socket). seen i.socket) waits.2) f)
-  turns false x x' item item' turned asked like same fit f =
+  turns false x x' item item' turned asked since like same fit f =
       let through = let_through x.inner item in
-      asks x x' through item' asked.0 asked.1 turned like same
+      asks x x' through item' asked.0 asked.1 turned since like same
       (if_some (offered_by asked.1) CanBeWide
       (λ p is formed. offered_wide (context_for x.inner item.socket) item.socket asked.1 asked.0 p fit asked.2 is formed))
       fit asked.2 asked.3
       (stays_put x x (Some item) (Some through) refl refl f)
 
-  items : (x x' : Sender D) (o o' : Option (Item Socket)) (turned : Turned) → ItemTurns moves turn_of o x turned x' o' → Shown x → IsSameHost x.inner x'.inner → OfItem IsFit o → Now (At x o) →
+  items : (x x' : Sender D) (o o' : Option (Item Socket)) (turned : Turned) → ItemTurns moves turn_of o x turned x' o' → Since x.device → Shown x → IsSameHost x.inner x'.inner → OfItem IsFit o → Now (At x o) →
       Next (At x' o')
-  items x x' None None turned turn like same fit f = uncounted (At x' None) (stays_put x x' None None turn.1 refl f)
-  items x x' (Some item) (Some item') turned turn like same fit f =
-      turns (is_waiting x.inner item.meta) x x' item item' turned turn like same fit f
-  items x x' None (Some item') turned turn like same fit f = absurd turn
-  items x x' (Some item) None turned turn like same fit f = absurd turn
+  items x x' None None turned turn since like same fit f = uncounted (At x' None) (stays_put x x' None None turn.1 refl f)
+  items x x' (Some item) (Some item') turned turn since like same fit f =
+      turns (is_waiting x.inner item.meta) x x' item item' turned turn since like same fit f
+  items x x' None (Some item') turned turn since like same fit f = absurd turn
+  items x x' (Some item) None turned turn since like same fit f = absurd turn
 
-  pub turn_follows : (p p' : SocketStorage Socket) (x x' : Sender D) (turned : Turned) → PlaceTurns moves turn_of x p turned x' p' → Shown x → OfItem IsFit p.inner
+  pub turn_follows : (p p' : SocketStorage Socket) (x x' : Sender D) (turned : Turned) → PlaceTurns moves turn_of x p turned x' p' → Since x.device → Shown x → OfItem IsFit p.inner
       → Now (sending_as h x (before ++ p ∷ after)) → Next (sending_as h x' (before ++ p' ∷ after))
-  turn_follows p p' x x' turned turn like fit f =
-      items x x' p.inner p'.inner turned turn like (place_same moves turn_of x x' p p' turned turn) fit f
+  turn_follows p p' x x' turned turn since like fit f =
+      items x x' p.inner p'.inner turned turn since like (place_same moves turn_of x x' p p' turned turn) fit f

@@ -1,0 +1,134 @@
+-- What each move of a device keeps of it is kept by each thing that a poll does.
+use Rattle.std.proofs.Common.{◌≡◌, ℕ, Bool, true, false, inl, inr, List, Option, Some, None, is_some, sym, ap, subst}
+use Rattle.net_base.specs.Device.{Move, Took, Empty, Allowed, Emitted, Denied}
+use Rattle.ip_wire.specs.IpAddress.{IpAddress}
+use Rattle.ip_wire.specs.IpRepr.{IpRepr}
+use Rattle.sockets.specs.Offer as Answer
+use Rattle.sockets.specs.Offer.TheVariants as Offer
+use Rattle.sockets.specs.Packet.{PacketValue}
+use Rattle.sockets.specs.Socket.{offered_by}
+use Rattle.sockets.specs.declared.socket.Socket.{Socket}
+use Rattle.interface_egress.specs.Inner.{InnerValue}
+use Rattle.interface_egress.specs.Departure as Departures
+use Rattle.interface_egress.specs.Departure.{Departure}
+use Rattle.interface_egress.specs.Emits.{Emits}
+use Rattle.interface_egress.specs.Fragments.{LeftValue}
+use Rattle.interface_egress.specs.GoesOut.{GoesOut, PieceGoesOut, Asked, Went, WasCut, cut_of, numbered, frame_of, frame_len_of}
+use Rattle.interface_egress.specs.Plan.{plan_of}
+use Rattle.interface_egress.specs.declared.frame.Question.{Question}
+use Rattle.interface_egress.specs.declared.plan.Plan.{Plan}
+use Rattle.interface_egress.specs.declared.plan.Plan.TheVariants as Way
+use Rattle.interface_egress.specs.declared.socket_meta.Meta.{Meta}
+use Rattle.interface_egress.specs.declared.socket_set.Item.{Item}
+use Rattle.interface_egress.specs.declared.socket_set.SocketStorage.{SocketStorage}
+use Rattle.interface_egress.specs.declared.way_out.Sent.{Sent}
+use Rattle.interface_egress.specs.declared.way_out.Sent.TheVariants as Outcome
+use Rattle.interface_ingress.specs.Arrives as Replies
+use Rattle.interface_ingress.specs.Arrives.{ReplyValue}
+use Rattle.interface.specs.Host.{Sender}
+use Rattle.interface.specs.Ingress.{Takes, Replied, is_awaited, sender_of}
+use Rattle.interface.specs.State.{State}
+use Rattle.interface.specs.Turn.{Leaves, SendsBy, Answers, TurnsIf, ItemTurns, PlaceTurns, is_waiting, let_through}
+use Rattle.interface.specs.WayOut.{PieceLeaves}
+use Rattle.interface.specs.declared.turn.Turned.{Turned}
+
+module _ {D : Type 0} (moves : D → Move → D → Type 0) (Q : D → Type 0) (keeps : (d d' : D) (m : Move) → moves d m d' → Q d → Q d') where
+  pub same : (d d' : D) → d' ≡ d → Q d → Q d'
+  same d d' is holds = subst Q (sym is) holds
+
+  -- A FRAME GOES, OR IS REFUSED
+
+  emits : (d d' : D) (frame : List ℕ) (len : ℕ) (gone : Bool) → Emits moves d frame len gone d' → Q d → Q d'
+  emits d d' frame len true is holds = keeps d d' (Emitted frame) is.0 holds
+  emits d d' frame len false is holds = keeps d d' (Denied len) is holds
+
+  asked : (d d' : D) (i i' : InnerValue) (q : Question) (sent : Sent) → Asked moves d i q sent d' i' → Q d → Q d'
+  asked d d' i i' q Outcome.Waits is holds = keeps d d' (Emitted _) is.0.0 holds
+  asked d d' i i' q Outcome.Refused is holds = keeps d d' (Denied _) is.0 holds
+  asked d d' i i' q Outcome.Gone is holds = absurd is
+  asked d d' i i' q Outcome.Dropped is holds = absurd is
+  asked d d' i i' q Outcome.Busy is holds = absurd is
+
+  went : (d d' : D) (i i' : InnerValue) (header : IpRepr) (p : Departure) (sent : Sent) → Went moves d i header p sent d' i' → Q d → Q d'
+  went d d' i i' header p Outcome.Gone is holds = keeps d d' (Emitted _) is.0.0 holds
+  went d d' i i' header p Outcome.Refused is holds = keeps d d' (Denied _) is.0 holds
+  went d d' i i' header p Outcome.Waits is holds = absurd is
+  went d d' i i' header p Outcome.Dropped is holds = absurd is
+  went d d' i i' header p Outcome.Busy is holds = absurd is
+
+  was_cut : (d d' : D) (i i' : InnerValue) (l l' : Option LeftValue) (c : LeftValue) (sent : Sent) → WasCut moves d i l c sent d' i' l' → Q d → Q d'
+  was_cut d d' i i' l l' c Outcome.Gone is holds = keeps d d' (Emitted _) is.0.0 holds
+  was_cut d d' i i' l l' c Outcome.Refused is holds = keeps d d' (Denied _) is.0 holds
+  was_cut d d' i i' l l' c Outcome.Waits is holds = absurd is
+  was_cut d d' i i' l l' c Outcome.Dropped is holds = absurd is
+  was_cut d d' i i' l l' c Outcome.Busy is holds = absurd is
+
+  goes : (d d' : D) (i i' : InnerValue) (l l' : Option LeftValue) (p : PacketValue) (plan : Plan) (sent : Sent) → GoesOut moves d i l p plan sent d' i' l' →
+      Q d → Q d'
+  goes d d' i i' l l' p Way.Drop sent is holds = same d d' is.1.0 holds
+  goes d d' i i' l l' p Way.NoRoute sent is holds = same d d' is.1.0 holds
+  goes d d' i i' l l' p Way.Wait sent is holds = same d d' is.1.0 holds
+  goes d d' i i' l l' p Way.Busy sent is holds = same d d' is.1.0 holds
+  goes d d' i i' l l' p (Way.Ask q) sent is holds = asked d d' i i' q sent is.0 holds
+  goes d d' i i' l l' p (Way.Go to) sent is holds = went d d' i i' p.header (Departures.Whole to (numbered i p)) sent is.0 holds
+  goes d d' i i' l l' p (Way.Cut to) sent is holds = was_cut d d' i i' l l' (cut_of i to p) sent is holds
+
+  piece_goes : (d d' : D) (i : InnerValue) (l : LeftValue) (gone : Bool) (l' : Option LeftValue) → PieceGoesOut moves d i l gone d' l' → Q d → Q d'
+  piece_goes d d' i l true l' is holds = keeps d d' (Emitted _) is.0.0 holds
+  piece_goes d d' i l false l' is holds = keeps d d' (Denied _) is.0 holds
+
+  pub piece_leaves : (l : LeftValue) (x x' : Sender D) (gone : Bool) → PieceLeaves moves l x gone x' → Q x.device → Q x'.device
+  piece_leaves l x x' gone (inl stays) holds = keeps x.device x'.device (Allowed x.inner.moment false) stays.0 holds
+  piece_leaves l x x' gone (inr (mid, leave, out)) holds =
+      piece_goes mid x'.device x.inner l gone x'.left out (keeps x.device mid (Allowed x.inner.moment true) leave holds)
+
+  -- A FRAME COMES
+
+  replied : (awaited : Bool) (reply : Option ReplyValue) (x x' : Sender D) → Replied moves awaited reply x x' → Q x.device → Q x'.device
+  replied awaited None x x' is holds = same x.device x'.device (ap (λ (y : Sender D). y.device) is) holds
+  replied awaited (Some (Replies.Tells packet)) x x' is holds =
+      emits x.device x'.device (frame_of x.inner (Departures.Tells packet)) (frame_len_of x.inner (Departures.Tells packet)) is.0 is.1 holds
+  replied awaited (Some (Replies.Answers p)) x x' (inl held) holds = same x.device x'.device (ap (λ (y : Sender D). y.device) held.0) holds
+  replied awaited (Some (Replies.Answers p)) x x' (inr answers) holds =
+      goes x.device x'.device x.inner x'.inner x.left x'.left p (plan_of x.inner (is_some x.left) p.header) answers.0 answers.1 holds
+
+  pub takes : (s s' : State D) (answer : Option Bool) → Takes moves s answer s' → Q s.device → Q s'.device
+  takes s s' None is holds = keeps s.device s'.device (Empty s.host.inner.moment) is.0 holds
+  takes s s' (Some false) is holds = keeps s.device s'.device (Took s.host.inner.moment is.0) is.1 holds
+  takes s s' (Some true) (frame, mid, took, read, (content, reads, receives)) holds =
+      replied (is_awaited receives.0) receives.0.reply (record { device = mid; inner = receives.0.inner; left = s.host.left }) (sender_of moves s') receives.3
+      (keeps s.device mid (Took s.host.inner.moment frame) took holds)
+
+  -- A TURN
+
+  module _ (turn : Option IpAddress) (x x' : Sender D) (holds : Q x.device) where
+    pub leaves : (m : Meta) (p : PacketValue) (sent : Sent) → Leaves moves turn x m p sent x' → Q x'.device
+    leaves m p sent (inl rests) = keeps x.device x'.device (Allowed x.inner.moment rests.0) rests.1 holds
+    leaves m p sent (inr (mid, leave, out, free)) =
+        goes mid x'.device x.inner x'.inner x.left x'.left p (plan_of x.inner (is_some x.left) p.header) sent out
+        (keeps x.device mid (Allowed x.inner.moment true) leave holds)
+
+    unmoved : x' ≡ x → Q x'.device
+    unmoved is = same x.device x'.device (ap (λ (y : Sender D). y.device) is) holds
+
+    sends : (o : Option PacketValue) (item item' : Item Socket) (changed : Bool) (turned : Turned) → SendsBy moves turn o x item changed turned x' item' →
+        Q x'.device
+    sends None item item' changed turned is = absurd is
+    sends (Some p) item item' changed turned is = leaves item.meta is.0 is.3.0 is.3.1
+
+    answers : (answer : Answer.Offer) (item item' : Item Socket) (turned : Turned) → Answers moves turn answer x item turned x' item' → Q x'.device
+    answers (Offer.Silent changed) item item' turned is = unmoved is.1
+    answers (Offer.Packet changed) item item' turned is = sends (offered_by item.socket) item item' changed turned is
+
+    turns : (waits : Bool) (item item' : Item Socket) (turned : Turned) → TurnsIf moves turn waits x item turned x' item' → Q x'.device
+    turns true item item' turned is = unmoved is.1
+    turns false item item' turned (answer, offered, offers, is) = answers answer (record item { socket = offered }) item' turned is
+
+    items : (o o' : Option (Item Socket)) (turned : Turned) → ItemTurns moves turn o x turned x' o' → Q x'.device
+    items None None turned is = unmoved is.1
+    items (Some item) (Some item') turned is = turns (is_waiting x.inner item.meta) (let_through x.inner item) item' turned is
+    items None (Some item') turned is = absurd is
+    items (Some item) None turned is = absurd is
+
+    pub place_turns : (p p' : SocketStorage Socket) (turned : Turned) → PlaceTurns moves turn x p turned x' p' → Q x'.device
+    place_turns p p' turned is = items p.inner p'.inner turned is

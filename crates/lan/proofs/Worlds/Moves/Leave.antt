@@ -1,0 +1,125 @@
+-- What a socket offers in a poll goes, where its device gives leave behind the poll, and there is a way.
+use Rattle.std.proofs.Common.{◌≡◌, ◌⊎◌, inl, inr, ℕ, ℤ, Bool, true, false, if◌then◌else◌, List, [], ◌∷◌, ◌++◌, Option, Some, None, IfSome, refl, sym, ap}
+use Rattle.interface.specs.Host.{Sender}
+use Rattle.interface.specs.Ip.{source_of, destination_of}
+use Rattle.interface.specs.IpRepr.{IpRepr}
+use Rattle.interface.specs.Turn.{Leaves, is_done, is_given_up, is_out_of_turn, plan_at, with_source}
+use Rattle.interface_ingress.specs.IpAddress.{IpAddress}
+use Rattle.interface_egress.specs.Fragments.{LeftValue}
+use Rattle.interface_egress.specs.GoesOut.{GoesOut, WasCut, Went, cut_of, numbered}
+use Rattle.interface_egress.specs.Departure.{Departure, Whole}
+use Rattle.interface_egress.specs.Plan.{plan_of}
+use Rattle.interface_egress.specs.declared.plan.Plan.{Plan}
+use Rattle.interface_egress.specs.declared.plan.Plan.TheVariants as Way
+use Rattle.interface_egress.specs.declared.socket_meta.Meta.{Meta}
+use Rattle.interface_egress.specs.declared.way_out.Sent.{Sent}
+use Rattle.interface_egress.specs.declared.way_out.Sent.TheVariants as Outcome
+use Rattle.interface_tables.specs.Inner.{InnerValue, may_come_from}
+use Rattle.interface_tables.specs.Source.{source_for}
+use Rattle.lan_base.specs.Device.{Move, Allowed, Denied}
+use Rattle.sockets.specs.Packet.{PacketValue}
+use Rattle.tcp_model.specs.Offers.{offer_of}
+use Rattle.lan.specs.Worlds.AtLink.Moves as Moves
+use Rattle.lan.specs.Worlds.AtLink.Moves.{Step}
+use Rattle.lan.specs.Worlds.AtLink.Moves.Move.{Offers}
+use Rattle.lan.proofs.Worlds.Moves.Held.{IsAsAt}
+
+-- DEVICES: what holds of one since a poll began, and of one that gave leave and refused nothing up to now
+
+pub record IsGiving {D : Type 0} (moves : D → Move → D → Type 0) (Since Gives : D → Type 0) : Type 0 where
+  pub since : (old new : D) (m : Move) → moves old m new → Since old → Since new
+  pub had : (old new : D) (m : Move) → moves old m new → Gives new → Gives old
+  pub leave : (old new : D) (t : ℤ) → moves old (Allowed t false) new → Since old → Gives new → ⊥
+  pub takes : (old new : D) (len : ℕ) → moves old (Denied len) new → Since old → Gives new → ⊥
+
+-- WHAT KEEPS A PACKET
+
+-- a packet with this plan stays with its socket
+abbrev pub IsHindrance : Plan → Type 0
+IsHindrance Way.NoRoute = Unit {0}
+IsHindrance Way.Wait = Unit {0}
+IsHindrance Way.Busy = Unit {0}
+IsHindrance (Way.Ask question) = Unit {0}
+IsHindrance plan = ⊥
+
+-- the header that a segment leaves with
+abbrev pub leaving_by : InnerValue → IpRepr → IpRepr
+leaving_by i h = if may_come_from i (source_of h) (destination_of h) then h else with_source h (source_for i.addresses (destination_of h))
+
+-- So was the host in the poll when a packet that left it with this header had to stay.
+pub record IsHindered (i0 : InnerValue) (t : ℤ) (leaving : InnerValue → IpRepr) : Type 0 where
+  pub i : InnerValue
+  pub like : IsAsAt i0 t i
+  pub paths : i.paths ≡ []
+  pub busy : Bool
+  pub plan : IsHindrance (plan_of i busy (leaving i))
+
+-- what a TCP socket offers goes, or has to stay
+abbrev pub IsLet : InnerValue → ℤ → Moves.Move → Type 0
+IsLet i0 t (Offers at cx v from sent) = IfSome (offer_of cx v).socket.offered (λ o. (sent ≡ true) ⊎ IsHindered i0 t (λ i. leaving_by i o.header))
+IsLet i0 t move = Unit {0}
+
+abbrev pub AreLet : InnerValue → ℤ → List Step → Type 0
+AreLet i0 t [] = Unit {0}
+AreLet i0 t (step ∷ steps) = IsLet i0 t step.move × AreLet i0 t steps
+
+pub let-append : (i0 : InnerValue) (t : ℤ) (steps more : List Step) → AreLet i0 t steps → AreLet i0 t more → AreLet i0 t (steps ++ more)
+let-append i0 t [] more first second = second
+let-append i0 t (step ∷ steps) more first second = (first.0, let-append i0 t steps more first.1 second)
+
+-- A PACKET'S TURN
+
+abbrev Ends : Sent → Plan → Type 0
+Ends sent plan = (is_done sent ≡ true) ⊎ IsHindrance plan
+
+-- one that is held back is given up, or would ask out of turn
+held_so : (up : Bool) (turn : Option IpAddress) (plan : Plan) (sent : Sent)
+    → (let r : Option Sent = if up then Some Outcome.Dropped else if is_out_of_turn turn plan then Some Outcome.Waits else None in r) ≡ Some sent →
+    Ends sent plan
+held_so true turn plan sent is = inl (let same : Outcome.Dropped ≡ sent = cc in ap is_done (sym same))
+held_so false turn (Way.Ask question) sent is = inr tt
+held_so false turn Way.NoRoute sent is = inr tt
+held_so false turn Way.Wait sent is = inr tt
+held_so false turn Way.Busy sent is = inr tt
+held_so false turn Way.Drop sent is = absurd (cc)
+held_so false turn (Way.Go to) sent is = absurd (cc)
+held_so false turn (Way.Cut to) sent is = absurd (cc)
+
+module _ {D : Type 0} (moves : D → Move → D → Type 0) (Since Gives : D → Type 0) (giving : IsGiving moves Since Gives) where
+  went_so : (plan : Plan) (d d' : D) (i i' : InnerValue) (h : IpRepr) (p : Departure) (sent : Sent) → Went moves d i h p sent d' i' → Since d → Gives d' →
+      Ends sent plan
+  went_so plan d d' i i' h p Outcome.Gone goes since gives = inl refl
+  went_so plan d d' i i' h p Outcome.Refused goes since gives = absurd (giving.takes d d' _ goes.0 since gives)
+  went_so plan d d' i i' h p Outcome.Waits goes since gives = absurd goes
+  went_so plan d d' i i' h p Outcome.Dropped goes since gives = absurd goes
+  went_so plan d d' i i' h p Outcome.Busy goes since gives = absurd goes
+
+  cut_so : (plan : Plan) (d d' : D) (i i' : InnerValue) (l l' : Option LeftValue) (c : LeftValue) (sent : Sent) → WasCut moves d i l c sent d' i' l' →
+      Since d → Gives d' → Ends sent plan
+  cut_so plan d d' i i' l l' c Outcome.Gone goes since gives = inl refl
+  cut_so plan d d' i i' l l' c Outcome.Refused goes since gives = absurd (giving.takes d d' _ goes.0 since gives)
+  cut_so plan d d' i i' l l' c Outcome.Waits goes since gives = absurd goes
+  cut_so plan d d' i i' l l' c Outcome.Dropped goes since gives = absurd goes
+  cut_so plan d d' i i' l l' c Outcome.Busy goes since gives = absurd goes
+
+  out_so : (d d' : D) (i i' : InnerValue) (l l' : Option LeftValue) (p : PacketValue) (plan : Plan) (sent : Sent) →
+      GoesOut moves d i l p plan sent d' i' l' → Since d → Gives d' → Ends sent plan
+  out_so d d' i i' l l' p Way.Drop sent goes since gives = inl (ap is_done goes.0)
+  out_so d d' i i' l l' p Way.NoRoute sent goes since gives = inr tt
+  out_so d d' i i' l l' p Way.Wait sent goes since gives = inr tt
+  out_so d d' i i' l l' p Way.Busy sent goes since gives = inr tt
+  out_so d d' i i' l l' p (Way.Ask question) sent goes since gives = inr tt
+  out_so d d' i i' l l' p (Way.Go to) sent goes since gives =
+      went_so (Way.Go to) d d' i i' p.header (Whole to (numbered i p)) sent goes.0 since gives
+  out_so d d' i i' l l' p (Way.Cut to) sent goes since gives = cut_so (Way.Cut to) d d' i i' l l' (cut_of i to p) sent goes since gives
+
+  -- where the device gives leave behind it, it is done with, or has to stay
+  pub leaves_so : (turn : Option IpAddress) (x x' : Sender D) (m : Meta) (p : PacketValue) (sent : Sent) → Leaves moves turn x m p sent x' → Since x.device →
+      Gives x'.device → (is_done sent ≡ true) ⊎ IsHindrance (plan_at x p)
+  leaves_so turn x x' m p sent (inl (false, refused, inner, left, so)) since gives =
+      absurd (giving.leave x.device x'.device x.inner.moment refused since gives)
+  leaves_so turn x x' m p sent (inl (true, allowed, inner, left, so)) since gives =
+      held_so (is_given_up m x.inner (destination_of p.header) (plan_at x p)) turn (plan_at x p) sent so
+  leaves_so turn x x' m p sent (inr (mid, allowed, goes, free)) since gives =
+      out_so mid x'.device x.inner x'.inner x.left x'.left p (plan_at x p) sent goes
+      (giving.since x.device mid (Allowed x.inner.moment true) allowed since) gives
