@@ -15,5 +15,6 @@ pub mod polls;
 pub mod ready;
 pub mod rest;
 pub mod rooms;
+pub mod segments;
 pub mod served;
 pub mod turns;
