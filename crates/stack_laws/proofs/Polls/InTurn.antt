@@ -132,7 +132,7 @@ module _ {D : Type 0} (moves : D → Move → D → Type 0) (t : ℤ) where
     Out s s' = GoesInTurn moves (at_moment t s.host.inner) to p s.device s'.device
 
     -- what a socket offers goes now
-    now_goes : (m : ℕ) (s s' : State D) (c c' : Bool) (socket offering : Socket) (says : Bool) → IsItsTurn (at_moment t s.host.inner) s.places n socket
+    pub now_goes : (m : ℕ) (s s' : State D) (c c' : Bool) (socket offering : Socket) (says : Bool) → IsItsTurn (at_moment t s.host.inner) s.places n socket
         → OffersOnly (at_moment t s.host.inner) socket says offering p → CanLeave (at_moment t s.host.inner) to p
         → Repeats (EgressStep moves t) (suc m) s c s' c' → Out s s'
     now_goes m s s' c c' socket offering says turn only can (inl ends) =

@@ -38,7 +38,7 @@ use Rattle.stack_laws.specs.PeerHost.Steps.{Reaches}
 use Rattle.stack_laws.specs.PeerHost.Streams.{AreOfPoll, IsTcpAt}
 use Rattle.stack_laws.specs.Progress.Delivered.{RefusesNothing, reader_of}
 use Rattle.stack_laws.specs.Progress.Inbox.{BringsAmong, WaitsAmong}
-use Rattle.stack_laws.specs.Progress.Leave.{IsInboxWhile}
+use Rattle.stack_laws.specs.Progress.Leave.{IsInboxWhile, LiesAmong}
 use Rattle.stack_laws.specs.Progress.Moves.{is_refused}
 use Rattle.stack_laws.specs.Progress.Queued.{GoesInTurn, WentOut, frame_under, with_ident}
 use Rattle.stack_laws.specs.Progress.Segments.{CanLeave, ComesAmong, HasComeTo, HasConnection, IsAwaited, IsAwaitedThroughout, IsItsTurn, OffersSegment}
@@ -349,6 +349,19 @@ module _ {E : Type 0} (moves : E → Move → E → Type 0) (gives_leave : E →
       leads = led_on.are;
       stands = at_place_is r'.places m (after_all new_value led_on.events) led_on.here;
     }
+
+-- where its frame waits
+pub comes_where_it_waits : {E : Type 0} (moves : E → Move → E → Type 0) (gives_leave : E → Bool) (frames_at : E → List (List ℕ)) (u : ℤ) (count steps : ℕ)
+    (i : InnerValue) (ident : ℕ) (r r' : State E) (changed : Bool) (m : ℕ) (meta : Meta) (v w : TcpValue) (ip : IpRepr) (header : TcpHeader) (bytes : List ℕ)
+    (to : HardwareAddress) → IsInboxWhile moves gives_leave frames_at → IsTrue (gives_leave r'.device) → HasWidths (with_ident i ident)
+    → OffersSegment i v ip header bytes → CanLeave i to (packet_of ip (Segment header bytes)) → IsWellFormed (packet_of ip (Segment header bytes))
+    → LiesAmong (frames_at r.device) count (frame_under i ident to (packet_of ip (Segment header bytes))) → count ≤ steps
+    → CanRead i to (reader_of r.host.inner) → IsAwaitedThroughout (at_moment u r.host.inner) r.places to ip header m meta w
+    → Polls moves u steps r changed r' → HasConnection r'.places m → ComesAmong moves u r r' ip header bytes m w
+comes_where_it_waits moves gives_leave frames_at u count steps i ident r r' changed m meta v w ip header bytes to inbox leave wide offers can formed lies within
+    reads is polled ends =
+    comes_among moves gives_leave frames_at inbox u steps r r' changed m meta w polled leave ends i v ip header bytes offers to can formed reads is ident wide
+    lies.padding lies.before lies.behind lies.short lies.frames (omega (arith, lies.few, within))
 
 -- ONE POLL SENDS IT, AND ANOTHER READS IT
 

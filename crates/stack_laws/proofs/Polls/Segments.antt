@@ -1,5 +1,5 @@
 -- A segment goes from one host, and comes to a TCP socket of another.
-use Rattle.std.proofs.Common.{◌≡◌, ◌≢◌, ℕ, ◌==◌, ◌&&◌, ◌||◌, Bool, true, false, not, ◌⊎◌, inl, inr, ℤ, List, ◌∷◌, ◌++◌, length, Option, Some, None}
+use Rattle.std.proofs.Common.{◌≡◌, ◌≢◌, ℕ, suc, ◌==◌, ◌&&◌, ◌||◌, Bool, true, false, not, ◌⊎◌, inl, inr, ℤ, List, ◌∷◌, ◌++◌, length, Option, Some, None}
 use Rattle.std.proofs.Common.{refl, sym, ap, ◌∙◌, subst}
 use Rattle.std.specs.Prelude.{if◌then◌else◌, position, slice_get, slice_set}
 use Rattle.std.specs.List.{list_any}
@@ -59,6 +59,7 @@ use Rattle.interface_egress.specs.declared.socket_set.SocketStorage.{SocketStora
 use Rattle.interface.specs.Delivered.{link_of}
 use Rattle.interface.specs.Egress.{EgressStep}
 use Rattle.interface.specs.Ingress.{IngressStep}
+use Rattle.interface.specs.Polls.{Repeats}
 use Rattle.interface.specs.Remote.{context_for}
 use Rattle.interface.specs.State.{State}
 use Rattle.interface.specs.Taken.{CanRead, HasWidths}
@@ -66,12 +67,13 @@ use Rattle.lan.proofs.Worlds.Moves.Protocols.{offered_names}
 use Rattle.stack_laws.specs.Progress.Asked.{IsNext}
 use Rattle.stack_laws.specs.Progress.Delivered.{Brings, ComesNext, RefusesNothing, reader_of}
 use Rattle.stack_laws.specs.Progress.Moves.{AreMoves, is_refused}
-use Rattle.stack_laws.specs.Progress.Queued.{WentOut, frame_under, with_ident}
+use Rattle.stack_laws.specs.Progress.Queued.{GoesInTurn, frame_under, with_ident}
 use Rattle.stack_laws.specs.Progress.Segments.{CanLeave, HasComeTo, IsAwaited, IsItsTurn, LeavesAtOnce, OffersSegment, WentBy, asked_by, tcp_place}
 use Rattle.stack_laws.proofs.Polls.AnyLeave.{OffersOnly}
 use Rattle.stack_laws.proofs.Polls.Delivered.{as_read, same_destination, same_position, same_source, taken_in}
 use Rattle.stack_laws.proofs.Polls.First.{same_address}
 use Rattle.stack_laws.proofs.Polls.Goes.{offer_goes}
+use Rattle.stack_laws.proofs.Polls.InTurn.{now_goes}
 use Rattle.stack_laws.proofs.Polls.Reached.{get_set, hands_over, no_piece, same_context, same_names, same_segment_place, stands_still}
 use Rattle.stack_laws.proofs.Polls.Readers.{brings, packet_read}
 
@@ -335,6 +337,17 @@ goes out t s s' answer n v ip header bytes to turn offers can step =
     let only = offers_only (at_moment t s.host.inner) v ip header bytes offers in
     offer_goes out t s s' answer n (Kind.Tcp v) (Kind.Tcp (asked_by (at_moment t s.host.inner) v)) only.0 to (packet_of ip (Segment header bytes)) turn only.1
     can step
+
+-- so in the way out of a poll
+pub goes_on_the_way : {D : Type 0} (out : D → Move → D → Type 0) (t : ℤ) (budget : ℕ) (s s' : State D) (before changed : Bool) (n : ℕ) (v : TcpValue)
+    (ip : IpRepr) (header : TcpHeader) (bytes : List ℕ) (to : HardwareAddress) → IsItsTurn (at_moment t s.host.inner) s.places n (Kind.Tcp v)
+    → OffersSegment (at_moment t s.host.inner) v ip header bytes → CanLeave (at_moment t s.host.inner) to (packet_of ip (Segment header bytes))
+    → Repeats (EgressStep out t) (suc budget) s before s' changed
+    → GoesInTurn out (at_moment t s.host.inner) to (packet_of ip (Segment header bytes)) s.device s'.device
+goes_on_the_way out t budget s s' before changed n v ip header bytes to turn offers can steps =
+    let only = offers_only (at_moment t s.host.inner) v ip header bytes offers in
+    now_goes out t n to (packet_of ip (Segment header bytes)) budget s s' before changed (Kind.Tcp v) (Kind.Tcp (asked_by (at_moment t s.host.inner) v)) only.0
+    turn only.1 can steps
 
 -- where the device refuses nothing, its socket is told so
 pub settles : {D : Type 0} (out : D → Move → D → Type 0) (t : ℤ) (s s' : State D) (answer : Option Bool) (n : ℕ) (v : TcpValue) (ip : IpRepr)

@@ -9,12 +9,13 @@ ghost use Rattle.tcp_model.specs.Settled.{settled};
 ghost use Rattle.tcp_model.specs.Value.{TcpValue};
 ghost use Rattle.interface_ingress.specs.Packet.{Segment, packet_of};
 ghost use Rattle.interface_ingress.specs.Socket.TheVariants as Kind;
-ghost use Rattle.interface_tables.specs.Inner.{at_moment};
+ghost use Rattle.interface_ingress.specs.WellFormed.{IsWellFormed};
+ghost use Rattle.interface_tables.specs.Inner.{InnerValue, at_moment};
 ghost use Rattle.interface_egress.specs.Set.{unmarked};
 ghost use Rattle.interface_egress.specs.declared.socket_meta.Meta.{Meta};
 ghost use Rattle.interface.specs.Egress.{EgressStep};
 ghost use Rattle.interface.specs.Ingress.{IngressStep};
-ghost use Rattle.interface.specs.Polls.{Polls};
+ghost use Rattle.interface.specs.Polls.{Polls, Repeats};
 ghost use Rattle.interface.specs.QuietPoll.{HasNoFrame};
 ghost use Rattle.interface.specs.State.{State};
 ghost use Rattle.interface.specs.Taken.{CanRead, HasWidths};
@@ -22,8 +23,9 @@ ghost use Rattle.stack_laws.specs.Progress.Delivered.{Brings, RefusesNothing, re
 ghost use Rattle.lan.specs.declared.at_link.history.event.Side.TheVariants.{B};
 ghost use Rattle.lan_base.specs.Port.{PortValue, PortMove, has_leave};
 ghost use Rattle.stack_laws.specs.Progress.Inbox.{BringsAmong};
-ghost use Rattle.stack_laws.specs.Progress.Leave.{BringsWhatWent, IsInboxWhile};
+ghost use Rattle.stack_laws.specs.Progress.Leave.{BringsWhatWent, IsInboxWhile, LiesAmong};
 ghost use Rattle.stack_laws.specs.Progress.Numerals.{now};
+ghost use Rattle.stack_laws.specs.Progress.Queued.{GoesInTurn, frame_under, with_ident};
 ghost use Rattle.stack_laws.specs.Progress.SegmentNumerals.{awaiting, header, offering, packet, push, reached, reader, sender, sent, writing};
 ghost use Rattle.stack_laws.specs.Progress.Segments.{CanLeave, ComesAmong, HasComeTo, HasConnection, IsAwaited, IsAwaitedThroughout, IsItsTurn};
 ghost use Rattle.stack_laws.specs.Progress.Segments.{LeavesAtOnce, OffersSegment, asked_by};
@@ -34,15 +36,23 @@ use net_base::Device;
 
 /// Law: in one step of the way out the segment that a TCP socket offers goes, whatever other sockets wait for and whatever they send, unless the device
 /// refuses in that step; and the socket is told that it went. The host knows the hardware address of the next hop, the segment fits one frame and the path
-/// to its destination, and the socket isn't waiting for another neighbour.
+/// to its destination, and the socket isn't waiting for another neighbour. So it goes in the way out of a poll that comes to such a socket, whatever came
+/// in before, unless the device refuses in one of its steps.
 pub fn offered_segments_go<D: Device>()
-    ensures { (t : ℤ) (s s' : State D) (answer : Option Bool) (n : ℕ) (v : TcpValue) (ip : IpRepr) (header : TcpHeader) (bytes : List ℕ) (to : HardwareAddress)
+    ensures at_once { (t : ℤ) (s s' : State D) (answer : Option Bool) (n : ℕ) (v : TcpValue) (ip : IpRepr) (header : TcpHeader) (bytes : List ℕ) (to : HardwareAddress)
         → IsItsTurn (at_moment t s.host.inner) s.places n (Kind.Tcp v)
         → OffersSegment (at_moment t s.host.inner) v ip header bytes
         → CanLeave (at_moment t s.host.inner) to (packet_of ip (Segment header bytes))
         → EgressStep D.moves t s answer s'
         → LeavesAtOnce D.moves (at_moment t s.host.inner) n (Kind.Tcp (asked_by (at_moment t s.host.inner) v)) to (packet_of ip (Segment header bytes))
         s.device s'.device answer s'.places }
+    ensures way_out { (t : ℤ) (budget : ℕ) (s s' : State D) (before changed : Bool) (n : ℕ) (v : TcpValue) (ip : IpRepr) (header : TcpHeader) (bytes : List ℕ)
+        (to : HardwareAddress)
+        → IsItsTurn (at_moment t s.host.inner) s.places n (Kind.Tcp v)
+        → OffersSegment (at_moment t s.host.inner) v ip header bytes
+        → CanLeave (at_moment t s.host.inner) to (packet_of ip (Segment header bytes))
+        → Repeats (EgressStep D.moves t) (suc budget) s before s' changed
+        → GoesInTurn D.moves (at_moment t s.host.inner) to (packet_of ip (Segment header bytes)) s.device s'.device }
 {}
 
 /// Law: of two hosts on one medium, where a TCP socket of the one has its turn and offers a segment that can go to a known hardware address, a step of the
@@ -71,6 +81,27 @@ pub fn a_segment_arrives<D: Device, E: Device>()
         → IsAwaited (at_moment u r.host.inner) r.places to ip header m meta w
         → IngressStep E.moves u r (Some true) r'
         → HasComeTo (at_moment u r.host.inner) r'.places ip header bytes m meta w }
+{}
+
+/// Law: a segment of a TCP socket whose frame waits comes to the socket of its connection: a poll of the other host, at whose device the frame waits behind
+/// fewer others than the poll has steps, and which gives leave to its end, brings it to a socket that has its connection as the poll begins and ends,
+/// wherever offers and the segments before have led that. The packet can be sent, and went under this identification.
+pub fn a_segment_that_waits_comes<E: Device>()
+    ensures { (gives_leave : E → Bool) (frames_at : E → List (List ℕ)) (u : ℤ) (count steps : ℕ) (i : InnerValue) (ident : ℕ) (r r' : State E)
+        (changed : Bool) (m : ℕ) (meta : Meta) (v w : TcpValue) (ip : IpRepr) (header : TcpHeader) (bytes : List ℕ) (to : HardwareAddress)
+        → IsInboxWhile E.moves gives_leave frames_at
+        → IsTrue (gives_leave r'.device)
+        → HasWidths (with_ident i ident)
+        → OffersSegment i v ip header bytes
+        → CanLeave i to (packet_of ip (Segment header bytes))
+        → IsWellFormed (packet_of ip (Segment header bytes))
+        → LiesAmong (frames_at r.device) count (frame_under i ident to (packet_of ip (Segment header bytes)))
+        → count ≤ steps
+        → CanRead i to (reader_of r.host.inner)
+        → IsAwaitedThroughout (at_moment u r.host.inner) r.places to ip header m meta w
+        → Polls E.moves u steps r changed r'
+        → HasConnection r'.places m
+        → ComesAmong E.moves u r r' ip header bytes m w }
 {}
 
 /// Law: within two polls it comes to a socket that has its connection as the second poll begins and ends, at a device that gives leave to the end of that
