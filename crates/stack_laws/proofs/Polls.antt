@@ -8,6 +8,7 @@ pub mod Passes
 pub mod Polled
 pub mod Numbers
 pub mod Ways
+pub mod AnyLeave
 pub mod OurLeave
 pub mod OurTurn
 pub mod Goes
@@ -21,6 +22,7 @@ pub mod Asking
 pub mod Answered
 pub mod Silenced
 pub mod Delivered
+pub mod Segments
 pub mod First
 pub mod Searches
 pub mod Waited
@@ -31,9 +33,13 @@ pub mod InSilence
 pub mod StillFirst
 pub mod Exchanged
 pub mod Served
+pub mod Frames
 pub mod Inbox
 pub mod Refusals
 pub mod Stays
+pub mod Connected
+pub mod SegmentSteps
+pub mod SegmentPolls
 pub mod Rooms
 pub mod Lengths
 pub mod OneMore
@@ -45,6 +51,7 @@ pub mod BetweenPorts
 pub mod SomeRooms
 pub mod SomeHosts
 pub mod SomeRow
+pub mod SomeSegments
 pub mod NextAtPorts
 pub mod SomeNeighbors
 pub mod SomeExchange

@@ -11,11 +11,13 @@ pub mod Turns
 pub mod Delivered
 pub mod Inbox
 pub mod Leave
+pub mod Segments
 pub mod Ready
 pub mod Exchanged
 pub mod Served
 pub mod Numerals
 pub mod InARow
+pub mod SegmentNumerals
 pub mod OnEthernet
 pub mod Partners
 pub mod Moving

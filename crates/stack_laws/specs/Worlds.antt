@@ -2,6 +2,7 @@
 pub mod Hosts
 pub mod Datagrams
 pub mod Streams
+pub mod Open
 pub mod Lone
 pub mod Candidates
 pub mod Fallback

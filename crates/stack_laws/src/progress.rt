@@ -15,6 +15,7 @@ pub mod polls;
 pub mod ready;
 pub mod rest;
 pub mod rooms;
+pub mod segments;
 pub mod served;
 pub mod settled;
 pub mod turns;

@@ -66,7 +66,7 @@ module _ (Came : ChecksumCapabilities → IpRepr → List ℕ → Type 0) (F : T
   stays : (places : Places) → Holds places → Then places
   stays places holds = at_so F W Z law.same places n holds
 
-  packets : (ip : IpRepr) (payload : List ℕ) (places : Places) → Holds places → Holds (packet_delivered ip payload places)
+  pub packets : (ip : IpRepr) (payload : List ℕ) (places : Places) → Holds places → Holds (packet_delivered ip payload places)
   packets ip payload places holds = all_hold F W W (λ s w. w) (λ s. accepts_packet s ip) (with_packet ip payload) (law.packet ip payload) places n holds
 
   messages_v4 : (ip : IpRepr) (message : Icmpv4Header) (bytes : List ℕ) (places : Places) → Holds places → Then (control_v4_places ip message bytes places)
@@ -117,7 +117,7 @@ module _ (Came : ChecksumCapabilities → IpRepr → List ℕ → Type 0) (F : T
     segment_for true header bytes is = stays places holds
     segment_for false header bytes is = segment_at header bytes is (segment_place ip header places) refl
 
-  handed : (i : InnerValue) (places : Places) (ip : IpRepr) (payload : List ℕ) (carried : Option PayloadValue) → Came i.checksums ip payload
+  pub handed : (i : InnerValue) (places : Places) (ip : IpRepr) (payload : List ℕ) (carried : Option PayloadValue) → Came i.checksums ip payload
       → IsCarriedContent i.checksums (upper_header ip payload) (upper_payload ip payload) carried → (to : Places) → HandsTo i places ip carried to
       → Holds places → Then to
   handed i places ip payload None came is to hands holds = subst Then (sym hands) (stays places holds)

@@ -29,8 +29,8 @@ module _ {D : Type 0} (moves : D → Move → D → Type 0) (Q : D → Type 0) (
     pub reached_keeps : (from to : State D) → Reaches moves t from to → Q from.device → Q to.device
     reached_keeps from to so holds = steps so.count from to so.steps holds
 
-    kept : IsKept moves t (λ (s : State D). Q s.device)
-    kept = record {
+    pub device_kept : IsKept moves t (λ (s : State D). Q s.device)
+    device_kept = record {
       maintenance = λ s holds. holds;
       arrivals = λ s s' answer runs holds is. takes moves Q keeps s s' answer is holds;
       pieces = λ h ps x x' l gone runs waits holds leaves same_host. piece_leaves moves Q keeps l x x' gone leaves holds;
@@ -39,7 +39,7 @@ module _ {D : Type 0} (moves : D → Move → D → Type 0) (Q : D → Type 0) (
 
     -- and where it ended
     pub polled_keeps : (budget : ℕ) (s s' : State D) (changed : Bool) → Q s.device → Polls moves t budget s changed s' → Q s'.device
-    polled_keeps budget s s' changed holds polls = (polls_keep moves t (λ (x : State D). Q x.device) kept budget s s' changed holds polls).0
+    polled_keeps budget s s' changed holds polls = (polls_keep moves t (λ (x : State D). Q x.device) device_kept budget s s' changed holds polls).0
 
 -- NOTHING BUT MOVES
 

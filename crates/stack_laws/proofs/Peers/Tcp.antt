@@ -88,7 +88,7 @@ module _ {D : Type 0} (moves : D → Move → D → Type 0) (t : ℤ) (from : St
         record { caps = caps; payload = payload; came = came; carries = is },
       ) (ap (with_segment cx ip header bytes) led.is)
 
-  led_law : IsOfPolls (Came moves t from) LedTo
+  pub led_law : IsOfPolls (Came moves t from) LedTo
   led_law = record {
     offers = offer_led;
     arrives = record {

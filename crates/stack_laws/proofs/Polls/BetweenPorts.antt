@@ -1,14 +1,18 @@
--- A datagram that is queued at a host at one port arrives at the host at another.
-use Rattle.std.proofs.Common.{◌≡◌, ◌≢◌, inl, inr, ℕ, ◌<◌, ◌≤◌, ℤ, Bool, IsTrue, List, [], ◌∷◌, ◌++◌, length, sym, ap, ◌∙◌, subst, append_assoc, append-nil}
+-- A datagram that is queued at a host at one port arrives at the host at another; and a segment that is offered does.
+use Rattle.std.proofs.Common.{◌≡◌, ◌≢◌, inl, inr, ℕ, suc, ◌<◌, ◌≤◌, ℤ, Bool, IsTrue, List, [], ◌∷◌, ◌++◌, length, sym, ap, ◌∙◌, subst, append_assoc, append-nil}
 use Rattle.std.specs.List.{AllByRecursion}
 use Rattle.net_base.specs.Device.{Move, Took, Empty, Allowed, Emitted, Denied}
 use Rattle.net_base.specs.Packets.{contents}
 use Rattle.ip_packet.specs.Ip.{source_of}
+use Rattle.ip_packet.specs.declared.ip.repr.IpRepr.{IpRepr}
 use Rattle.ip_wire.specs.HardwareAddress.{HardwareAddress}
+use Rattle.ip_wire.specs.TcpHeader.{TcpHeader}
 use Rattle.lan_base.specs.Port.{PortValue, PortMove}
 use Rattle.sockets.specs.Udp.{UdpValue}
 use Rattle.sockets.specs.declared.udp.UdpMetadata.{UdpMetadata}
-use Rattle.interface_ingress.specs.Packet.{PacketValue}
+use Rattle.tcp_model.specs.Value.{TcpValue}
+use Rattle.interface_ingress.specs.Packet.{PacketValue, Segment, packet_of}
+use Rattle.interface_ingress.specs.Socket.TheVariants as Kind
 use Rattle.interface_tables.specs.Inner.{InnerValue, at_moment}
 use Rattle.interface_egress.specs.declared.socket_meta.Meta.{Meta}
 use Rattle.interface.specs.Polls.{Polls}
@@ -20,8 +24,10 @@ use Rattle.stack_laws.specs.Progress.Leave.{BringsWhatWent, LiesAmong}
 use Rattle.stack_laws.specs.Progress.Moves.{AreMoves}
 use Rattle.stack_laws.specs.Progress.Queued.{CanGo, HasTurn, HasWay, Sends, frame_under, ports_of}
 use Rattle.stack_laws.specs.Progress.Ready.{HasRoomBehind, IsExpectedThroughout}
+use Rattle.stack_laws.specs.Progress.Segments.{CanLeave, ComesAmong, HasConnection, IsAwaitedThroughout, IsItsTurn, OffersSegment}
 use Rattle.stack_laws.proofs.Polls.Inboxes.{Frames, leave, ports, ports_are_bare, refuse_nothing, waiting}
 use Rattle.stack_laws.proofs.Polls.Leave.{arrives_with_leave}
+use Rattle.stack_laws.proofs.Polls.SegmentPolls.{arrives_in_a_poll}
 
 -- the frames that went
 abbrev emitted : List Move → Frames
@@ -96,3 +102,18 @@ arrives_between t u budget count steps s s' r r' changed changed' n m meta v w b
     arrives_with_leave PortMove PortMove leave waiting t u budget count steps s s' r r' changed changed' n m meta v w before d more to p ports leaves wide turn
     queued short ways some can (ports_are_bare t s.device none) polls (refuse_nothing s.device s'.device same_count given)
     (brought (at_moment t s.host.inner) to p s.device s'.device r.device count brings) within reads is room polled
+
+-- so does a segment
+pub segment_between : (t u : ℤ) (budget count steps : ℕ) (s s' r r' : State PortValue) (changed changed' : Bool) (n m : ℕ) (meta : Meta) (v w : TcpValue)
+    (ip : IpRepr) (header : TcpHeader) (bytes : List ℕ) (to : HardwareAddress) → HasWidths (at_moment t s.host.inner)
+    → IsItsTurn (at_moment t s.host.inner) s.places n (Kind.Tcp v) → OffersSegment (at_moment t s.host.inner) v ip header bytes
+    → CanLeave (at_moment t s.host.inner) to (packet_of ip (Segment header bytes)) → waiting s.device ≡ []
+    → Polls PortMove t (suc budget) s changed s' → s'.device.link.refusals ≡ s.device.link.refusals → IsTrue (leave s'.device)
+    → BringsWhatWent s.device s'.device r.device count → count ≤ steps → CanRead (at_moment t s.host.inner) to (reader_of r.host.inner)
+    → IsAwaitedThroughout (at_moment u r.host.inner) r.places to ip header m meta w → Polls PortMove u steps r changed' r' → IsTrue (leave r'.device)
+    → HasConnection r'.places m → ComesAmong PortMove u r r' ip header bytes m w
+segment_between t u budget count steps s s' r r' changed changed' n m meta v w ip header bytes to wide turn offers can none polls same_count given brings within reads is
+    polled leaves ends =
+    arrives_in_a_poll PortMove PortMove leave waiting t u budget count steps s s' r r' changed changed' n m meta v w ip header bytes to ports leaves wide turn offers
+    can (ports_are_bare t s.device none) polls (refuse_nothing s.device s'.device same_count given)
+    (brought (at_moment t s.host.inner) to (packet_of ip (Segment header bytes)) s.device s'.device r.device count brings) within reads is polled ends

@@ -27,7 +27,7 @@ use Rattle.sockets.specs.declared.dns.state.State.TheVariants as Dns
 use Rattle.interface_ingress.specs.Context.{ContextValue}
 use Rattle.interface_ingress.specs.Delivered.{datagram_place, passes, passes_in}
 use Rattle.interface_ingress.specs.Packet.{PacketValue, payload_written}
-use Rattle.interface_ingress.specs.Reassembled.{is_heard, is_sender, is_taken_in}
+use Rattle.interface_ingress.specs.Reassembled.{is_astray, is_heard, is_sender, is_taken_in}
 use Rattle.interface_ingress.specs.Sent.{ether_for, uncut}
 use Rattle.interface_ingress.specs.Socket.{Socket}
 use Rattle.interface_ingress.specs.Socket.TheVariants as Kind
@@ -45,7 +45,7 @@ use Rattle.interface.specs.QuietPoll.{HasNoFrame}
 use Rattle.interface.specs.State.{State}
 use Rattle.interface.specs.Taken.{CanRead, HasWidths}
 use Rattle.stack_laws.specs.Progress.Asked.{IsNext}
-use Rattle.stack_laws.specs.Progress.Delivered.{Brings, ComesNext, IsExpected, RefusesNothing, WaitsBehind, as_received, hears, reader_of}
+use Rattle.stack_laws.specs.Progress.Delivered.{Brings, ComesNext, IsExpected, RefusesNothing, WaitsBehind, as_received, hears, may_be_sender, reader_of}
 use Rattle.stack_laws.specs.Progress.Moves.{AreMoves, is_refused}
 use Rattle.stack_laws.specs.Progress.Queued.{CanGo, GoesAtOnce, GoesInTurn, HasTurn, HasWay, WentFrom, WentOut, ports_of, frame_under, with_ident}
 use Rattle.stack_laws.specs.Progress.Reached.{IsFor, udp_place}
@@ -59,27 +59,21 @@ Places = List (SocketStorage Socket)
 
 -- THE FIRST PLACE, BY TESTS THAT AGREE
 
-module _ (test test' : SocketStorage Socket → Bool) (same : (p : SocketStorage Socket) → test p ≡ test' p) where
-  same_prefix : (ps : Places) → prefix_len (λ p. not (test p)) ps ≡ prefix_len (λ p. not (test' p)) ps
-  same_prefix [] = refl
-  same_prefix (p ∷ ps) =
-      ap (λ (b : Bool). cond (not b) (1 + prefix_len (λ p. not (test p)) ps) 0) (same p)
-      ∙ ap (λ (n : ℕ). cond (not (test' p)) (1 + n) 0) (same_prefix ps)
-
-  same_position : (ps : Places) → position test ps ≡ position test' ps
-  same_position ps = ap (λ (n : ℕ). cond (nat_lt n (length ps)) (Some n) None) (same_prefix ps)
+pub same_position : (test test' : SocketStorage Socket → Bool) → ((p : SocketStorage Socket) → test p ≡ test' p) → (ps : Places)
+    → position test ps ≡ position test' ps
+same_position test test' same ps k = position (λ p. same p k) ps
 
 -- A HEADER AS IT IS READ has the addresses of the one that was queued
 
 module _ (j : InnerValue) where
-  abbrev as_read : IpRepr → IpRepr
+  abbrev pub as_read : IpRepr → IpRepr
   as_read h = Ips.normal (numbered_header j h)
 
-  same_destination : (h : IpRepr) → destination_of (as_read h) ≡ destination_of h
+  pub same_destination : (h : IpRepr) → destination_of (as_read h) ≡ destination_of h
   same_destination (Ip.Ipv4 v) = refl
   same_destination (Ip.Ipv6 v) = refl
 
-  same_source : (h : IpRepr) → source_of (as_read h) ≡ source_of h
+  pub same_source : (h : IpRepr) → source_of (as_read h) ≡ source_of h
   same_source (Ip.Ipv4 v) = refl
   same_source (Ip.Ipv6 v) = refl
 
@@ -119,14 +113,13 @@ module _ (j : InnerValue) where
   heard_on i Hardware.Ip (Hardware.Ethernet station) carried is = refl
   heard_on i Hardware.Ip Hardware.Ip carried is = refl
 
-  taken_in : (i : InnerValue) (places : Places) (own to : HardwareAddress) (h : IpRepr) (ports : UdpRepr) (m : ℕ) (meta : Meta) (w : UdpValue)
-      (payload : List ℕ) → IsExpected i places to h ports m meta w
-      → is_taken_in i (uncut (link_of own to (ether_for (numbered_header j h))) (as_read h) payload) ≡ true
-  taken_in i places own to (Ip.Ipv4 v) ports m meta w payload is =
+  pub taken_in : (i : InnerValue) (own to : HardwareAddress) (h : IpRepr) (payload : List ℕ) → hears i to ≡ true → may_be_sender i (source_of h) ≡ true
+      → is_astray i (source_of h) (destination_of h) ≡ false → is_taken_in i (uncut (link_of own to (ether_for (numbered_header j h))) (as_read h) payload) ≡ true
+  taken_in i own to (Ip.Ipv4 v) payload heard sender here =
       and_from (is_heard i (link_of own to (ether_for (Ip.Ipv4 v))) && is_sender i v.src_addr) _
-      (and_from _ _ (heard_on i own to (ether_for (Ip.Ipv4 v)) is.heard) is.sender) (ap not is.here)
-  taken_in i places own to (Ip.Ipv6 v) ports m meta w payload is =
-      and_from _ _ (and_from _ _ (heard_on i own to (ether_for (Ip.Ipv6 v)) is.heard) (or_left _ _ is.sender)) (ap not is.here)
+      (and_from _ _ (heard_on i own to (ether_for (Ip.Ipv4 v)) heard) sender) (ap not here)
+  taken_in i own to (Ip.Ipv6 v) payload heard sender here =
+      and_from _ _ (and_from _ _ (heard_on i own to (ether_for (Ip.Ipv6 v)) heard) (or_left _ _ sender)) (ap not here)
 
 -- THE DESTINATION OF A DATAGRAM
 
@@ -196,7 +189,7 @@ module _ {E : Type 0} (moves : E → Move → E → Type 0) (i : InnerValue) (u 
       m meta w
   is_for = record {
     carries = finds i ident settings d to p (reader_of r.host.inner) wide can formed reads some;
-    listens = taken_in then_host (at_moment u r.host.inner) r.places i.hardware to p.header (ports_of settings d) m meta w bytes expected;
+    listens = taken_in then_host (at_moment u r.host.inner) i.hardware to p.header bytes expected.heard expected.sender expected.here;
     ours = ap (λ (a : IpAddress). is_for_us (at_moment u r.host.inner) a) (same_destination then_host p.header) ∙ expected.ours;
     place = same_place then_host (context_of (at_moment u r.host.inner)) (ports_of settings d) p.header r.places ∙ expected.place;
     stands = expected.stands;

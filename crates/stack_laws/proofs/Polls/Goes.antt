@@ -1,19 +1,26 @@
--- A pass over the sockets, and a step of the way out, in which the first datagram of a UDP socket goes.
-use Rattle.std.proofs.Common.{◌≡◌, ℕ, zero, suc, ◌+◌, Bool, true, false, ◌||◌, ◌⊎◌, inl, inr, ℤ, List, [], ◌∷◌, ◌++◌, length, Option, Some, None, refl, sym, ap}
-use Rattle.std.proofs.Common.{◌∙◌}
+-- A pass over the sockets, and a step of the way out, in which what a socket offers goes; and so the first datagram of a UDP socket.
+use Rattle.std.proofs.Common.{◌≡◌, ℕ, zero, suc, ◌+◌, Bool, true, false, ◌||◌, ◌⊎◌, inl, inr, ℤ, List, [], ◌∷◌, ◌++◌, length, drop, Option, Some, None, refl, sym}
+use Rattle.std.proofs.Common.{ap, ◌∙◌}
 use Rattle.std.proofs.Common.{subst, arith, append_assoc, append-nil, length-append}
 use Rattle.std.specs.Prelude.{slice_get}
 use Rattle.std.specs.List.{list_any}
 use Rattle.net_base.specs.Device.{Move, Allowed, Denied}
-use Rattle.net_base.specs.Packets.{contents}
+use Rattle.net_base.specs.Packets.{contents, unpadded}
+use Rattle.net_containers.proofs.PacketLaws.{contents-without_first, contents-unpadded}
 use Rattle.ip_wire.specs.HardwareAddress.{HardwareAddress}
 use Rattle.ip_wire.specs.IpAddress.{IpAddress}
+use Rattle.sockets.specs.Offers.{left_with}
+use Rattle.sockets.specs.SocketValue as Datagrams
 use Rattle.sockets.specs.Udp.{UdpValue}
 use Rattle.sockets.specs.declared.udp.UdpMetadata.{UdpMetadata}
+use Rattle.interface_ingress.specs.Offer as Answer
+use Rattle.interface_ingress.specs.Offer.TheVariants as Offer
 use Rattle.interface_ingress.specs.Packet.{PacketValue}
 use Rattle.interface_ingress.specs.Socket.{Socket}
 use Rattle.interface_ingress.specs.Socket.TheVariants as Kind
+use Rattle.interface_ingress.specs.Sockets as Sockets
 use Rattle.interface_tables.specs.Inner.{InnerValue, at_moment}
+use Rattle.interface_tables.specs.declared.neighbor.Search.{Search}
 use Rattle.interface_egress.specs.Fragments.{LeftValue, departure_from}
 use Rattle.interface_egress.specs.GoesOut.{frame_len_of}
 use Rattle.interface_egress.specs.declared.socket_meta.Meta.{Meta}
@@ -23,6 +30,7 @@ use Rattle.interface.specs.Awaited.{turn_of}
 use Rattle.interface.specs.Egress.{EgressStep, sending, if_changed}
 use Rattle.interface.specs.Host.{Sender}
 use Rattle.interface.specs.Pass.{Pass, Passed}
+use Rattle.interface.specs.Remote.{context_for}
 use Rattle.interface.specs.SameHost.{IsSameHost}
 use Rattle.interface.specs.State.{State}
 use Rattle.interface.specs.Turn.{is_waiting}
@@ -32,10 +40,13 @@ use Rattle.interface.proofs.SameHost.{same_where, place_same}
 use Rattle.stack_laws.specs.Progress.Moves.{AreMoves, is_refused}
 use Rattle.stack_laws.specs.Progress.Patience.{IsItemPatient}
 use Rattle.stack_laws.specs.Progress.Queued.{CanGo, HasTurn, Sends, frame_under, WentFrom, GoesAtOnce}
+use Rattle.stack_laws.specs.Progress.Segments.{CanLeave, IsItsTurn, LeavesAtOnce, WentBy}
+use Rattle.stack_laws.proofs.Polls.AnyLeave.{OffersOnly}
 use Rattle.stack_laws.proofs.Polls.Walks.{joined, refused_before, refused_behind, sends_before, sends_behind}
-use Rattle.stack_laws.proofs.Polls.Ways.{can_still, waits_still, same_frame, under_still}
+use Rattle.stack_laws.proofs.Polls.Ways.{leave_still, leaves, waits_still, same_frame, under_still}
 use Rattle.stack_laws.proofs.Polls.Numbers.{IsSmall, place_small}
 use Rattle.stack_laws.proofs.Polls.Turns.{Ends, place_ends}
+use Rattle.stack_laws.proofs.Polls.OurLeave.{offering_with, offers_it}
 use Rattle.stack_laws.proofs.Polls.Passes.{PassEnds, pass_ends, PieceEnds, clears}
 use Rattle.stack_laws.proofs.Polls.OurTurn.{Ours, OurEnds, our_turn}
 
@@ -53,6 +64,23 @@ no_place = None
 pub stands_at : (before more : List Place) (p : Place) → slice_get (before ++ p ∷ more) (length before) ≡ Some p
 stands_at [] more p = refl
 stands_at (q ∷ before) more p = stands_at before more p
+
+-- a step of the way out leaves what a socket offers
+offered_still : (i : InnerValue) (ident : ℕ) (silent : ℤ) (searches : List Search) (s offering : Socket) (says : Bool) (p : PacketValue)
+    → OffersOnly i s says offering p
+    → OffersOnly (record i { ident = ident; neighbors = record i.neighbors { silent = silent; searches = searches } }) s says offering p
+offered_still i ident silent searches s offering says p only = record { asked = by s only.asked; packet = only.packet } where
+  by : (s : Socket) → ((answer : Answer.Offer) (s' : Socket) → Sockets.Offers (context_for i s) s answer s' → (answer ≡ Offer.Packet says) × (s' ≡ offering))
+      → (answer : Answer.Offer) (s' : Socket)
+      → Sockets.Offers (context_for (record i { ident = ident; neighbors = record i.neighbors { silent = silent; searches = searches } }) s) s answer s'
+      → (answer ≡ Offer.Packet says) × (s' ≡ offering)
+  by s asked = asked
+
+only_still : (i j : InnerValue) (s offering : Socket) (says : Bool) (p : PacketValue) → IsSameHost i j → OffersOnly i s says offering p
+    → OffersOnly j s says offering p
+only_still i j s offering says p same only =
+    subst (λ (x : InnerValue). OffersOnly x s says offering p) (sym same)
+    (offered_still i j.ident j.neighbors.silent j.neighbors.searches s offering says p only)
 
 module _ {D : Type 0} (moves : D → Move → D → Type 0) where
   next_not : (b c : Bool) → Turn.Stop b ≡ Turn.Next c → ⊥
@@ -87,22 +115,29 @@ module _ {D : Type 0} (moves : D → Move → D → Type 0) where
       said turn goes.1 (before ++ goes.2 ∷ []) (changed || goes.0) ps e goes.4 (or_first changed goes.0 is)
   said turn s before changed (p ∷ ps) e (inr stops) is = ap (λ (x : Passed D). x.changed) stops.4 ∙ or_first changed stops.0 is
 
-  module _ (v : UdpValue) (d : UdpMetadata × List ℕ) (more : List (UdpMetadata × List ℕ)) (queued : contents v.queued ≡ d ∷ more) (to : HardwareAddress)
-      (p : PacketValue) (meta : Meta) where
+  module _ (socket offering : Socket) (says : Bool) (to : HardwareAddress) (p : PacketValue) (meta : Meta) where
     abbrev ours : Place
-    ours = record { inner = Some (record { meta = meta; socket = Kind.Udp v }) }
+    ours = record { inner = Some (record { meta = meta; socket = socket }) }
+
+    -- the packet can leave this host, which the socket offers it when it asks
+    record Can (i : InnerValue) : Type 0 where
+      leaves : CanLeave i to p
+      only : OffersOnly i socket says offering p
+
+    still : (i j : InnerValue) → IsSameHost i j → Can i → Can j
+    still i j same can = record { leaves = leave_still i j to p same can.leaves; only = only_still i j socket offering says p same can.only }
 
     -- of a pass: the packet went, or the device refused
     record Through (i : InnerValue) (k : ℕ) (old : D) (e : Passed D) : Type 0 where
       all : List Move
       are : AreMoves moves all old e.sender.device
-      what : (list_any is_refused all ≡ true) ⊎ WentFrom i k v to p all (if_changed e.changed) e.places
+      what : (list_any is_refused all ≡ true) ⊎ WentBy i k offering to p all (if_changed e.changed) e.places
 
     -- the turn itself, and what comes behind it
     at_our_place : (turn : Option IpAddress) (s mid : Sender D) (before : List Place) (changed b : Bool) (p' : Place) (ps : List Place) (k : ℕ) (e : Passed D)
-        → (can : CanGo s.inner v.settings d to p) → OurEnds moves turn s mid v d to p can (Turn.Next b) p'.inner → k ≡ length before
+        → OurEnds moves turn s mid offering to p (Turn.Next b) p'.inner → k ≡ length before
         → Pass moves turn mid (before ++ p' ∷ []) (changed || b) ps e → Through s.inner k s.device e
-    at_our_place turn s mid before changed b p' ps k e can took is goes =
+    at_our_place turn s mid before changed b p' ps k e took is goes =
         let rest : PassEnds moves mid (before ++ p' ∷ []) (changed || b) ps e = pass_ends moves turn mid (before ++ p' ∷ []) (changed || b) ps e goes in
         record {
           all = took.all ++ rest.all;
@@ -110,8 +145,8 @@ module _ {D : Type 0} (moves : D → Move → D → Type 0) where
           what = by took.all rest.all took.what;
         }
       where
-        by : (xs ys : List Move) → (list_any is_refused xs ≡ true) ⊎ Ours moves turn s mid v d to p can xs (Turn.Next b) p'.inner
-            → (list_any is_refused (xs ++ ys) ≡ true) ⊎ WentFrom s.inner k v to p (xs ++ ys) (if_changed e.changed) e.places
+        by : (xs ys : List Move) → (list_any is_refused xs ≡ true) ⊎ Ours moves turn s mid offering to p xs (Turn.Next b) p'.inner
+            → (list_any is_refused (xs ++ ys) ≡ true) ⊎ WentBy s.inner k offering to p (xs ++ ys) (if_changed e.changed) e.places
         by xs ys (inl refused) = inl (refused_before xs ys refused)
         by xs ys (inr went) =
             let tail = kept turn mid (before ++ p' ∷ []) (changed || b) ps e goes in
@@ -126,31 +161,28 @@ module _ {D : Type 0} (moves : D → Move → D → Type 0) where
               );
               wide = λ small. small;
               formed = went.formed;
-              new = went.new;
               stands = here ∙ ap (λ (o : Option (Item Socket)). Some (place_with o)) went.stands;
-              settings = went.settings;
-              rest = went.rest;
               told = ap if_changed (said turn mid (before ++ p' ∷ []) (changed || b) ps e goes (or_true changed b (next_is b true went.next)));
             })
 
     stopped : (turn : Option IpAddress) (s mid : Sender D) (b : Bool) (p' : Place) (k : ℕ) (e : Passed D)
-        → (can : CanGo s.inner v.settings d to p) → OurEnds moves turn s mid v d to p can (Turn.Stop b) p'.inner → e.sender.device ≡ mid.device
+        → OurEnds moves turn s mid offering to p (Turn.Stop b) p'.inner → e.sender.device ≡ mid.device
         → Through s.inner k s.device e
-    stopped turn s mid b p' k e can took is = record {
+    stopped turn s mid b p' k e took is = record {
       all = took.all;
       are = subst (λ (x : D). AreMoves moves took.all s.device x) (sym is) took.are;
       what = by took.all took.what;
     }
       where
-        by : (xs : List Move) → (list_any is_refused xs ≡ true) ⊎ Ours moves turn s mid v d to p can xs (Turn.Stop b) p'.inner
-            → (list_any is_refused xs ≡ true) ⊎ WentFrom s.inner k v to p xs (if_changed e.changed) e.places
+        by : (xs : List Move) → (list_any is_refused xs ≡ true) ⊎ Ours moves turn s mid offering to p xs (Turn.Stop b) p'.inner
+            → (list_any is_refused xs ≡ true) ⊎ WentBy s.inner k offering to p xs (if_changed e.changed) e.places
         by xs (inl refused) = inl refused
         by xs (inr went) = absurd (next_not b true went.next)
 
     -- what went of a later host went of this one
     as_before : (i j : InnerValue) (k : ℕ) (xs ys : List Move) (answer : Option Bool) (places : List Place) → IsSameHost i j → (IsSmall i → IsSmall j)
-        → (list_any is_refused ys ≡ true) ⊎ WentFrom j k v to p ys answer places
-        → (list_any is_refused (xs ++ ys) ≡ true) ⊎ WentFrom i k v to p (xs ++ ys) answer places
+        → (list_any is_refused ys ≡ true) ⊎ WentBy j k offering to p ys answer places
+        → (list_any is_refused (xs ++ ys) ≡ true) ⊎ WentBy i k offering to p (xs ++ ys) answer places
     as_before i j k xs ys answer places same small (inl refused) = inl (refused_behind xs ys refused)
     as_before i j k xs ys answer places same small (inr went) = inr (record {
       sent = (
@@ -160,26 +192,23 @@ module _ {D : Type 0} (moves : D → Move → D → Type 0) where
       );
       wide = λ before. went.wide (small before);
       formed = went.formed;
-      new = went.new;
       stands = went.stands;
-      settings = went.settings;
-      rest = went.rest;
       told = went.told;
     })
 
     pass_goes : (turn : Option IpAddress) (s : Sender D) (before : List Place) (changed : Bool) (ps : List Place) (n k : ℕ) (e : Passed D)
-        → slice_get ps n ≡ Some ours → k ≡ length before + n → CanGo s.inner v.settings d to p → is_waiting s.inner meta ≡ false
+        → slice_get ps n ≡ Some ours → k ≡ length before + n → Can s.inner → is_waiting s.inner meta ≡ false
         → Pass moves turn s before changed ps e → Through s.inner k s.device e
     pass_goes turn s before changed [] n k e stands is can ready goes = absurd (let never : no_place ≡ Some ours = stands in cc)
     pass_goes turn s before changed (q ∷ ps) zero k e stands is can ready (inl goes) =
-        at_our_place turn s goes.1 before changed goes.0 goes.2 ps k e can
-        (our_turn moves turn s goes.1 v d to p can more queued meta goes.2 (Turn.Next goes.0) ready
+        at_our_place turn s goes.1 before changed goes.0 goes.2 ps k e
+        (our_turn moves turn s goes.1 offering to p says can.leaves socket can.only meta goes.2 (Turn.Next goes.0) ready
         (subst (λ (place : Place). Rattle.interface.specs.Turn.PlaceTurns moves turn s place (Turn.Next goes.0) goes.1 goes.2)
         (let same : Some q ≡ Some ours = stands in let at : q ≡ ours = cc in at) goes.3))
         (is ∙ (let none : (m : ℕ) → m + 0 ≡ m = λ m. omega arith in none (length before))) goes.4
     pass_goes turn s before changed (q ∷ ps) zero k e stands is can ready (inr stops) =
-        stopped turn s stops.1 stops.0 stops.2 k e can
-        (our_turn moves turn s stops.1 v d to p can more queued meta stops.2 (Turn.Stop stops.0) ready
+        stopped turn s stops.1 stops.0 stops.2 k e
+        (our_turn moves turn s stops.1 offering to p says can.leaves socket can.only meta stops.2 (Turn.Stop stops.0) ready
         (subst (λ (place : Place). Rattle.interface.specs.Turn.PlaceTurns moves turn s place (Turn.Stop stops.0) stops.1 stops.2)
         (let same : Some q ≡ Some ours = stands in let at : q ≡ ours = cc in at) stops.3))
         (ap (λ (x : Passed D). x.sender.device) stops.4)
@@ -189,7 +218,7 @@ module _ {D : Type 0} (moves : D → Move → D → Type 0) where
         let same : IsSameHost s.inner goes.1.inner = place_same moves turn s goes.1 q goes.2 (Turn.Next goes.0) goes.3 in
         let rest : Through goes.1.inner k goes.1.device e =
         pass_goes turn goes.1 (before ++ goes.2 ∷ []) (changed || goes.0) ps n k e stands (is ∙ one_more before goes.2 n)
-        (can_still s.inner goes.1.inner v.settings d to p same can) (waits_still s.inner goes.1.inner meta same ready) goes.4 in
+        (still s.inner goes.1.inner same can) (waits_still s.inner goes.1.inner meta same ready) goes.4 in
         record {
           all = took.all ++ rest.all;
           are = joined moves took.all rest.all s.device goes.1.device e.sender.device took.are rest.are;
@@ -235,7 +264,7 @@ module _ {D : Type 0} (moves : D → Move → D → Type 0) where
     clears_same None s mid goes = ap (λ (x : Sender D). x.inner) goes.1
     clears_same (Some l) s mid goes = goes.1
 
-    egress_goes : (s : Sender D) (ps : List Place) (n : ℕ) (e : Passed D) → slice_get ps n ≡ Some ours → CanGo s.inner v.settings d to p
+    egress_goes : (s : Sender D) (ps : List Place) (n : ℕ) (e : Passed D) → slice_get ps n ≡ Some ours → Can s.inner
         → is_waiting s.inner meta ≡ false → Egress moves s ps e → Through s.inner n s.device e
     egress_goes s ps n e stands can ready (inl waits) =
         let no : Refused s.device waits.0.device = stays s.left s waits.0 waits.1 in
@@ -249,7 +278,7 @@ module _ {D : Type 0} (moves : D → Move → D → Type 0) where
         let same : IsSameHost s.inner goes.0.inner = same_where s.inner goes.0.inner (clears_same s.left s goes.0 goes.1) in
         let rest : Through goes.0.inner n goes.0.device e =
         pass_goes (turn_of goes.0.inner ps) goes.0 [] false ps n n e stands (let none : (m : ℕ) → m ≡ 0 + m = λ m. omega arith in none n)
-        (can_still s.inner goes.0.inner v.settings d to p same can) (waits_still s.inner goes.0.inner meta same ready) goes.2 in
+        (still s.inner goes.0.inner same can) (waits_still s.inner goes.0.inner meta same ready) goes.2 in
         record {
           all = piece.all ++ rest.all;
           are = joined moves piece.all rest.all s.device goes.0.device e.sender.device piece.are rest.are;
@@ -257,19 +286,46 @@ module _ {D : Type 0} (moves : D → Move → D → Type 0) where
               (λ small. subst IsSmall (sym (clears_same s.left s goes.0 goes.1)) small) rest.what;
         }
 
+  -- what a socket offers goes
+  pub offer_goes : (t : ℤ) (s s' : State D) (answer : Option Bool) (n : ℕ) (socket offering : Socket) (says : Bool) (to : HardwareAddress)
+      (p : PacketValue) → IsItsTurn (at_moment t s.host.inner) s.places n socket → OffersOnly (at_moment t s.host.inner) socket says offering p
+      → CanLeave (at_moment t s.host.inner) to p → EgressStep moves t s answer s'
+      → LeavesAtOnce moves (at_moment t s.host.inner) n offering to p s.device s'.device answer s'.places
+  offer_goes t s s' answer n socket offering says to p turn only can step =
+      let through : Through socket offering says to p turn.meta (at_moment t s.host.inner) n s.device step.0 =
+      egress_goes socket offering says to p turn.meta (sending t s) s.places n step.0 turn.stands (record { leaves = can; only = only }) turn.ready step.1 in
+      record {
+        all = through.all;
+        are = subst (λ (x : D). AreMoves moves through.all s.device x) (sym (ap (λ (x : State D). x.device) step.2)) through.are;
+        what = subst (λ (a : Option Bool). (list_any is_refused through.all ≡ true)
+            ⊎ WentBy (at_moment t s.host.inner) n offering to p through.all a s'.places)
+            (sym step.3)
+            (subst (λ (ps : List Place). (list_any is_refused through.all ≡ true)
+            ⊎ WentBy (at_moment t s.host.inner) n offering to p through.all (if_changed step.0.changed) ps)
+            (sym (ap (λ (x : State D). x.places) step.2)) through.what);
+      }
+
+  -- and the first datagram of a UDP socket, which then has those behind it
   pub step_goes : (t : ℤ) (s s' : State D) (answer : Option Bool) (n : ℕ) (v : UdpValue) (d : UdpMetadata × List ℕ) (more : List (UdpMetadata × List ℕ))
       (to : HardwareAddress) (p : PacketValue) → HasTurn (at_moment t s.host.inner) s.places n v → contents v.queued ≡ d ∷ more
       → CanGo (at_moment t s.host.inner) v.settings d to p → EgressStep moves t s answer s'
       → GoesAtOnce moves (at_moment t s.host.inner) n v to p s.device s'.device answer s'.places
   step_goes t s s' answer n v d more to p turn queued can step =
-      let through : Through v d more queued to p turn.meta (at_moment t s.host.inner) n s.device step.0 =
-      egress_goes v d more queued to p turn.meta (sending t s) s.places n step.0 turn.stands can turn.ready step.1 in
-      record {
-        all = through.all;
-        are = subst (λ (x : D). AreMoves moves through.all s.device x) (sym (ap (λ (x : State D). x.device) step.2)) through.are;
-        what = subst (λ (a : Option Bool). (list_any is_refused through.all ≡ true) ⊎ WentFrom (at_moment t s.host.inner) n v to p through.all a s'.places)
-            (sym step.3)
-            (subst (λ (ps : List Place). (list_any is_refused through.all ≡ true)
-            ⊎ WentFrom (at_moment t s.host.inner) n v to p through.all (if_changed step.0.changed) ps)
-            (sym (ap (λ (x : State D). x.places) step.2)) through.what);
-      }
+      let goes : LeavesAtOnce moves (at_moment t s.host.inner) n (offering_with p v) to p s.device s'.device answer s'.places =
+      offer_goes t s s' answer n (Kind.Udp v) (offering_with p v) false to p (record { meta = turn.meta; stands = turn.stands; ready = turn.ready })
+      (offers_it (at_moment t s.host.inner) v d p can.takes more queued) (leaves (at_moment t s.host.inner) v.settings d to p can) step in
+      record { all = goes.all; are = goes.are; what = by goes.all goes.what }
+    where
+      by : (xs : List Move) → (list_any is_refused xs ≡ true) ⊎ WentBy (at_moment t s.host.inner) n (offering_with p v) to p xs answer s'.places
+          → (list_any is_refused xs ≡ true) ⊎ WentFrom (at_moment t s.host.inner) n v to p xs answer s'.places
+      by xs (inl refused) = inl refused
+      by xs (inr went) = inr (record {
+        sent = went.sent;
+        wide = went.wide;
+        formed = went.formed;
+        new = Datagrams.settled true (left_with (Some p) v);
+        stands = went.stands;
+        settings = refl;
+        rest = contents-without_first (unpadded v.queued) ∙ ap (drop 1) (contents-unpadded v.queued);
+        told = went.told;
+      })

@@ -1,7 +1,8 @@
--- A poll in which a datagram that is queued behind others goes.
+-- A poll in which what a socket offers goes, and a datagram that is queued behind others.
 use Rattle.std.proofs.Common.{◌≡◌, ℕ, zero, suc, ◌<◌, Bool, true, false, ◌||◌, ◌⊎◌, inl, inr, ℤ, List, [], ◌∷◌, ◌++◌, length, drop, Option, Some, None}
 use Rattle.std.proofs.Common.{refl, sym, ap, ◌∙◌}
 use Rattle.std.proofs.Common.{subst, arith}
+use Rattle.std.specs.Prelude.{slice_get}
 use Rattle.std.specs.List.{list_any, AllByRecursion}
 use Rattle.net_base.specs.Device.{Move, Empty}
 use Rattle.net_base.specs.Packets.{contents}
@@ -10,6 +11,7 @@ use Rattle.sockets.specs.Udp.{UdpValue, UdpSettings}
 use Rattle.sockets.specs.declared.udp.UdpMetadata.{UdpMetadata}
 use Rattle.interface_ingress.specs.Packet.{PacketValue}
 use Rattle.interface_ingress.specs.Socket.{Socket}
+use Rattle.interface_ingress.specs.Socket.TheVariants as Kind
 use Rattle.interface_tables.specs.Inner.{InnerValue, at_moment}
 use Rattle.interface_egress.specs.declared.socket_set.SocketStorage.{SocketStorage}
 use Rattle.interface.specs.Egress.{EgressStep, sending}
@@ -18,14 +20,18 @@ use Rattle.interface.specs.Polls.{Repeats, Polls, begun}
 use Rattle.interface.specs.QuietPoll.{HasNoFrame}
 use Rattle.interface.specs.SameHost.{IsSameHost}
 use Rattle.interface.specs.State.{State}
+use Rattle.interface.specs.Turn.{is_waiting}
 use Rattle.interface.proofs.SameHost.{same_where, egress_same_host}
 use Rattle.stack_laws.specs.Progress.Moves.{AreMoves, is_refused}
 use Rattle.stack_laws.specs.Progress.Queued.{CanGo, HasWay, HasTurn, WentFrom, WentOut, GoesAtOnce, GoesInTurn, frame_under, Sends}
 use Rattle.stack_laws.proofs.Polls.Walks.{joined, refused_before, refused_behind, sends_before, sends_behind}
-use Rattle.stack_laws.proofs.Polls.Ways.{can_still, under_still}
+use Rattle.stack_laws.specs.Progress.Segments.{CanLeave, IsItsTurn, LeavesAtOnce, WentBy}
+use Rattle.stack_laws.proofs.Polls.AnyLeave.{OffersOnly}
+use Rattle.stack_laws.proofs.Polls.OurLeave.{offering_with, offers_it}
+use Rattle.stack_laws.proofs.Polls.Ways.{can_still, leaves, under_still}
 use Rattle.stack_laws.proofs.Polls.Passes.{StepEnds, egress_ends}
 use Rattle.stack_laws.proofs.Polls.Polled.{InEnds}
-use Rattle.stack_laws.proofs.Polls.Goes.{step_goes}
+use Rattle.stack_laws.proofs.Polls.Goes.{offer_goes, step_goes}
 use Rattle.stack_laws.proofs.Polls.Numbers.{IsSmall, step_small}
 
 abbrev Queued : Type 0
@@ -121,25 +127,26 @@ module _ {D : Type 0} (moves : D → Move → D → Type 0) (t : ℤ) where
   behind_small s s' answer step small =
       subst (λ (x : State D). IsSmall (at_moment t x.host.inner)) (sym step.2) (step_small moves (sending t s) s.places step.0 step.1 small)
 
-  module _ (n : ℕ) (d : Queued) (more : List Queued) (to : HardwareAddress) (p : PacketValue) where
+  module _ (n : ℕ) (to : HardwareAddress) (p : PacketValue) where
     abbrev Out : State D → State D → Type 0
     Out s s' = GoesInTurn moves (at_moment t s.host.inner) to p s.device s'.device
 
-    -- the first one goes now
-    now_goes : (m : ℕ) (s s' : State D) (c c' : Bool) (v : UdpValue) → HasTurn (at_moment t s.host.inner) s.places n v → contents v.queued ≡ d ∷ more
-        → CanGo (at_moment t s.host.inner) v.settings d to p → Repeats (EgressStep moves t) (suc m) s c s' c' → Out s s'
-    now_goes m s s' c c' v turn queued can (inl ends) =
-        let one : GoesAtOnce moves (at_moment t s.host.inner) n v to p s.device s'.device None s'.places =
-        step_goes moves t s s' None n v d more to p turn queued can ends.0 in
+    -- what a socket offers goes now
+    pub now_goes : (m : ℕ) (s s' : State D) (c c' : Bool) (socket offering : Socket) (says : Bool) → IsItsTurn (at_moment t s.host.inner) s.places n socket
+        → OffersOnly (at_moment t s.host.inner) socket says offering p → CanLeave (at_moment t s.host.inner) to p
+        → Repeats (EgressStep moves t) (suc m) s c s' c' → Out s s'
+    now_goes m s s' c c' socket offering says turn only can (inl ends) =
+        let one : LeavesAtOnce moves (at_moment t s.host.inner) n offering to p s.device s'.device None s'.places =
+        offer_goes moves t s s' None n socket offering says to p turn only can ends.0 in
         record { all = one.all; are = one.are; what = by one.all one.what }
       where
-        by : (xs : List Move) → (list_any is_refused xs ≡ true) ⊎ WentFrom (at_moment t s.host.inner) n v to p xs None s'.places
+        by : (xs : List Move) → (list_any is_refused xs ≡ true) ⊎ WentBy (at_moment t s.host.inner) n offering to p xs None s'.places
             → Gone (at_moment t s.host.inner) to p xs
         by xs (inl refused) = inl refused
         by xs (inr went) = absurd (none_told true went.told)
-    now_goes m s s' c c' v turn queued can (inr goes) =
-        let one : GoesAtOnce moves (at_moment t s.host.inner) n v to p s.device goes.1.device (Some goes.0) goes.1.places =
-        step_goes moves t s goes.1 (Some goes.0) n v d more to p turn queued can goes.2 in
+    now_goes m s s' c c' socket offering says turn only can (inr goes) =
+        let one : LeavesAtOnce moves (at_moment t s.host.inner) n offering to p s.device goes.1.device (Some goes.0) goes.1.places =
+        offer_goes moves t s goes.1 (Some goes.0) n socket offering says to p turn only can goes.2 in
         let rest : Walk goes.1.device s'.device = steps_walk m goes.1 s' (c || goes.0) c' goes.3 in
         record {
           all = one.all ++ rest.all;
@@ -148,16 +155,43 @@ module _ {D : Type 0} (moves : D → Move → D → Type 0) (t : ℤ) where
         }
       where
         by : (xs : List Move) (b : Bool) (places : List (SocketStorage Socket)) → (list_any is_refused xs ≡ true)
-            ⊎ WentFrom (at_moment t s.host.inner) n v to p xs (Some b) places → Gone (at_moment t s.host.inner) to p xs
+            ⊎ WentBy (at_moment t s.host.inner) n offering to p xs (Some b) places → Gone (at_moment t s.host.inner) to p xs
         by xs b places (inl refused) = inl refused
         by xs b places (inr went) = inr (record { sent = went.sent; wide = went.wide; formed = went.formed })
 
+    -- in a poll that finds no frame
+    pub turn_goes : (budget : ℕ) (s s' : State D) (changed : Bool) (socket offering : Socket) (says : Bool)
+        → IsItsTurn (at_moment t s.host.inner) s.places n socket → OffersOnly (at_moment t s.host.inner) socket says offering p
+        → CanLeave (at_moment t s.host.inner) to p → HasNoFrame moves t s.device → Polls moves t (suc budget) s changed s' → Out s s'
+    turn_goes budget s s' changed socket offering says turn only can none polls =
+        let mid : State D = polls.0 in
+        let entry : InEnds moves t (begun t s) mid = alone (suc budget) (begun t s) mid false polls.1 none polls.2 in
+        let here : at_moment t s.host.inner ≡ at_moment t mid.host.inner = sym entry.inner in
+        let exit : Out mid s' =
+        now_goes budget mid s' polls.1 changed socket offering says
+        (record {
+          meta = turn.meta;
+          stands = ap (λ (ps : List (SocketStorage Socket)). slice_get ps n) entry.places ∙ turn.stands;
+          ready = subst (λ (i : InnerValue). is_waiting i turn.meta ≡ false) here turn.ready;
+        })
+        (subst (λ (i : InnerValue). OffersOnly i socket says offering p) here only)
+        (subst (λ (i : InnerValue). CanLeave i to p) here can) polls.3 in
+        record {
+          all = entry.all ++ exit.all;
+          are = joined moves entry.all exit.all s.device mid.device s'.device entry.are exit.are;
+          what = gone_behind (at_moment t s.host.inner) (at_moment t mid.host.inner) to p entry.all exit.all
+              (same_where (at_moment t s.host.inner) (at_moment t mid.host.inner) (sym here)) (λ small. subst IsSmall here small) exit.what;
+        }
+
+  module _ (n : ℕ) (d : Queued) (more : List Queued) (to : HardwareAddress) (p : PacketValue) where
     -- behind the one that goes now
     out_goes : (budget : ℕ) (before : List Queued) (s s' : State D) (c c' : Bool) (v : UdpValue) → HasTurn (at_moment t s.host.inner) s.places n v
         → contents v.queued ≡ before ++ d ∷ more → length before < budget → AllByRecursion (HasWay (at_moment t s.host.inner) v.settings) before
-        → CanGo (at_moment t s.host.inner) v.settings d to p → Repeats (EgressStep moves t) budget s c s' c' → Out s s'
+        → CanGo (at_moment t s.host.inner) v.settings d to p → Repeats (EgressStep moves t) budget s c s' c' → Out n to p s s'
     out_goes zero before s s' c c' v turn queued short ways can steps = absurd (below_none (length before) short)
-    out_goes (suc m) [] s s' c c' v turn queued short ways can steps = now_goes m s s' c c' v turn queued can steps
+    out_goes (suc m) [] s s' c c' v turn queued short ways can steps =
+        now_goes n to p m s s' c c' (Kind.Udp v) (offering_with p v) false (record { meta = turn.meta; stands = turn.stands; ready = turn.ready })
+        (offers_it (at_moment t s.host.inner) v d p can.takes more queued) (leaves (at_moment t s.host.inner) v.settings d to p can) steps
     out_goes (suc m) (b ∷ before) s s' c c' v turn queued short ways can (inl ends) =
         let one : GoesAtOnce moves (at_moment t s.host.inner) n v ways.0.0 ways.0.1 s.device s'.device None s'.places =
         step_goes moves t s s' None n v b (before ++ d ∷ more) ways.0.0 ways.0.1 turn queued ways.0.2 ends.0 in
@@ -186,7 +220,7 @@ module _ {D : Type 0} (moves : D → Move → D → Type 0) (t : ℤ) where
       where
         by : (xs : List Move) → AreMoves moves xs s.device goes.1.device
             → (list_any is_refused xs ≡ true) ⊎ WentFrom (at_moment t s.host.inner) n v ways.0.0 ways.0.1 xs (Some goes.0) goes.1.places
-            → (WentFrom (at_moment t s.host.inner) n v ways.0.0 ways.0.1 xs (Some goes.0) goes.1.places → Out goes.1 s') → Out s s'
+            → (WentFrom (at_moment t s.host.inner) n v ways.0.0 ways.0.1 xs (Some goes.0) goes.1.places → Out n to p goes.1 s') → Out n to p s s'
         by xs are (inl refused) then_on =
             let rest : Walk goes.1.device s'.device = steps_walk m goes.1 s' (c || goes.0) c' goes.3 in
             record {
@@ -195,7 +229,7 @@ module _ {D : Type 0} (moves : D → Move → D → Type 0) (t : ℤ) where
               what = inl (refused_before xs rest.all refused);
             }
         by xs are (inr went) then_on =
-            let rest : Out goes.1 s' = then_on went in
+            let rest : Out n to p goes.1 s' = then_on went in
             record {
               all = xs ++ rest.all;
               are = joined moves xs rest.all s.device goes.1.device s'.device are rest.are;
@@ -215,8 +249,8 @@ module _ {D : Type 0} (moves : D → Move → D → Type 0) (t : ℤ) where
       out_goes n d more to p budget before mid s' polls.1 changed v
       (record {
         meta = turn.meta;
-        stands = ap (λ (ps : List (SocketStorage Socket)). Rattle.std.specs.Prelude.slice_get ps n) entry.places ∙ turn.stands;
-        ready = subst (λ (i : InnerValue). Rattle.interface.specs.Turn.is_waiting i turn.meta ≡ false) here turn.ready;
+        stands = ap (λ (ps : List (SocketStorage Socket)). slice_get ps n) entry.places ∙ turn.stands;
+        ready = subst (λ (i : InnerValue). is_waiting i turn.meta ≡ false) here turn.ready;
       })
       queued short
       (subst (λ (i : InnerValue). AllByRecursion (HasWay i v.settings) before) here ways)

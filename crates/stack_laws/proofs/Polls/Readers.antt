@@ -1,4 +1,4 @@
--- What another host reads of a datagram that went.
+-- What another host reads of a packet that went, and of a datagram.
 use Rattle.std.proofs.Common.{◌≡◌, ◌≢◌, ℕ, ◌+◌, ◌^◌, ◌≤◌, arith, false, List, length, Option, Some, None, refl, sym, ap, ◌∙◌, subst}
 use Rattle.std.specs.Prelude.{nat_lt}
 use Rattle.std.proofs.lemmas.Bool.{cond_both}
@@ -29,7 +29,8 @@ use Rattle.interface.specs.Taken as Taken
 use Rattle.interface.proofs.Arrives.{arrives}
 use Rattle.interface.proofs.Offered.{writes, carried}
 use Rattle.stack_laws.specs.Progress.Queued.{CanGo, with_ident, ports_of, FindsDatagram}
-use Rattle.stack_laws.proofs.Polls.Ways.{can_still, goes_by_plan}
+use Rattle.stack_laws.specs.Progress.Segments.{CanLeave}
+use Rattle.stack_laws.proofs.Polls.Ways.{goes_by_plan, leave_still, leaves}
 
 payload_widths : (x : PayloadValue) → HasWidths x → IsPayload x
 payload_widths (ControlV4 message bytes) widths = widths
@@ -98,25 +99,33 @@ from : (o : Option IpAddress) (settings : UdpSettings) (destination : IpAddress)
 from None settings destination size h = none_carries h
 from (Some source) settings destination size h = between source destination (8 + size) (hops settings.hop_limit) h
 
-module _ (i : InnerValue) (ident : ℕ) (settings : UdpSettings) (d : UdpMetadata × List ℕ) (to : HardwareAddress) (p : PacketValue) (reader : Reader)
-    (wide : Taken.HasWidths (with_ident i ident)) (can : CanGo i settings d to p) (formed : IsWellFormed p) (reads : CanRead i to reader) where
-  then_can : CanGo (with_ident i ident) settings d to p
-  then_can = can_still i (with_ident i ident) settings d to p refl can
+-- WHAT IS READ OF A PACKET THAT WENT
 
+module _ (i : InnerValue) (ident : ℕ) (to : HardwareAddress) (p : PacketValue) (reader : Reader) (wide : Taken.HasWidths (with_ident i ident))
+    (can : CanLeave i to p) (formed : IsWellFormed p) (reads : CanRead i to reader) where
   planned : plan_of (with_ident i ident) false p.header ≡ Way.Go to
-  planned = goes_by_plan (with_ident i ident) false settings d to p then_can
+  planned = goes_by_plan (with_ident i ident) false to p (leave_still i (with_ident i ident) to p refl can)
 
   then_reads : CanRead (with_ident i ident) to reader
   then_reads = record { medium = reads.medium; sealed = reads.sealed }
 
-  pub is_read : IsRead (with_ident i ident) (Whole to (numbered (with_ident i ident) p)) reader
-  is_read padding =
+  pub packet_read : IsRead (with_ident i ident) (Whole to (numbered (with_ident i ident) p)) reader
+  packet_read padding =
       arrives (with_ident i ident) reader.hardware reader.checksums (Whole to (numbered (with_ident i ident) p)) padding reads.sealed (
         reads.medium,
         writes (with_ident i ident) p wide (offered p formed)
             (short_enough (total_len p.header) (mtu_to i (destination_of p.header)) i.mtu can.short
             (mtu_within i.paths (destination_of p.header) i.moment i.mtu) wide.mtu),
       )
+
+  pub brings : CanBeRead p.header p.payload → IsBrought reader.checksums (Ips.normal (numbered (with_ident i ident) p).header)
+      (payload_written i.checksums (numbered (with_ident i ident) p).header p.payload) (Some (normal_payload p.payload))
+  brings readable = carried (with_ident i ident) false p to reader wide (offered p formed) planned then_reads readable
+
+module _ (i : InnerValue) (ident : ℕ) (settings : UdpSettings) (d : UdpMetadata × List ℕ) (to : HardwareAddress) (p : PacketValue) (reader : Reader)
+    (wide : Taken.HasWidths (with_ident i ident)) (can : CanGo i settings d to p) (formed : IsWellFormed p) (reads : CanRead i to reader) where
+  pub is_read : IsRead (with_ident i ident) (Whole to (numbered (with_ident i ident) p)) reader
+  is_read = packet_read i ident to p reader wide (leaves i settings d to p can) formed reads
 
   is_datagram : p.payload ≡ Datagram (ports_of settings d) d.1
   is_datagram = ap (λ (q : PacketValue). q.payload) can.takes.1
@@ -137,4 +146,4 @@ module _ (i : InnerValue) (ident : ℕ) (settings : UdpSettings) (d : UdpMetadat
       subst
       (λ (x : PayloadValue). IsBrought reader.checksums (Ips.normal (numbered (with_ident i ident) p).header)
       (payload_written i.checksums (numbered (with_ident i ident) p).header p.payload) (Some (normal_payload x)))
-      is_datagram (carried (with_ident i ident) false p to reader wide (offered p formed) planned then_reads (readable some))
+      is_datagram (brings i ident to p reader wide (leaves i settings d to p can) formed reads (readable some))

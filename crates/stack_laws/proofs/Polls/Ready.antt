@@ -33,7 +33,8 @@ use Rattle.stack_laws.specs.Progress.Queued.{CanGo, HasTurn, HasWay, frame_under
 use Rattle.stack_laws.specs.Progress.Ready.{BringsAtMost, HasRoomBehind, HasRoomWhatever, IsExpectedThroughout, IsStillExpected}
 use Rattle.stack_laws.proofs.Peers.Arrivals.{IsOfArrivals, brings_holds}
 use Rattle.stack_laws.proofs.Peers.Place.{Found, HoldsAt, at_so, found_holds, holds_found}
-use Rattle.stack_laws.proofs.Polls.Inbox.{Expects, Waits, arrives_where, same_value}
+use Rattle.stack_laws.proofs.Polls.Frames.{Waits}
+use Rattle.stack_laws.proofs.Polls.Inbox.{Expects, arrives_where, same_value}
 use Rattle.stack_laws.proofs.Polls.Lengths.{AreShort, brought_short, datagram_short, expired_short, takes_short}
 use Rattle.stack_laws.proofs.Polls.Rooms.{HasRoom, room_behind, room_less, takes}
 use Rattle.stack_laws.proofs.Polls.Stays.{reads_still, still_expected}

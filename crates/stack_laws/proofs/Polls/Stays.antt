@@ -12,7 +12,7 @@ use Rattle.ip_packet.specs.Ip.{destination_of, source_of}
 use Rattle.ip_packet.specs.declared.ip.repr.IpRepr.{IpRepr}
 use Rattle.ip_packet.specs.declared.udp.repr.UdpRepr.{UdpRepr}
 use Rattle.ip_wire.specs.AddressTests.{is_broadcast_v4, is_ethernet_broadcast, is_ethernet_multicast, is_loopback, is_same_hardware, is_unicast_v4}
-use Rattle.ip_wire.specs.AddressTests.{is_unspecified_v4}
+use Rattle.ip_wire.specs.AddressTests.{is_multicast, is_unspecified, is_unspecified_v4}
 use Rattle.ip_wire.specs.HardwareAddress.{HardwareAddress}
 use Rattle.ip_wire.specs.HardwareAddress.TheVariants as Hardware
 use Rattle.ip_wire.specs.IpAddress.{IpAddress}
@@ -26,6 +26,7 @@ use Rattle.sockets.specs.declared.socket.Socket.{Socket}
 use Rattle.sockets.specs.declared.udp.UdpMetadata.{UdpMetadata}
 use Rattle.sockets.specs.declared.socket.Socket.TheVariants as Kind
 use Rattle.interface_ingress.specs.Delivered.{Places, datagram_place, passes, passes_in}
+use Rattle.interface_ingress.specs.Handed.{names_nobody}
 use Rattle.interface_ingress.specs.Kept.{HasSameSettings}
 use Rattle.interface_ingress.specs.Packet.{PacketValue}
 use Rattle.interface_ingress.specs.Reassembled.{is_astray}
@@ -111,6 +112,26 @@ module _ {E : Type 0} (moves : E → Move → E → Type 0) (u : ℤ) where
   steps_same (suc n) s s' steps =
       settings_then s.host.inner steps.0.host.inner s'.host.inner (steps_same n s steps.0 steps.1) (step_same steps.0 s' steps.2)
 
+  pub reached_same : (s s' : State E) → Reaches moves u s s' → HasSettingsOf (at_moment u s.host.inner) (at_moment u s'.host.inner)
+  reached_same s s' so =
+      let it : HasSettingsOf s.host.inner s'.host.inner = steps_same so.count s s' so.steps in
+      record {
+        hardware = it.hardware;
+        mtu = it.mtu;
+        checksums = it.checksums;
+        addresses = it.addresses;
+        isn_key = it.isn_key;
+        any_ip = it.any_ip;
+        routes = it.routes;
+      }
+
+  -- and so does what it reads
+  pub reads_then : (s s' : State E) → Reaches moves u s s' → (i : InnerValue) (to : HardwareAddress) → CanRead i to (reader_of s.host.inner)
+      → CanRead i to (reader_of s'.host.inner)
+  reads_then s s' so i to reads =
+      let same : HasSettingsOf (at_moment u s.host.inner) (at_moment u s'.host.inner) = reached_same s s' so in
+      subst (CanRead i to) (λ k. record { hardware = sym same.hardware k; checksums = sym same.checksums k }) reads
+
 -- WHAT A HOST ACCEPTS BY ITS SETTINGS
 
 module _ (i i' : InnerValue) (same : HasSettingsOf i i') where
@@ -125,24 +146,27 @@ module _ (i i' : InnerValue) (same : HasSettingsOf i i') where
   own : (a : IpAddress) → is_own i' a ≡ is_own i a
   own a k = same.any_ip k || list_any (is_address_of a) (same.addresses k)
 
-  for_us : (a : IpAddress) → is_for_us i' a ≡ is_for_us i a
+  pub for_us : (a : IpAddress) → is_for_us i' a ≡ is_for_us i a
   for_us a k = own a k || member a k || broadcast a k || is_loopback_in a
 
   pub foreign : (a : IpAddress) → is_foreign_loopback i' a ≡ is_foreign_loopback i a
   foreign a = ap (λ (bs : List IpCidr). is_loopback a && not (list_any (is_loopback_of a) bs)) same.addresses
 
-  astray : (a b : IpAddress) → is_astray i' a b ≡ is_astray i a b
+  pub astray : (a b : IpAddress) → is_astray i' a b ≡ is_astray i a b
   astray a b k = foreign a k || foreign b k
 
-  sender : (a : IpAddress) → may_be_sender i' a ≡ may_be_sender i a
+  pub sender : (a : IpAddress) → may_be_sender i' a ≡ may_be_sender i a
   sender (Address.Ipv4 a) = ap (λ (b : Bool). (is_unicast_v4 a && not b) || is_unspecified_v4 a) (broadcast (Address.Ipv4 a))
   sender (Address.Ipv6 a) = refl
 
-  heard : (to : HardwareAddress) → hears i' to ≡ hears i to
+  pub heard : (to : HardwareAddress) → hears i' to ≡ hears i to
   heard Hardware.Ip = refl
   heard (Hardware.Ethernet station) =
       ap (λ (h : HardwareAddress). is_same_hardware h (Hardware.Ethernet station) || (is_ethernet_broadcast station || is_ethernet_multicast station))
       same.hardware
+
+  pub nobody : (ip : IpRepr) → names_nobody i' ip ≡ names_nobody i ip
+  nobody ip k = is_unspecified (source_of ip) || (is_unspecified (destination_of ip) || (broadcast (destination_of ip) k || is_multicast (destination_of ip)))
 
   still : (places places' : Places) (to : HardwareAddress) (header : IpRepr) (ports : UdpRepr) (m : ℕ) (meta meta' : Meta) (w w' : UdpValue)
       → IsExpected i places to header ports m meta w → datagram_place (context_of i') header ports places' ≡ Some m
@@ -184,35 +208,35 @@ module _ {X : Type 0} (p : X → Bool) (d : X) where
 -- A PLACE AND WHAT IS FOUND THERE
 
 module _ (F : Type 0) (W : Socket → Type 0) where
-  at_from : (places : Places) (k : ℕ) → k < length places → ItemOr F W (get_or places k free).inner → AtOr F W places k
+  pub at_from : (places : Places) (k : ℕ) → k < length places → ItemOr F W (get_or places k free).inner → AtOr F W places k
   at_from [] k within holds = absurd (omega (arith, within))
   at_from (p ∷ ps) zero within holds = holds
   at_from (p ∷ ps) (suc k) within holds = at_from ps k (omega (arith, within)) holds
 
-  from_at : (places : Places) (k : ℕ) → AtOr F W places k → ItemOr F W (get_or places k free).inner
+  pub from_at : (places : Places) (k : ℕ) → AtOr F W places k → ItemOr F W (get_or places k free).inner
   from_at [] k holds = absurd holds
   from_at (p ∷ ps) zero holds = holds
   from_at (p ∷ ps) (suc k) holds = from_at ps k holds
 
-record Stands (places : Places) (m : ℕ) (w : UdpValue) : Type 0 where
-  meta : Meta
-  within : m < length places
-  here : get_or places m free ≡ udp_place meta w
-  stands : slice_get places m ≡ Some (udp_place meta w)
+pub record Stands (places : Places) (m : ℕ) (s : Socket) : Type 0 where
+  pub meta : Meta
+  pub within : m < length places
+  pub here : get_or places m free ≡ record { inner = Some (record { meta = meta; socket = s }) }
+  pub stands : slice_get places m ≡ Some (record { inner = Some (record { meta = meta; socket = s }) })
 
-stands_at : (places : Places) (m : ℕ) (w : UdpValue) → HoldsAt (λ s. s ≡ Kind.Udp w) places m → Stands places m w
-stands_at [] m w holds = absurd holds
-stands_at (p ∷ ps) zero w holds = by p.inner holds where
-  by : (o : Option (Item Socket)) → ItemOr ⊥ (λ s. s ≡ Kind.Udp w) o → Stands (record { inner = o } ∷ ps) zero w
+pub stands_at : (places : Places) (m : ℕ) (s : Socket) → HoldsAt (λ x. x ≡ s) places m → Stands places m s
+stands_at [] m s holds = absurd holds
+stands_at (p ∷ ps) zero s holds = by p.inner holds where
+  by : (o : Option (Item Socket)) → ItemOr ⊥ (λ x. x ≡ s) o → Stands (record { inner = o } ∷ ps) zero s
   by None none = absurd none
   by (Some item) is = record {
     meta = item.meta;
     within = omega arith;
-    here = ap (λ (s : Socket). record { inner = Some (record { meta = item.meta; socket = s }) }) is;
-    stands = ap (λ (s : Socket). Some (record { inner = Some (record { meta = item.meta; socket = s }) })) is;
+    here = ap (λ (x : Socket). record { inner = Some (record { meta = item.meta; socket = x }) }) is;
+    stands = ap (λ (x : Socket). Some (record { inner = Some (record { meta = item.meta; socket = x }) })) is;
   }
-stands_at (p ∷ ps) (suc m) w holds =
-    let rest = stands_at ps m w holds in
+stands_at (p ∷ ps) (suc m) s holds =
+    let rest = stands_at ps m s holds in
     record { meta = rest.meta; within = omega (arith, rest.within); here = rest.here; stands = rest.stands }
 
 -- THE SOCKETS STAY AS THEY ARE FOR THIS DATAGRAM
@@ -251,17 +275,7 @@ module _ {E : Type 0} (moves : E → Move → E → Type 0) (u : ℤ) (r : State
     then_host = at_moment u x.host.inner
 
     same : HasSettingsOf (at_moment u r.host.inner) then_host
-    same =
-        let it : HasSettingsOf r.host.inner x.host.inner = steps_same moves u so.count r x so.steps in
-        record {
-          hardware = it.hardware;
-          mtu = it.mtu;
-          checksums = it.checksums;
-          addresses = it.addresses;
-          isn_key = it.isn_key;
-          any_ip = it.any_ip;
-          routes = it.routes;
-        }
+    same = reached_same moves u r x so
 
     broadcasts : (context_of then_host).is_broadcast (destination_of header) ≡ at_first.is_broadcast (destination_of header)
     broadcasts = broadcast (at_moment u r.host.inner) then_host same (destination_of header)
@@ -272,8 +286,8 @@ module _ {E : Type 0} (moves : E → Move → E → Type 0) (u : ℤ) (r : State
         (reached moves u r ⊥ (GotMore moves u r w) (got_law moves u r w) m so.count x
         (found_holds (GotMore moves u r w) r.places m (Kind.Udp w) (ap socket_in is.expected.stands) (got_first moves u r w)) so.steps).1
 
-    there : Stands x.places m got.holds.new
-    there = stands_at x.places m got.holds.new (found_holds (λ s. s ≡ Kind.Udp got.holds.new) x.places m got.socket got.is got.holds.is)
+    there : Stands x.places m (Kind.Udp got.holds.new)
+    there = stands_at x.places m (Kind.Udp got.holds.new) (found_holds (λ s. s ≡ Kind.Udp got.holds.new) x.places m got.socket got.is got.holds.is)
 
     accepted : Udps.accepts at_first w header ports ≡ true
     accepted =
@@ -313,8 +327,7 @@ module _ {E : Type 0} (moves : E → Move → E → Type 0) (u : ℤ) (r : State
     }
 
     pub reads_still : (i : InnerValue) → CanRead i to (reader_of r.host.inner) → CanRead i to (reader_of x.host.inner)
-    reads_still i reads =
-        subst (CanRead i to) (λ k. record { hardware = sym same.hardware k; checksums = sym same.checksums k }) reads
+    reads_still i reads = reads_then moves u r x so i to reads
 
 -- so, with room throughout, it is ready
 pub is_ready : {E : Type 0} (moves : E → Move → E → Type 0) (frames_at : E → List (List ℕ)) (u : ℤ) (r : State E) (i : InnerValue) (to : HardwareAddress)

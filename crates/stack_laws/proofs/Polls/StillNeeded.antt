@@ -19,7 +19,7 @@ use Rattle.interface.specs.Remote.{context_for}
 use Rattle.interface.specs.Turn.{is_waiting}
 use Rattle.stack_laws.specs.Progress.Asked.{HasToAsk}
 use Rattle.stack_laws.specs.Progress.Turns.{IsNeedy, NeedsHop, StillNeeds}
-use Rattle.stack_laws.proofs.Polls.OurLeave.{source_stays}
+use Rattle.stack_laws.proofs.Polls.AnyLeave.{source_stays}
 
 module _ (i : InnerValue) (v : UdpValue) (d : UdpMetadata × List ℕ) (more : List (UdpMetadata × List ℕ)) (hop : IpAddress) (p : PacketValue)
     (queued : contents v.queued ≡ d ∷ more) (has : HasToAsk i v.settings d hop p) where

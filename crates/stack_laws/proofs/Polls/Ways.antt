@@ -1,4 +1,4 @@
--- What a step of the way out leaves of the way of a datagram.
+-- What a step of the way out leaves of the way of a packet.
 use Rattle.std.proofs.Common.{◌≡◌, ℕ, Bool, true, false, if◌then◌else◌, ℤ, int_lt, List, Option, Some, None, refl, sym, ap, ◌∙◌, subst}
 use Rattle.std.proofs.lemmas.Bool.{le-leb}
 use Rattle.net_base.specs.ChecksumCapabilities.{ChecksumCapabilities}
@@ -9,12 +9,12 @@ use Rattle.ip_wire.specs.Ip.{destination_of}
 use Rattle.ip_wire.specs.IpAddress.{IpAddress}
 use Rattle.ip_wire.specs.IpRepr.{IpRepr}
 use Rattle.ip_wire.specs.IpRepr.TheVariants as Ip
-use Rattle.sockets.specs.Udp.{UdpSettings}
+use Rattle.sockets.specs.Udp.{UdpSettings, TakesDatagram}
 use Rattle.sockets.specs.declared.udp.UdpMetadata.{UdpMetadata}
 use Rattle.interface_ingress.specs.Packet.{PacketValue}
 use Rattle.interface_tables.specs.Best.{at_place}
 use Rattle.interface_tables.specs.Inner.{InnerValue, is_local_broadcast, next_hop, link_by, link_of_hop, link_on, link_address, all_stations, group_station}
-use Rattle.interface_tables.specs.Inner.{mtu_to}
+use Rattle.interface_tables.specs.Inner.{context_of, mtu_to}
 use Rattle.interface_tables.specs.Inner.{is_known_on, is_known_hop}
 use Rattle.interface_tables.specs.Neighbor.{CacheValue, lookup, missing, answer_by, place_of, unless_failed, has_failed, is_found}
 use Rattle.interface_tables.specs.declared.link.LinkAddress.{LinkAddress}
@@ -32,6 +32,7 @@ use Rattle.interface_egress.specs.declared.socket_meta.Meta.{Meta}
 use Rattle.interface.specs.SameHost.{IsSameHost}
 use Rattle.interface.specs.Turn.{is_known, is_waiting}
 use Rattle.stack_laws.specs.Progress.Queued.{CanGo, with_ident, frame_under}
+use Rattle.stack_laws.specs.Progress.Segments.{CanLeave}
 
 clash : {X : Type 0} → true ≡ false → X
 clash {X} e = absurd cc
@@ -159,24 +160,33 @@ module _ (i : InnerValue) (ident : ℕ) (silent : ℤ) (searches : List Search) 
   heard_still None = refl
   heard_still (Some address) = neighbor_still (next_hop i address)
 
-  go_still : (settings : UdpSettings) (d : UdpMetadata × List ℕ) (to : HardwareAddress) (p : PacketValue) → CanGo i settings d to p
-      → CanGo later settings d to p
-  go_still settings d to p can = record {
-    takes = can.takes;
-    may = can.may;
-    known = on_still i.hardware (destination_of p.header) to can.known;
-    short = can.short;
-  }
+  leaves_still : (to : HardwareAddress) (p : PacketValue) → CanLeave i to p → CanLeave later to p
+  leaves_still to p can = record { may = can.may; known = on_still i.hardware (destination_of p.header) to can.known; short = can.short }
 
   ready_still : (m : Meta) → is_waiting i m ≡ false → is_waiting later m ≡ false
   ready_still m ready = ap (λ (known : Bool). waits_by m.waiting known i.moment) (heard_still (neighbor_by m.waiting)) ∙ ready
 
 -- WHAT A STEP OF THE WAY OUT LEAVES
 
+pub leave_still : (i i' : InnerValue) (to : HardwareAddress) (p : PacketValue) → IsSameHost i i' → CanLeave i to p → CanLeave i' to p
+leave_still i i' to p same can =
+    subst (λ (x : InnerValue). CanLeave x to p) (sym same) (leaves_still i i'.ident i'.neighbors.silent i'.neighbors.searches to p can)
+
+-- a datagram's packet leaves so
+pub leaves : (i : InnerValue) (settings : UdpSettings) (d : UdpMetadata × List ℕ) (to : HardwareAddress) (p : PacketValue) → CanGo i settings d to p
+    → CanLeave i to p
+leaves i settings d to p can = record { may = can.may; known = can.known; short = can.short }
+
 pub can_still : (i i' : InnerValue) (settings : UdpSettings) (d : UdpMetadata × List ℕ) (to : HardwareAddress) (p : PacketValue) → IsSameHost i i'
     → CanGo i settings d to p → CanGo i' settings d to p
 can_still i i' settings d to p same can =
-    subst (λ (x : InnerValue). CanGo x settings d to p) (sym same) (go_still i i'.ident i'.neighbors.silent i'.neighbors.searches settings d to p can)
+    let left : CanLeave i' to p = leave_still i i' to p same (leaves i settings d to p can) in
+    record {
+      takes = subst (λ (x : InnerValue). TakesDatagram (context_of x) settings d p) (sym same) can.takes;
+      may = left.may;
+      known = left.known;
+      short = left.short;
+    }
 
 pub waits_still : (i i' : InnerValue) (m : Meta) → IsSameHost i i' → is_waiting i m ≡ false → is_waiting i' m ≡ false
 waits_still i i' m same ready =
@@ -184,9 +194,8 @@ waits_still i i' m same ready =
 
 -- THE PLAN AND THE FRAME
 
-pub goes_by_plan : (i : InnerValue) (busy : Bool) (settings : UdpSettings) (d : UdpMetadata × List ℕ) (to : HardwareAddress) (p : PacketValue)
-    → CanGo i settings d to p → plan_of i busy p.header ≡ Way.Go to
-goes_by_plan i busy settings d to p can =
+pub goes_by_plan : (i : InnerValue) (busy : Bool) (to : HardwareAddress) (p : PacketValue) → CanLeave i to p → plan_of i busy p.header ≡ Way.Go to
+goes_by_plan i busy to p can =
     ap (λ (never : Bool). if never then Way.Drop else plan_by (link_address i (destination_of p.header)) i busy p.header) can.may
     ∙ ap (λ (l : LinkAddress). plan_by l i busy p.header) can.known
     ∙ ap (λ (fits : Bool). if fits then Way.Go to else long_plan busy to p.header) (le-leb (total_len p.header) (mtu_to i (destination_of p.header)) can.short)

@@ -1,0 +1,398 @@
+-- A poll that comes to a frame which waits among others, and in which a segment comes to the socket of its connection.
+use Rattle.std.proofs.Common.{◌≡◌, ℕ, zero, suc, ◌<◌, ◌≤◌, ◌&&◌, Bool, true, false, not, ◌⊎◌, inl, inr, ℤ, List, [], ◌∷◌, ◌++◌, length, get_or, Option, Some, None, IsTrue}
+use Rattle.std.proofs.Common.{refl, sym, ap, ◌∙◌, subst, arith}
+use Rattle.std.specs.List.{list_any}
+use Rattle.std.proofs.lemmas.List.Quantifiers.{position-Some}
+use Rattle.std.proofs.lemmas.Option.{get_or_from_slice_get}
+use Rattle.net_base.specs.Device.{Move, Empty}
+use Rattle.ip_address.specs.declared.hardware.HardwareAddress.{HardwareAddress}
+use Rattle.ip_packet.specs.Ip.{destination_of, source_of}
+use Rattle.ip_packet.specs.declared.ip.repr.IpRepr.{IpRepr}
+use Rattle.ip_wire.specs.TcpHeader.{TcpHeader}
+use Rattle.sockets.specs.Socket.{accepts_segment}
+use Rattle.tcp_control.specs.States.{is_closed}
+use Rattle.tcp_model.specs.Arrival.{arrives}
+use Rattle.tcp_model.specs.Value.{TcpValue}
+use Rattle.tcp_progress.specs.Sent.{is_early}
+use Rattle.interface_ingress.specs.Delivered.{Places, first_place, is_listener, passes, passes_in}
+use Rattle.interface_ingress.specs.Packet.{PacketValue, Segment, packet_of}
+use Rattle.interface_ingress.specs.Socket.{Socket}
+use Rattle.interface_ingress.specs.Socket.TheVariants as Kind
+use Rattle.interface_ingress.specs.WellFormed.{IsWellFormed}
+use Rattle.interface_tables.specs.Inner.{InnerValue, at_moment, context_of}
+use Rattle.interface_tables.specs.Reassembly.{or_else}
+use Rattle.interface_egress.specs.Departing.{HasSettingsOf}
+use Rattle.interface_egress.specs.Set.{free, socket_in}
+use Rattle.interface_egress.specs.declared.socket_meta.Meta.{Meta}
+use Rattle.interface_egress.specs.declared.socket_set.Item.{Item}
+use Rattle.interface.specs.Ingress.{IngressStep, is_read}
+use Rattle.interface.specs.Polls.{Polls, Repeats, begun}
+use Rattle.interface.specs.QuietPoll.{HasNoFrame}
+use Rattle.interface.specs.State.{State}
+use Rattle.interface.specs.Taken.{CanRead, HasWidths}
+use Rattle.interface.proofs.Keep.{in_step_keeps}
+use Rattle.interface.proofs.Kept.{IsKept, RunsAt}
+use Rattle.stack_laws.specs.PeerHost.Beside.{Event}
+use Rattle.stack_laws.specs.PeerHost.Goes.{after_all}
+use Rattle.stack_laws.specs.PeerHost.Steps.{Reaches}
+use Rattle.stack_laws.specs.PeerHost.Streams.{AreOfPoll, IsTcpAt}
+use Rattle.stack_laws.specs.Progress.Delivered.{RefusesNothing, reader_of}
+use Rattle.stack_laws.specs.Progress.Inbox.{BringsAmong, WaitsAmong}
+use Rattle.stack_laws.specs.Progress.Leave.{IsInboxWhile, LiesAmong}
+use Rattle.stack_laws.specs.Progress.Moves.{is_refused}
+use Rattle.stack_laws.specs.Progress.Queued.{GoesInTurn, WentOut, frame_under, with_ident}
+use Rattle.stack_laws.specs.Progress.Segments.{CanLeave, ComesAmong, HasComeTo, HasConnection, IsAwaited, IsAwaitedThroughout, IsItsTurn, OffersSegment}
+use Rattle.stack_laws.specs.Progress.Segments.{asked_by, tcp_place}
+use Rattle.stack_laws.proofs.Peers.Place.{Found, HoldsAt, found_holds, holds_found}
+use Rattle.stack_laws.proofs.Peers.Taken.{kept}
+use Rattle.stack_laws.proofs.Peers.Tcp.{LedTo, led_law}
+use Rattle.stack_laws.proofs.Polls.AnyLeave.{OffersOnly}
+use Rattle.stack_laws.proofs.Polls.Connected.{Has, NoneBefore, StaysLate, before_first, events_late, is_first, late_at, not_listening, not_over, still_has}
+use Rattle.stack_laws.proofs.Peers.Devices.{device_kept}
+use Rattle.stack_laws.proofs.Polls.Frames.{Comes, IsInOrder, Waits, comes, ins, one_in, outs}
+use Rattle.stack_laws.proofs.Polls.Inbox.{went_as}
+use Rattle.stack_laws.proofs.Polls.InTurn.{turn_goes}
+use Rattle.stack_laws.proofs.Polls.SegmentSteps.{step_none}
+use Rattle.stack_laws.proofs.Polls.Segments.{comes as it_comes, offers_only}
+use Rattle.stack_laws.proofs.Polls.Stays.{Stands, astray, for_us, heard, nobody, position_is, reached_same, reads_then, sender, stands_at}
+
+clash : {X : Type 0} → true ≡ false → X
+clash {X} e = absurd cc
+
+same_socket : (a b : TcpValue) → Some (Kind.Tcp a) ≡ Some (Kind.Tcp b) → a ≡ b
+same_socket a b is = let inside : Kind.Tcp a ≡ Kind.Tcp b = cc in let at : a ≡ b = cc in at
+
+-- WHAT A POLL MAKES OF A TCP SOCKET
+
+module _ {E : Type 0} (moves : E → Move → E → Type 0) (u : ℤ) (from : State E) (v : TcpValue) (m : ℕ) where
+  abbrev Led : State E → Type 0
+  Led s = Reaches moves u from s × HoldsAt (LedTo moves u from v) s.places m
+
+  led_kept : IsKept moves u Led
+  led_kept = kept moves u from ⊥ (LedTo moves u from v) (led_law moves u from v) m
+
+  led_here : (s : State E) → Reaches moves u from s → HoldsAt (λ x. x ≡ Kind.Tcp v) s.places m → Led s
+  led_here s so here =
+      let it : Found (λ x. x ≡ Kind.Tcp v) s.places m = holds_found (λ x. x ≡ Kind.Tcp v) s.places m here in
+      (so, found_holds (LedTo moves u from v) s.places m it.socket it.is (record { events = []; are = tt; is = it.holds }))
+
+  -- it is led on by events
+  record IsLed (s : State E) : Type 0 where
+    events : List Event
+    are : AreOfPoll moves u from v events
+    here : HoldsAt (λ x. x ≡ Kind.Tcp (after_all v events)) s.places m
+
+  is_led : (s : State E) → Led s → IsLed s
+  is_led s led =
+      let it : Found (LedTo moves u from v) s.places m = holds_found (LedTo moves u from v) s.places m led.1 in
+      record {
+        events = it.holds.events;
+        are = it.holds.are;
+        here = found_holds (λ x. x ≡ Kind.Tcp (after_all v it.holds.events)) s.places m it.socket it.is it.holds.is;
+      }
+
+-- the socket at a place is one
+at_place_is : (places : Places) (m : ℕ) (v : TcpValue) → HoldsAt (λ x. x ≡ Kind.Tcp v) places m → IsTcpAt places m v
+at_place_is places m v here =
+    let it : Found (λ x. x ≡ Kind.Tcp v) places m = holds_found (λ x. x ≡ Kind.Tcp v) places m here in it.is ∙ ap (λ (s : Socket). Some s) it.holds
+
+same_here : (places : Places) (m : ℕ) (a b : TcpValue) → HoldsAt (λ x. x ≡ Kind.Tcp a) places m → IsTcpAt places m b → a ≡ b
+same_here places m a b here there = same_socket a b (sym (at_place_is places m a here) ∙ there)
+
+same_here' : (places : Places) (m : ℕ) (a b : TcpValue) → HoldsAt (λ x. x ≡ Kind.Tcp a) places m → HoldsAt (λ x. x ≡ Kind.Tcp b) places m → a ≡ b
+same_here' places m a b here there = same_here places m a b here (at_place_is places m b there)
+
+reaches_itself : {E : Type 0} (moves : E → Move → E → Type 0) (u : ℤ) (s : State E) → Reaches moves u s s
+reaches_itself moves u s = record { count = zero; steps = refl }
+
+-- a TCP socket with its connection is the first that has it, or its connection is over
+pub record Holds (m : ℕ) (ip : IpRepr) (header : TcpHeader) {E : Type 0} (s : State E) : Type 0 where
+  pub value : TcpValue
+  pub here : HoldsAt (λ x. x ≡ Kind.Tcp value) s.places m
+  pub late : is_early value.block.state ≡ false
+  pub what : (is_closed value.block.state ≡ true) ⊎ ((Has ip header (Kind.Tcp value) ≡ true) × NoneBefore ip header m s.places)
+
+-- a step of the way in leads it on
+module _ {E : Type 0} (moves : E → Move → E → Type 0) (u : ℤ) (m : ℕ) where
+  step_led : (s s' : State E) (answer : Option Bool) (v : TcpValue) → HoldsAt (λ x. x ≡ Kind.Tcp v) s.places m → IngressStep moves u s answer s'
+      → IsLed moves u s v m s'
+  step_led s s' answer v here step =
+      is_led moves u s v m s'
+      (in_step_keeps moves u (Led moves u s v m) (led_kept moves u s v m) s s' answer (led_here moves u s v m s (reaches_itself moves u s) here) step).0
+
+  module _ (ip : IpRepr) (header : TcpHeader) where
+    step_holds : (s s' : State E) (answer : Option Bool) → Holds m ip header s → IngressStep moves u s answer s' → Holds m ip header s'
+    step_holds s s' answer holds step =
+        let led : IsLed moves u s holds.value m s' = step_led s s' answer holds.value holds.here step in
+        let stays : StaysLate holds.value (after_all holds.value led.events) = events_late moves u s holds.value led.events led.are holds.late in
+        record {
+          value = after_all holds.value led.events;
+          here = led.here;
+          late = stays.late;
+          what = by (after_all holds.value led.events) stays holds.what (is_closed (after_all holds.value led.events).block.state) refl;
+        }
+      where
+        by : (new : TcpValue) → StaysLate holds.value new
+            → (is_closed holds.value.block.state ≡ true) ⊎ ((Has ip header (Kind.Tcp holds.value) ≡ true) × NoneBefore ip header m s.places)
+            → (over : Bool) → is_closed new.block.state ≡ over
+            → (is_closed new.block.state ≡ true) ⊎ ((Has ip header (Kind.Tcp new) ≡ true) × NoneBefore ip header m s'.places)
+        by new stays (inl over) test is = inl (stays.closed over)
+        by new stays (inr has) true is = inl is
+        by new stays (inr has) false is = inr (
+          still_has ip header holds.value new holds.late stays is has.0,
+          step_none ip header m moves u s s' answer (is_first ip header s.places m holds.value holds.here has.0 has.1) has.1 step,
+        )
+
+-- WHERE A POLL BEGINS
+
+module _ (i : InnerValue) (places : Places) (to : HardwareAddress) (ip : IpRepr) (header : TcpHeader) (m : ℕ) (meta : Meta) (w : TcpValue)
+    (is : IsAwaitedThroughout i places to ip header m meta w) where
+  late : is_early w.block.state ≡ false
+  late = late_at w.block.state is.connection
+
+  here_first : HoldsAt (λ x. x ≡ Kind.Tcp w) places m
+  here_first = found_holds (λ x. x ≡ Kind.Tcp w) places m (Kind.Tcp w) (ap socket_in is.awaited.stands) refl
+
+  here_place : get_or places m free ≡ tcp_place meta w
+  here_place = get_or_from_slice_get places m (tcp_place meta w) free is.awaited.stands
+
+  has_first : passes (λ s. accepts_segment s ip header) (get_or places m free) ≡ true → Has ip header (Kind.Tcp w) ≡ true
+  has_first ok =
+      ap (λ (listens : Bool). not listens && accepts_segment (Kind.Tcp w) ip header) (not_listening w.block.state late)
+      ∙ sym (ap (passes (λ s. accepts_segment s ip header)) here_place) ∙ ok
+
+  second_false : (a b : Bool) → b ≡ false → (a && b) ≡ false
+  second_false true b none = none
+  second_false false b none = refl
+
+  none_first : (o : Option (Item Socket)) → passes_in (λ s. accepts_segment s ip header) o ≡ false → passes_in (Has ip header) o ≡ false
+  none_first None none = refl
+  none_first (Some item) none = second_false (not (is_listener item.socket)) (accepts_segment item.socket ip header) none
+
+  -- it is found by its connection
+  found_first : first_place (Has ip header) places ≡ Some m
+  found_first = by (first_place (Has ip header) places) refl is.awaited.place where
+    by : (o : Option ℕ) → first_place (Has ip header) places ≡ o → or_else o (first_place (λ s. accepts_segment s ip header) places) ≡ Some m
+        → first_place (Has ip header) places ≡ Some m
+    by (Some k) at found = at ∙ found
+    by None at found =
+        let first = position-Some (passes (λ s. accepts_segment s ip header)) places m free found in
+        position_is (passes (Has ip header)) free places m first.0 (ap (passes (Has ip header)) here_place ∙ has_first first.1)
+        (λ k less. none_first (get_or places k free).inner (first.2 k less))
+
+  accepts_first : Has ip header (Kind.Tcp w) ≡ true
+  accepts_first =
+      let first = position-Some (passes (Has ip header)) places m free found_first in sym (ap (passes (Has ip header)) here_place) ∙ first.1
+
+  pub begins_so : {E : Type 0} (s : State E) → s.places ≡ places → Holds m ip header s
+  begins_so s same = record {
+    value = w;
+    here = subst (λ (ps : Places). HoldsAt (λ x. x ≡ Kind.Tcp w) ps m) (sym same) here_first;
+    late = late;
+    what = inr (accepts_first, subst (λ (ps : Places). NoneBefore ip header m ps) (sym same) (before_first ip header places m found_first));
+  }
+
+-- THE SEGMENT COMES
+
+module _ {E : Type 0} (moves : E → Move → E → Type 0) (gives_leave : E → Bool) (frames_at : E → List (List ℕ))
+    (inbox : IsInboxWhile moves gives_leave frames_at) (u : ℤ) (steps : ℕ)
+    (r r' : State E) (changed : Bool) (m : ℕ) (meta : Meta) (w : TcpValue) (polls : Polls moves u steps r changed r')
+    (leave : IsTrue (gives_leave r'.device)) (ends : HasConnection r'.places m) (i : InnerValue) (v : TcpValue) (ip : IpRepr) (header : TcpHeader) (bytes : List ℕ) (offers : OffersSegment i v ip header bytes) (to : HardwareAddress)
+    (can : CanLeave i to (packet_of ip (Segment header bytes))) (formed : IsWellFormed (packet_of ip (Segment header bytes)))
+    (reads : CanRead i to (reader_of r.host.inner)) (is : IsAwaitedThroughout (at_moment u r.host.inner) r.places to ip header m meta w) where
+  abbrev p : PacketValue
+  p = packet_of ip (Segment header bytes)
+
+  order : IsInOrder moves frames_at
+  order = record { first = inbox.first; out = inbox.out }
+
+  -- no move gives leave, so there is leave where the way out begins
+  denied : (old new : E) (move : Move) → moves old move new → gives_leave old ≡ false → gives_leave new ≡ false
+  denied old new move goes none = by (gives_leave new) refl where
+    by : (given : Bool) → gives_leave new ≡ given → given ≡ false
+    by false is = refl
+    by true is = clash (sym (inbox.had old new move goes is) ∙ none)
+
+  begins : Led moves u r w m (begun u r) × RunsAt u (begun u r).host.inner
+  begins = (
+    (led_kept moves u r w m).maintenance r
+    (led_here moves u r w m r (reaches_itself moves u r) (here_first (at_moment u r.host.inner) r.places to ip header m meta w is)),
+    (refl, refl),
+  )
+
+  runs_mid : RunsAt u polls.0.host.inner
+  runs_mid = (ins moves u (Led moves u r w m) (led_kept moves u r w m) steps (begun u r) polls.0 false polls.1 begins polls.2).1
+
+  leave_mid : gives_leave polls.0.device ≡ true
+  leave_mid = by (gives_leave polls.0.device) refl where
+    by : (given : Bool) → gives_leave polls.0.device ≡ given → given ≡ true
+    by true is = refl
+    by false is =
+        clash (sym leave
+        ∙ (outs moves u (λ (s : State E). gives_leave s.device ≡ false) (device_kept moves (λ (d : E). gives_leave d ≡ false) denied u) steps polls.0 r' polls.1
+        changed (is, runs_mid) polls.3).0)
+
+  goes_on : (s : State E) (frame : List ℕ) (more : List (List ℕ)) → Waits frames_at s.device (frame ∷ more) → IngressStep moves u s None polls.0 → ⊥
+  goes_on s frame more waiting step =
+      inbox.found s.device polls.0.device u frame more (inbox.had s.device polls.0.device (Empty u) step.0 leave_mid) waiting step.0
+
+  -- a socket behind the poll that is led on from where the frame was read
+  module _ (x x' : State E) (left : ℕ) (c c' : Bool) (rest : Repeats (IngressStep moves u) left x' c polls.0 c') (runs : RunsAt u x'.host.inner)
+      (from : State E) (new : TcpValue) (led : Led moves u from new m x') where
+    to_end : IsLed moves u from new m r'
+    to_end =
+        is_led moves u from new m r'
+        (outs moves u (Led moves u from new m) (led_kept moves u from new m) steps polls.0 r' polls.1 changed
+        (ins moves u (Led moves u from new m) (led_kept moves u from new m) left x' polls.0 c c' (led, runs) rest) polls.3).0
+
+  module _ (ident : ℕ) (wide : HasWidths (with_ident i ident)) (padding : List ℕ) (before behind : List (List ℕ))
+      (short : is_read (frame_under i ident to p ++ padding) ≡ true)
+      (wait : Waits frames_at r.device (before ++ (frame_under i ident to p ++ padding) ∷ behind)) (few : length before < steps) where
+    abbrev frame : List ℕ
+    frame = frame_under i ident to p ++ padding
+
+    abbrev Kept : List (List ℕ) → State E → Type 0
+    Kept waits s = Holds m ip header s
+
+    keeps : (f : List ℕ) (front more : List (List ℕ)) (s s' : State E) (b : Bool) → Waits frames_at s.device (f ∷ more) → Kept (f ∷ front) s
+        → IngressStep moves u s (Some b) s' → Kept front s'
+    keeps f front more s s' b waits holds step = step_holds moves u m ip header s s' (Some b) holds step
+
+    coming : Comes moves frames_at order u (Led moves u r w m) (led_kept moves u r w m) Kept keeps frame behind polls.0
+    coming =
+        comes moves frames_at order u (Led moves u r w m) (led_kept moves u r w m) Kept keeps steps before (begun u r) polls.0 false polls.1 frame behind
+        short goes_on wait few begins
+        (begins_so (at_moment u r.host.inner) r.places to ip header m meta w is (begun u r) refl) polls.2
+
+    behind_it : Led moves u r w m coming.x' × RunsAt u coming.x'.host.inner
+    behind_it = one_in moves u (Led moves u r w m) (led_kept moves u r w m) coming.x coming.x' (Some true) coming.runs coming.reads
+
+    -- its connection isn't over yet, as it is there behind the poll
+    not_yet : is_closed coming.holds.value.block.state ≡ true → ⊥
+    not_yet over =
+        let one : IsLed moves u coming.x coming.holds.value m coming.x' =
+        step_led moves u m coming.x coming.x' (Some true) coming.holds.value coming.holds.here coming.reads in
+        let first : StaysLate coming.holds.value (after_all coming.holds.value one.events) =
+        events_late moves u coming.x coming.holds.value one.events one.are coming.holds.late in
+        let end : IsLed moves u coming.x' (after_all coming.holds.value one.events) m r' =
+        to_end coming.x coming.x' coming.left coming.c coming.c' coming.rest behind_it.1 coming.x' (after_all coming.holds.value one.events)
+        (led_here moves u coming.x' (after_all coming.holds.value one.events) m coming.x' (reaches_itself moves u coming.x') one.here) in
+        let last : StaysLate (after_all coming.holds.value one.events) (after_all (after_all coming.holds.value one.events) end.events) =
+        events_late moves u coming.x' (after_all coming.holds.value one.events) end.events end.are first.late in
+        let same : after_all (after_all coming.holds.value one.events) end.events ≡ ends.value = same_here r'.places m _ ends.value end.here ends.stands in
+        let over_then : is_closed ends.value.block.state ≡ true =
+        subst (λ (y : TcpValue). is_closed y.block.state ≡ true) same (last.closed (first.closed over)) in
+        clash (sym over_then ∙ not_over ends.value.block.state ends.state)
+
+    led_there : IsLed moves u r w m coming.x
+    led_there = is_led moves u r w m coming.x coming.runs.0
+
+    abbrev then_value : TcpValue
+    then_value = after_all w led_there.events
+
+    same_value : coming.holds.value ≡ then_value
+    same_value = same_here' coming.x.places m coming.holds.value then_value coming.holds.here led_there.here
+
+    has_then : (Has ip header (Kind.Tcp then_value) ≡ true) × NoneBefore ip header m coming.x.places
+    has_then = by coming.holds.what where
+      by : (is_closed coming.holds.value.block.state ≡ true)
+          ⊎ ((Has ip header (Kind.Tcp coming.holds.value) ≡ true) × NoneBefore ip header m coming.x.places)
+          → (Has ip header (Kind.Tcp then_value) ≡ true) × NoneBefore ip header m coming.x.places
+      by (inl over) = absurd (not_yet over)
+      by (inr has) = (subst (λ (y : TcpValue). Has ip header (Kind.Tcp y) ≡ true) same_value has.0, has.1)
+
+    stands_there : Stands coming.x.places m (Kind.Tcp then_value)
+    stands_there = stands_at coming.x.places m (Kind.Tcp then_value) led_there.here
+
+    abbrev then_host : InnerValue
+    then_host = at_moment u coming.x.host.inner
+
+    awaited_then : IsAwaited then_host coming.x.places to ip header m stands_there.meta then_value
+    awaited_then =
+        let same : HasSettingsOf (at_moment u r.host.inner) then_host = reached_same moves u r coming.x coming.runs.0.0 in
+        record {
+          heard = heard (at_moment u r.host.inner) then_host same to ∙ is.awaited.heard;
+          sender = sender (at_moment u r.host.inner) then_host same (source_of ip) ∙ is.awaited.sender;
+          here = astray (at_moment u r.host.inner) then_host same (source_of ip) (destination_of ip) ∙ is.awaited.here;
+          ours = for_us (at_moment u r.host.inner) then_host same (destination_of ip) ∙ is.awaited.ours;
+          named = nobody (at_moment u r.host.inner) then_host same ip ∙ is.awaited.named;
+          place = ap (λ (o : Option ℕ). or_else o (first_place (λ s. accepts_segment s ip header) coming.x.places))
+              (is_first ip header coming.x.places m then_value led_there.here has_then.0 has_then.1);
+          stands = stands_there.stands;
+        }
+
+    came : HasComeTo then_host coming.x'.places ip header bytes m stands_there.meta then_value
+    came =
+        it_comes moves i u coming.x coming.x' m then_value stands_there.meta v ip header bytes offers to can formed
+        (reads_then moves u r coming.x coming.runs.0.0 i to reads) ident wide padding
+        (λ other new took. (inbox.first coming.x.device new u frame other behind coming.wait took).0) coming.reads awaited_then
+
+    abbrev new_value : TcpValue
+    new_value = (arrives (context_of then_host) then_value came.read header bytes).socket
+
+    led_on : IsLed moves u r new_value m r'
+    led_on =
+        to_end coming.x coming.x' coming.left coming.c coming.c' coming.rest behind_it.1 r new_value
+        (led_here moves u r new_value m coming.x' behind_it.0.0
+        (found_holds (λ y. y ≡ Kind.Tcp new_value) coming.x'.places m (Kind.Tcp new_value) (ap socket_in came.stands) refl))
+
+    pub comes_among : ComesAmong moves u r r' ip header bytes m w
+    comes_among = record {
+      before = led_there.events;
+      led = led_there.are;
+      cx = context_of then_host;
+      now = refl;
+      read = came.read;
+      source = came.source;
+      destination = came.destination;
+      later = led_on.events;
+      leads = led_on.are;
+      stands = at_place_is r'.places m (after_all new_value led_on.events) led_on.here;
+    }
+
+-- where its frame waits
+pub comes_where_it_waits : {E : Type 0} (moves : E → Move → E → Type 0) (gives_leave : E → Bool) (frames_at : E → List (List ℕ)) (u : ℤ) (count steps : ℕ)
+    (i : InnerValue) (ident : ℕ) (r r' : State E) (changed : Bool) (m : ℕ) (meta : Meta) (v w : TcpValue) (ip : IpRepr) (header : TcpHeader) (bytes : List ℕ)
+    (to : HardwareAddress) → IsInboxWhile moves gives_leave frames_at → IsTrue (gives_leave r'.device) → HasWidths (with_ident i ident)
+    → OffersSegment i v ip header bytes → CanLeave i to (packet_of ip (Segment header bytes)) → IsWellFormed (packet_of ip (Segment header bytes))
+    → LiesAmong (frames_at r.device) count (frame_under i ident to (packet_of ip (Segment header bytes))) → count ≤ steps
+    → CanRead i to (reader_of r.host.inner) → IsAwaitedThroughout (at_moment u r.host.inner) r.places to ip header m meta w
+    → Polls moves u steps r changed r' → HasConnection r'.places m → ComesAmong moves u r r' ip header bytes m w
+comes_where_it_waits moves gives_leave frames_at u count steps i ident r r' changed m meta v w ip header bytes to inbox leave wide offers can formed lies within
+    reads is polled ends =
+    comes_among moves gives_leave frames_at inbox u steps r r' changed m meta w polled leave ends i v ip header bytes offers to can formed reads is ident wide
+    lies.padding lies.before lies.behind lies.short lies.frames (omega (arith, lies.few, within))
+
+-- ONE POLL SENDS IT, AND ANOTHER READS IT
+
+pub arrives_in_a_poll : {D E : Type 0} (out : D → Move → D → Type 0) (moves : E → Move → E → Type 0) (gives_leave : E → Bool)
+    (frames_at : E → List (List ℕ)) (t u : ℤ) (budget count steps : ℕ) (s s' : State D) (r r' : State E) (changed changed' : Bool) (n m : ℕ) (meta : Meta) (v w : TcpValue) (ip : IpRepr)
+    (header : TcpHeader) (bytes : List ℕ) (to : HardwareAddress) → IsInboxWhile moves gives_leave frames_at → IsTrue (gives_leave r'.device)
+    → HasWidths (at_moment t s.host.inner)
+    → IsItsTurn (at_moment t s.host.inner) s.places n (Kind.Tcp v) → OffersSegment (at_moment t s.host.inner) v ip header bytes
+    → CanLeave (at_moment t s.host.inner) to (packet_of ip (Segment header bytes)) → HasNoFrame out t s.device → Polls out t (suc budget) s changed s'
+    → RefusesNothing out s.device s'.device
+    → BringsAmong out frames_at (at_moment t s.host.inner) to (packet_of ip (Segment header bytes)) s.device s'.device r.device count → count ≤ steps
+    → CanRead (at_moment t s.host.inner) to (reader_of r.host.inner)
+    → IsAwaitedThroughout (at_moment u r.host.inner) r.places to ip header m meta w → Polls moves u steps r changed' r' → HasConnection r'.places m
+    → ComesAmong moves u r r' ip header bytes m w
+arrives_in_a_poll {D} {E} out moves gives_leave frames_at t u budget count steps s s' r r' changed changed' n m meta v w ip header bytes to inbox leave wide turn
+    offers can none polls freely brings within reads is polled ends = by goes.what
+  where
+    only : (says : Bool) × OffersOnly (at_moment t s.host.inner) (Kind.Tcp v) says (Kind.Tcp (asked_by (at_moment t s.host.inner) v))
+        (packet_of ip (Segment header bytes))
+    only = offers_only (at_moment t s.host.inner) v ip header bytes offers
+
+    goes : GoesInTurn out (at_moment t s.host.inner) to (packet_of ip (Segment header bytes)) s.device s'.device
+    goes =
+        turn_goes out t n to (packet_of ip (Segment header bytes)) budget s s' changed (Kind.Tcp v) (Kind.Tcp (asked_by (at_moment t s.host.inner) v)) only.0
+        turn only.1 can none polls
+
+    by : (list_any is_refused goes.all ≡ true) ⊎ WentOut (at_moment t s.host.inner) to (packet_of ip (Segment header bytes)) goes.all
+        → ComesAmong moves u r r' ip header bytes m w
+    by (inl refused) = clash (sym refused ∙ freely goes.all goes.are)
+    by (inr went) =
+        let it : WaitsAmong frames_at r.device count (at_moment t s.host.inner) to (packet_of ip (Segment header bytes)) goes.all =
+        brings goes.all goes.are (went_as (at_moment t s.host.inner) to (packet_of ip (Segment header bytes)) goes.all wide went) in
+        comes_among moves gives_leave frames_at inbox u steps r r' changed' m meta w polled leave ends (at_moment t s.host.inner) v ip header bytes offers to can went.formed reads is
+        it.went.ident (record { mtu = wide.mtu; ident = it.went.wide }) it.padding it.before it.behind it.short it.frames (omega (arith, it.few, within))

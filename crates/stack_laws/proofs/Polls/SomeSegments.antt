@@ -1,0 +1,225 @@
+-- Two hosts on numerals, and the polls in which a segment goes from the one to the other.
+use Rattle.std.proofs.Common.{◌≡◌, ◌≢◌, inl, inr, true, false, [], ◌∷◌, Some, None, refl, subst}
+use Rattle.std.proofs.lemmas.Bool.{leb-true, ltb-true}
+use Rattle.std.specs.List.{AllByRecursion}
+use Rattle.net_base.specs.Medium.TheVariants as Medium
+use Rattle.ip_address.specs.Address.{v4_number}
+use Rattle.ip_wire.specs.HardwareAddress.TheVariants as Hardware
+use Rattle.lan_base.specs.Port.{PortValue, PortMove}
+use Rattle.lan.specs.declared.at_link.history.event.Side.TheVariants.{A, B}
+use Rattle.socket_base.specs.WellFormed.{IsWellFormed}
+use Rattle.tcp_model.specs.Settled.{settled}
+use Rattle.tcp_model.specs.Value.{TcpValue}
+use Rattle.interface_ingress.specs.Arrives.{arrived}
+use Rattle.interface_ingress.specs.Incoming.{IsContent}
+use Rattle.interface_ingress.specs.Offer.TheVariants as Offer
+use Rattle.interface_ingress.specs.Sent.{AreSealed}
+use Rattle.interface_ingress.specs.Packet.{PacketValue, Segment, payload_written}
+use Rattle.interface_ingress.specs.Socket.TheVariants as Kind
+use Rattle.interface_ingress.specs.Sockets.{Offers}
+use Rattle.interface_ingress.specs.Upper.{IsBrought}
+use Rattle.interface_tables.specs.Inner.{at_moment, with_next_ident}
+use Rattle.interface_tables.specs.PathMtu.{mtu_towards}
+use Rattle.interface_egress.specs.Departure.{Whole}
+use Rattle.interface_egress.specs.GoesOut.{numbered}
+use Rattle.interface_egress.specs.Set.{unmarked}
+use Rattle.interface_egress.specs.declared.socket_meta.Meta.{Meta}
+use Rattle.interface_egress.specs.declared.socket_set.Item.{Item}
+use Rattle.interface_egress.specs.declared.way_out.Sent.TheVariants as Outcome
+use Rattle.interface_ingress.specs.Socket.{Socket}
+use Rattle.interface.specs.Delivered.{read_of}
+use Rattle.interface.specs.Egress.{EgressStep, sending}
+use Rattle.interface.specs.Host as Host
+use Rattle.interface.specs.Ingress.{IngressStep}
+use Rattle.interface.specs.Remote.{context_for}
+use Rattle.interface.specs.Turn.{Leaves, PlaceTurns, SendsBy}
+use Rattle.interface.specs.declared.turn.Turned.TheVariants as Turn
+use Rattle.interface.specs.Pass.{passed}
+use Rattle.interface.specs.Polls.{Polls, begun}
+use Rattle.interface.specs.State.{State, state}
+use Rattle.interface.specs.Taken.{CanRead, HasWidths}
+use Rattle.stack_laws.specs.Progress.Delivered.{reader_of}
+use Rattle.stack_laws.specs.Progress.Leave.{BringsWhatWent, LiesAmong}
+use Rattle.stack_laws.specs.Progress.Numerals.{now, port_with}
+use Rattle.stack_laws.specs.Progress.SegmentNumerals.{awaiting, frame, header, offering, packet, push, reached, reader, sender, sent, taken, writing}
+use Rattle.stack_laws.specs.Progress.Segments.{CanLeave, ComesAmong, HasConnection, IsAwaitedThroughout, IsItsTurn, OffersSegment, asked_by}
+use Rattle.stack_laws.specs.Worlds.Hosts.{text}
+use Rattle.stack_laws.specs.Worlds.Open.{idle}
+use Rattle.stack_laws.proofs.Polls.BetweenPorts.{segment_between}
+use Rattle.stack_laws.proofs.Polls.Readers.{packet_read}
+use Rattle.stack_laws.proofs.Polls.Segments.{carries}
+use Rattle.stack_laws.proofs.Polls.SomeHosts.{is_address, nobody}
+
+abbrev item : TcpValue → Item Socket
+item v = record { meta = nobody; socket = Kind.Tcp v }
+
+-- WHAT IS SENT
+
+formed : IsWellFormed packet
+formed = record {
+  sendable = record { header = ltb-true _ _ refl; payload = record { header = leb-true _ _ refl; all = ltb-true _ _ refl; family = refl }; len = refl };
+  header =
+      record {
+        source = is_address A;
+        destination = is_address B;
+        identification = ltb-true _ _ refl;
+        protocol = ltb-true _ _ refl;
+        hops = ltb-true _ _ refl;
+      };
+  payload = record {
+    source_port = ltb-true _ _ refl;
+    destination_port = ltb-true _ _ refl;
+    sequence = ltb-true _ _ refl;
+    acknowledgement = ltb-true _ _ refl;
+    window = ltb-true _ _ refl;
+    options = record { size = tt; scale = tt; ranges = (tt, tt, tt); stamp = tt };
+  };
+}
+
+pub widths : HasWidths sender
+widths = record { mtu = leb-true _ _ refl; ident = ltb-true _ _ refl }
+
+pub turn : IsItsTurn sender offering.places 0 (Kind.Tcp writing)
+turn = record { meta = nobody; stands = refl; ready = refl }
+
+pub offers : OffersSegment sender writing header push text
+unfolding v4_number mtu_towards
+offers = record { offers = refl; source_port = λ is. absurd (cc); destination_port = λ is. absurd (cc) }
+
+pub goes : CanLeave sender Hardware.Ip packet
+unfolding v4_number mtu_towards
+goes = record { may = refl; known = refl; short = leb-true _ _ refl }
+
+-- THE POLL OF A
+
+abbrev begun_a : State PortValue
+begun_a = begun now (begun now offering)
+
+looks : IngressStep PortMove now (begun now offering) None begun_a
+looks = ((refl, λ _. refl), refl)
+
+abbrev from : Host.Sender PortValue
+from = sending now begun_a
+
+abbrev to : Host.Sender PortValue
+to = Host.sender sent.device (with_next_ident sender) None
+
+its_offer : Offers (context_for sender (Kind.Tcp writing)) (Kind.Tcp writing) (Offer.Packet false) (Kind.Tcp (asked_by sender writing))
+unfolding v4_number mtu_towards
+its_offer = (refl, refl)
+
+leaves : Leaves PortMove None from nobody packet Outcome.Gone to
+unfolding v4_number mtu_towards
+leaves = inr (offering.device, (refl, refl), (((refl, refl), refl), refl), refl)
+
+sends : SendsBy PortMove None (Some packet) from (item (asked_by sender writing)) false (Turn.Next true) to (item (settled true (asked_by sender writing)))
+unfolding v4_number mtu_towards
+sends = (packet, refl, formed, (Outcome.Gone, leaves, refl, refl, formed))
+
+its_turn : PlaceTurns PortMove None from (unmarked (Kind.Tcp writing)) (Turn.Next true) to (unmarked (Kind.Tcp (settled true (asked_by sender writing))))
+unfolding v4_number mtu_towards
+its_turn = (Offer.Packet false, Kind.Tcp (asked_by sender writing), its_offer, sends)
+
+step_out : EgressStep PortMove now begun_a (Some true) sent
+step_out = (
+  passed to sent.places true,
+  inr (from, (refl, refl), inl (true, to, unmarked (Kind.Tcp (settled true (asked_by sender writing))), its_turn, refl)),
+  refl,
+  refl,
+)
+
+pub polls : Polls PortMove now 1 offering true sent
+polls = (begun_a, false, inl (looks, refl), inr (true, sent, step_out, (refl, refl)))
+
+-- THE LINK
+
+pub brings : BringsWhatWent offering.device sent.device awaiting.device 1
+brings gone is = subst (AllByRecursion (LiesAmong (frame ∷ []) 1)) is (lies, tt) where
+  lies : LiesAmong (frame ∷ []) 1 frame
+  lies = record { padding = []; before = []; behind = []; frames = refl; few = ltb-true _ _ refl; short = refl }
+
+pub reads : CanRead sender Hardware.Ip (reader_of awaiting.host.inner)
+reads = record { medium = record { from = tt; receiver = tt }; sealed = sealed } where
+  sealed : AreSealed sender.checksums awaiting.host.inner.checksums
+  sealed = record { ipv4 = λ is. is; icmpv4 = λ is. is; icmpv6 = λ is. is; udp = λ is. is; tcp = λ is. is }
+
+-- THE POLL OF B
+
+pub awaits : IsAwaitedThroughout reader awaiting.places Hardware.Ip header push 0 nobody (idle B)
+unfolding v4_number
+awaits = record {
+  awaited = record { heard = refl; sender = refl; here = refl; ours = refl; named = refl; place = refl; stands = refl };
+  connection = refl;
+}
+
+abbrev begun_b : State PortValue
+begun_b = begun now (begun now awaiting)
+
+abbrev behind_b : State PortValue
+behind_b = state (port_with Medium.Ip []) begun_b.host (unmarked (Kind.Tcp taken) ∷ [])
+
+abbrev numbered_packet : PacketValue
+numbered_packet = numbered sender packet
+
+is_content : IsContent awaiting.host.inner.hardware awaiting.host.inner.checksums frame (Some (read_of sender (Whole Hardware.Ip numbered_packet)))
+is_content = packet_read sender sender.ident Hardware.Ip packet (reader_of awaiting.host.inner) widths goes formed reads []
+
+is_segment : IsBrought begun_b.host.inner.checksums numbered_packet.header (payload_written sender.checksums numbered_packet.header numbered_packet.payload)
+    (Some (Segment push text))
+is_segment = carries PortMove sender now awaiting awaiting 0 (idle B) nobody writing header push text offers Hardware.Ip goes formed reads sender.ident widths []
+
+step_in : IngressStep PortMove now (begun now awaiting) (Some true) behind_b
+unfolding v4_number
+step_in = (
+  frame,
+  behind_b.device,
+  (refl, refl),
+  refl,
+  (
+    Some (read_of sender (Whole Hardware.Ip numbered_packet)),
+    is_content,
+    (
+      arrived begun_b.host.inner behind_b.places None,
+      (refl, (Some (Segment push text), is_segment, record { inner = refl; places_are = refl; reply = refl })),
+      refl,
+      refl,
+      refl,
+    ),
+  ),
+)
+
+is_silent : Offers (context_for reader (Kind.Tcp taken)) (Kind.Tcp taken) (Offer.Silent false) (Kind.Tcp (asked_by reader taken))
+unfolding v4_number mtu_towards
+is_silent = (refl, refl)
+
+rests : EgressStep PortMove now behind_b None reached
+rests = (
+  passed (sending now behind_b) reached.places false,
+  inr (
+    sending now behind_b,
+    (refl, refl),
+    inl (
+      false,
+      sending now behind_b,
+      unmarked (Kind.Tcp (asked_by reader taken)),
+      (Offer.Silent false, Kind.Tcp (asked_by reader taken), is_silent, (refl, refl, refl)),
+      refl,
+    ),
+  ),
+  refl,
+  refl,
+)
+
+pub hears : Polls PortMove now 1 awaiting true reached
+hears = (behind_b, true, inr (true, behind_b, step_in, (refl, refl)), inl (rests, refl))
+
+pub ends : HasConnection reached.places 0
+unfolding v4_number mtu_towards
+ends = record { value = asked_by reader taken; stands = refl; state = refl }
+
+-- WHAT THE LAW SAYS OF THEM
+
+pub arrives : ComesAmong PortMove now awaiting reached header push text 0 (idle B)
+arrives =
+    segment_between now now 0 1 1 offering sent awaiting reached true true 0 0 nobody writing (idle B) header push text Hardware.Ip widths turn offers goes refl polls
+    refl refl brings (leb-true _ _ refl) reads awaits hears refl ends
