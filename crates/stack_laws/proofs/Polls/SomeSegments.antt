@@ -1,5 +1,5 @@
 -- Two hosts on numerals, and the polls in which a segment goes from the one to the other.
-use Rattle.std.proofs.Common.{◌≡◌, ◌≢◌, inl, inr, true, false, [], ◌∷◌, Some, None, refl, subst}
+use Rattle.std.proofs.Common.{inl, inr, true, false, [], ◌∷◌, Some, None, refl, subst}
 use Rattle.std.proofs.lemmas.Bool.{leb-true, ltb-true}
 use Rattle.std.specs.List.{AllByRecursion}
 use Rattle.net_base.specs.Medium.TheVariants as Medium
@@ -18,12 +18,11 @@ use Rattle.interface_ingress.specs.Packet.{PacketValue, Segment, payload_written
 use Rattle.interface_ingress.specs.Socket.TheVariants as Kind
 use Rattle.interface_ingress.specs.Sockets.{Offers}
 use Rattle.interface_ingress.specs.Upper.{IsBrought}
-use Rattle.interface_tables.specs.Inner.{at_moment, with_next_ident}
+use Rattle.interface_tables.specs.Inner.{with_next_ident}
 use Rattle.interface_tables.specs.PathMtu.{mtu_towards}
 use Rattle.interface_egress.specs.Departure.{Whole}
 use Rattle.interface_egress.specs.GoesOut.{numbered}
 use Rattle.interface_egress.specs.Set.{unmarked}
-use Rattle.interface_egress.specs.declared.socket_meta.Meta.{Meta}
 use Rattle.interface_egress.specs.declared.socket_set.Item.{Item}
 use Rattle.interface_egress.specs.declared.way_out.Sent.TheVariants as Outcome
 use Rattle.interface_ingress.specs.Socket.{Socket}

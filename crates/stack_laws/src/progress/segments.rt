@@ -19,6 +19,7 @@ ghost use Rattle.interface.specs.Polls.{Polls, Repeats};
 ghost use Rattle.interface.specs.QuietPoll.{HasNoFrame};
 ghost use Rattle.interface.specs.State.{State};
 ghost use Rattle.interface.specs.Taken.{CanRead, HasWidths};
+ghost use Rattle.stack_laws.specs.PeerHost.Streams.{IsTcpAt};
 ghost use Rattle.stack_laws.specs.Progress.Delivered.{Brings, RefusesNothing, reader_of};
 ghost use Rattle.lan.specs.declared.at_link.history.event.Side.TheVariants.{B};
 ghost use Rattle.lan_base.specs.Port.{PortValue, PortMove, has_leave};
@@ -27,8 +28,8 @@ ghost use Rattle.stack_laws.specs.Progress.Leave.{BringsWhatWent, IsInboxWhile, 
 ghost use Rattle.stack_laws.specs.Progress.Numerals.{now};
 ghost use Rattle.stack_laws.specs.Progress.Queued.{GoesInTurn, frame_under, with_ident};
 ghost use Rattle.stack_laws.specs.Progress.SegmentNumerals.{awaiting, header, offering, packet, push, reached, reader, sender, sent, writing};
-ghost use Rattle.stack_laws.specs.Progress.Segments.{CanLeave, ComesAmong, HasComeTo, HasConnection, IsAwaited, IsAwaitedThroughout, IsItsTurn};
-ghost use Rattle.stack_laws.specs.Progress.Segments.{LeavesAtOnce, OffersSegment, asked_by};
+ghost use Rattle.stack_laws.specs.Progress.Segments.{CanLeave, ComesAmong, HasComeTo, HasConnection, IsAwaited, IsAwaitedThroughout};
+ghost use Rattle.stack_laws.specs.Progress.Segments.{IsAwaitedWhenNext, IsItsTurn, LeavesAtOnce, OffersSegment, asked_by};
 ghost use Rattle.stack_laws.specs.Worlds.Hosts.{text};
 ghost use Rattle.stack_laws.specs.Worlds.Open.{idle};
 
@@ -85,9 +86,10 @@ pub fn a_segment_arrives<D: Device, E: Device>()
 
 /// Law: a segment of a TCP socket whose frame waits comes to the socket of its connection: a poll of the other host, at whose device the frame waits behind
 /// fewer others than the poll has steps, and which gives leave to its end, brings it to a socket that has its connection as the poll begins and ends,
-/// wherever offers and the segments before have led that. The packet can be sent, and went under this identification.
+/// wherever offers and the segments before have led that. The packet can be sent, and went under this identification. So it comes to whatever TCP socket
+/// awaits it wherever that poll has come when the frame is next, as a listener does a SYN.
 pub fn a_segment_that_waits_comes<E: Device>()
-    ensures { (gives_leave : E → Bool) (frames_at : E → List (List ℕ)) (u : ℤ) (count steps : ℕ) (i : InnerValue) (ident : ℕ) (r r' : State E)
+    ensures connected { (gives_leave : E → Bool) (frames_at : E → List (List ℕ)) (u : ℤ) (count steps : ℕ) (i : InnerValue) (ident : ℕ) (r r' : State E)
         (changed : Bool) (m : ℕ) (meta : Meta) (v w : TcpValue) (ip : IpRepr) (header : TcpHeader) (bytes : List ℕ) (to : HardwareAddress)
         → IsInboxWhile E.moves gives_leave frames_at
         → IsTrue (gives_leave r'.device)
@@ -101,6 +103,20 @@ pub fn a_segment_that_waits_comes<E: Device>()
         → IsAwaitedThroughout (at_moment u r.host.inner) r.places to ip header m meta w
         → Polls E.moves u steps r changed r'
         → HasConnection r'.places m
+        → ComesAmong E.moves u r r' ip header bytes m w }
+    ensures awaited { (gives_leave : E → Bool) (frames_at : E → List (List ℕ)) (u : ℤ) (count steps : ℕ) (i : InnerValue) (ident : ℕ) (r r' : State E)
+        (changed : Bool) (m : ℕ) (v w : TcpValue) (ip : IpRepr) (header : TcpHeader) (bytes : List ℕ) (to : HardwareAddress)
+        → IsInboxWhile E.moves gives_leave frames_at
+        → IsTrue (gives_leave r'.device)
+        → HasWidths (with_ident i ident)
+        → OffersSegment i v ip header bytes
+        → CanLeave i to (packet_of ip (Segment header bytes))
+        → IsWellFormed (packet_of ip (Segment header bytes))
+        → LiesAmong (frames_at r.device) count (frame_under i ident to (packet_of ip (Segment header bytes)))
+        → count ≤ steps
+        → IsTcpAt r.places m w
+        → IsAwaitedWhenNext E.moves frames_at u r i to ip header bytes m
+        → Polls E.moves u steps r changed r'
         → ComesAmong E.moves u r r' ip header bytes m w }
 {}
 
