@@ -1,5 +1,5 @@
 -- A poll that comes to a frame which waits among others, and in which a segment comes to the socket of its connection.
-use Rattle.std.proofs.Common.{◌≡◌, ℕ, zero, suc, ◌<◌, ◌≤◌, ◌&&◌, Bool, true, false, not, ◌⊎◌, inl, inr, ℤ, List, [], ◌∷◌, ◌++◌, length, get_or, Option, Some, None, IsTrue}
+use Rattle.std.proofs.Common.{◌≡◌, ℕ, zero, suc, ◌+◌, ◌<◌, ◌≤◌, ◌&&◌, Bool, true, false, not, ◌⊎◌, inl, inr, ℤ, List, [], ◌∷◌, ◌++◌, length, get_or, Option, Some, None, IsTrue}
 use Rattle.std.proofs.Common.{refl, sym, ap, ◌∙◌, subst, arith}
 use Rattle.std.specs.List.{list_any}
 use Rattle.std.proofs.lemmas.List.Quantifiers.{position-Some}
@@ -15,7 +15,7 @@ use Rattle.tcp_model.specs.Arrival.{arrives}
 use Rattle.tcp_model.specs.Value.{TcpValue}
 use Rattle.tcp_progress.specs.Sent.{is_early}
 use Rattle.interface_ingress.specs.Delivered.{Places, first_place, is_listener, passes, passes_in}
-use Rattle.interface_ingress.specs.Packet.{PacketValue, Segment, packet_of}
+use Rattle.interface_ingress.specs.Packet.{Segment, packet_of}
 use Rattle.interface_ingress.specs.Socket.{Socket}
 use Rattle.interface_ingress.specs.Socket.TheVariants as Kind
 use Rattle.interface_ingress.specs.WellFormed.{IsWellFormed}
@@ -41,7 +41,7 @@ use Rattle.stack_laws.specs.Progress.Inbox.{BringsAmong, WaitsAmong}
 use Rattle.stack_laws.specs.Progress.Leave.{IsInboxWhile, LiesAmong}
 use Rattle.stack_laws.specs.Progress.Moves.{is_refused}
 use Rattle.stack_laws.specs.Progress.Queued.{GoesInTurn, WentOut, frame_under, with_ident}
-use Rattle.stack_laws.specs.Progress.Segments.{CanLeave, ComesAmong, HasComeTo, HasConnection, IsAwaited, IsAwaitedAt, IsAwaitedThroughout}
+use Rattle.stack_laws.specs.Progress.Segments.{CanLeave, ComesAmong, HasComeTo, HasConnection, HasRead, IsAwaited, IsAwaitedAt, IsAwaitedThroughout}
 use Rattle.stack_laws.specs.Progress.Segments.{IsAwaitedWhenNext, IsItsTurn, OffersSegment, asked_by, tcp_place}
 use Rattle.stack_laws.proofs.Peers.Place.{Found, HoldsAt, found_holds, holds_found}
 use Rattle.stack_laws.proofs.Peers.Taken.{kept}
@@ -200,7 +200,7 @@ module _ {E : Type 0} (moves : E → Move → E → Type 0) (gives_leave : E →
   begins : Led moves u r w m (begun u r) × RunsAt u (begun u r).host.inner
   begins = (
     (led_kept moves u r w m).maintenance r
-    (led_here moves u r w m r (reaches_itself moves u r) (found_holds (λ x. x ≡ Kind.Tcp w) r.places m (Kind.Tcp w) is_tcp refl)),
+        (led_here moves u r w m r (reaches_itself moves u r) (found_holds (λ x. x ≡ Kind.Tcp w) r.places m (Kind.Tcp w) is_tcp refl)),
     (refl, refl),
   )
 
@@ -245,19 +245,17 @@ module _ {E : Type 0} (moves : E → Move → E → Type 0) (gives_leave : E →
     abbrev frame : List ℕ
     frame = frame_under i ident to (packet_of ip (Segment header bytes)) ++ padding
 
-    -- What holds where the poll begins is kept as the frames before are read.
-    module _ (Keeps : State E → Type 0) (keeps : (s s' : State E) (b : Bool) → Keeps s → IngressStep moves u s (Some b) s' → Keeps s') where
-      abbrev Kept : List (List ℕ) → State E → Type 0
-      Kept waits s = Keeps s
-
+    -- What holds of a state and of the frames that wait before this one is kept as one of them is read.
+    module _ (Kept : List (List ℕ) → State E → Type 0)
+        (keeps : (f : List ℕ) (front : List (List ℕ)) (s s' : State E) (b : Bool) → Kept (f ∷ front) s → IngressStep moves u s (Some b) s' → Kept front s') where
       keeps_so : (f : List ℕ) (front more : List (List ℕ)) (s s' : State E) (b : Bool) → Waits frames_at s.device (f ∷ more) → Kept (f ∷ front) s
           → IngressStep moves u s (Some b) s' → Kept front s'
-      keeps_so f front more s s' b waits holds step = keeps s s' b holds step
+      keeps_so f front more s s' b waits holds step = keeps f front s s' b holds step
 
       abbrev Coming : Type 0
       Coming = Comes moves frames_at order u (Led moves u r w m) (led_kept moves u r w m) Kept keeps_so frame behind polls.0
 
-      coming_so : Keeps (begun u r) → Coming
+      coming_so : Kept before (begun u r) → Coming
       coming_so holds =
           comes moves frames_at order u (Led moves u r w m) (led_kept moves u r w m) Kept keeps_so steps before (begun u r) polls.0 false polls.1 frame behind
           short goes_on wait few begins holds polls.2
@@ -310,22 +308,32 @@ module _ {E : Type 0} (moves : E → Move → E → Type 0) (gives_leave : E →
             stands = at_place_is r'.places m (after_all new_value led_on.events) led_on.here;
           }
 
-    -- wherever it is awaited
-    comes_awaited : IsAwaitedWhenNext moves frames_at u r i to ip header bytes m → ComesAmong moves u r r' ip header bytes m w
-    comes_awaited awaits =
-        let coming : Coming (λ (s : State E). Unit {0}) (λ s s' b holds step. tt) = coming_so (λ (s : State E). Unit {0}) (λ s s' b holds step. tt) tt in
-        comes_among (λ (s : State E). Unit {0}) (λ s s' b holds step. tt) coming
-        (awaits coming.x ident padding behind coming.runs.0.0 coming.wait)
+    -- WHEREVER IT IS AWAITED
+
+    -- of the frames before as many were read as don't wait any more
+    abbrev HaveRead : List (List ℕ) → State E → Type 0
+    HaveRead front s = (n : ℕ) × (n + length front ≡ length before) × HasRead moves u r n s
+
+    one_read : (f : List ℕ) (front : List (List ℕ)) (s s' : State E) (b : Bool) → HaveRead (f ∷ front) s → IngressStep moves u s (Some b) s' → HaveRead front s'
+    one_read f front s s' b so step = (suc so.0, (let all = so.1 in omega (arith, all)), (s, b, so.2, step))
+
+    comes_awaited : (count : ℕ) → length before < count → IsAwaitedWhenNext moves frames_at u r count i to ip header bytes m
+        → ComesAmong moves u r r' ip header bytes m w
+    comes_awaited count less awaits =
+        let coming : Coming HaveRead one_read = coming_so HaveRead one_read (0, (let none : (k : ℕ) → 0 + k ≡ k = λ k. omega arith in none (length before)), refl) in
+        let all = coming.holds.1 in
+        comes_among HaveRead one_read coming
+        (awaits coming.holds.0 coming.x ident padding behind (omega (arith, all, less)) coming.holds.2 coming.wait)
 
     -- WITH ITS CONNECTION
 
     module _ (meta : Meta) (reads : CanRead i to (reader_of r.host.inner))
         (is : IsAwaitedThroughout (at_moment u r.host.inner) r.places to ip header m meta w) (ends : HasConnection r'.places m) where
-      abbrev Has_it : State E → Type 0
-      Has_it s = Holds m ip header s
+      abbrev Has_it : List (List ℕ) → State E → Type 0
+      Has_it front s = Holds m ip header s
 
-      keeps_it : (s s' : State E) (b : Bool) → Has_it s → IngressStep moves u s (Some b) s' → Has_it s'
-      keeps_it s s' b holds step = step_holds moves u m ip header s s' (Some b) holds step
+      keeps_it : (f : List ℕ) (front : List (List ℕ)) (s s' : State E) (b : Bool) → Has_it (f ∷ front) s → IngressStep moves u s (Some b) s' → Has_it front s'
+      keeps_it f front s s' b holds step = step_holds moves u m ip header s s' (Some b) holds step
 
       coming : Coming Has_it keeps_it
       coming = coming_so Has_it keeps_it (begins_so (at_moment u r.host.inner) r.places to ip header m meta w is (begun u r) refl)
@@ -407,11 +415,11 @@ pub comes_when_next : {E : Type 0} (moves : E → Move → E → Type 0) (gives_
     (to : HardwareAddress) → IsInboxWhile moves gives_leave frames_at → IsTrue (gives_leave r'.device) → HasWidths (with_ident i ident)
     → OffersSegment i v ip header bytes → CanLeave i to (packet_of ip (Segment header bytes)) → IsWellFormed (packet_of ip (Segment header bytes))
     → LiesAmong (frames_at r.device) count (frame_under i ident to (packet_of ip (Segment header bytes))) → count ≤ steps → IsTcpAt r.places m w
-    → IsAwaitedWhenNext moves frames_at u r i to ip header bytes m → Polls moves u steps r changed r' → ComesAmong moves u r r' ip header bytes m w
+    → IsAwaitedWhenNext moves frames_at u r count i to ip header bytes m → Polls moves u steps r changed r' → ComesAmong moves u r r' ip header bytes m w
 comes_when_next moves gives_leave frames_at u count steps i ident r r' changed m v w ip header bytes to inbox leave wide offers can formed lies within is_tcp awaits
     polled =
     comes_awaited moves gives_leave frames_at inbox u steps r r' changed m w is_tcp polled leave i v ip header bytes offers to can formed ident wide lies.padding
-    lies.before lies.behind lies.short lies.frames (omega (arith, lies.few, within)) awaits
+    lies.before lies.behind lies.short lies.frames (omega (arith, lies.few, within)) count lies.few awaits
 
 -- ONE POLL SENDS IT, AND ANOTHER READS IT
 

@@ -1,5 +1,5 @@
 -- Two hosts on numerals, and the polls in which a segment goes from the one to the other.
-use Rattle.std.proofs.Common.{inl, inr, true, false, [], ◌∷◌, Some, None, refl, subst}
+use Rattle.std.proofs.Common.{inl, inr, zero, suc, true, false, [], ◌∷◌, Some, None, refl, sym, subst, arith}
 use Rattle.std.proofs.lemmas.Bool.{leb-true, ltb-true}
 use Rattle.std.specs.List.{AllByRecursion}
 use Rattle.net_base.specs.Medium.TheVariants as Medium
@@ -41,10 +41,12 @@ use Rattle.stack_laws.specs.Progress.Delivered.{reader_of}
 use Rattle.stack_laws.specs.Progress.Leave.{BringsWhatWent, LiesAmong}
 use Rattle.stack_laws.specs.Progress.Numerals.{now, port_with}
 use Rattle.stack_laws.specs.Progress.SegmentNumerals.{awaiting, frame, header, offering, packet, push, reached, reader, sender, sent, taken, writing}
-use Rattle.stack_laws.specs.Progress.Segments.{CanLeave, ComesAmong, HasConnection, IsAwaitedThroughout, IsItsTurn, OffersSegment, asked_by}
+use Rattle.stack_laws.specs.Progress.Segments.{CanLeave, ComesAmong, HasConnection, IsAwaitedAt, IsAwaitedThroughout, IsAwaitedWhenNext, IsItsTurn}
+use Rattle.stack_laws.specs.Progress.Segments.{OffersSegment, asked_by}
 use Rattle.stack_laws.specs.Worlds.Hosts.{text}
 use Rattle.stack_laws.specs.Worlds.Open.{idle}
 use Rattle.stack_laws.proofs.Polls.BetweenPorts.{segment_between}
+use Rattle.stack_laws.proofs.Polls.Inboxes.{waiting}
 use Rattle.stack_laws.proofs.Polls.Readers.{packet_read}
 use Rattle.stack_laws.proofs.Polls.Segments.{carries}
 use Rattle.stack_laws.proofs.Polls.SomeHosts.{is_address, nobody}
@@ -54,7 +56,7 @@ item v = record { meta = nobody; socket = Kind.Tcp v }
 
 -- WHAT IS SENT
 
-formed : IsWellFormed packet
+pub formed : IsWellFormed packet
 formed = record {
   sendable = record { header = ltb-true _ _ refl; payload = record { header = leb-true _ _ refl; all = ltb-true _ _ refl; family = refl }; len = refl };
   header =
@@ -132,10 +134,11 @@ polls = (begun_a, false, inl (looks, refl), inr (true, sent, step_out, (refl, re
 
 -- THE LINK
 
+pub lies : LiesAmong (frame ∷ []) 1 frame
+lies = record { padding = []; before = []; behind = []; frames = refl; few = ltb-true _ _ refl; short = refl }
+
 pub brings : BringsWhatWent offering.device sent.device awaiting.device 1
-brings gone is = subst (AllByRecursion (LiesAmong (frame ∷ []) 1)) is (lies, tt) where
-  lies : LiesAmong (frame ∷ []) 1 frame
-  lies = record { padding = []; before = []; behind = []; frames = refl; few = ltb-true _ _ refl; short = refl }
+brings gone is = subst (AllByRecursion (LiesAmong (frame ∷ []) 1)) is (lies, tt)
 
 pub reads : CanRead sender Hardware.Ip (reader_of awaiting.host.inner)
 reads = record { medium = record { from = tt; receiver = tt }; sealed = sealed } where
@@ -150,6 +153,14 @@ awaits = record {
   awaited = record { heard = refl; sender = refl; here = refl; ours = refl; named = refl; place = refl; stands = refl };
   connection = refl;
 }
+
+-- no frame comes before
+awaits_first : IsAwaitedAt now (begun now awaiting) sender Hardware.Ip header push 0
+awaits_first = record { meta = nobody; value = idle B; awaited = awaits.awaited; reads = reads }
+
+pub awaits_next : IsAwaitedWhenNext PortMove waiting now awaiting 1 sender Hardware.Ip header push text 0
+awaits_next zero x ident padding more less so next = subst (λ (y : State PortValue). IsAwaitedAt now y sender Hardware.Ip header push 0) (sym so) awaits_first
+awaits_next (suc n) x ident padding more less so next = absurd (omega (arith, less))
 
 abbrev begun_b : State PortValue
 begun_b = begun now (begun now awaiting)

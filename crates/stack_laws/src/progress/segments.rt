@@ -115,7 +115,7 @@ pub fn a_segment_that_waits_comes<E: Device>()
         → LiesAmong (frames_at r.device) count (frame_under i ident to (packet_of ip (Segment header bytes)))
         → count ≤ steps
         → IsTcpAt r.places m w
-        → IsAwaitedWhenNext E.moves frames_at u r i to ip header bytes m
+        → IsAwaitedWhenNext E.moves frames_at u r count i to ip header bytes m
         → Polls E.moves u steps r changed r'
         → ComesAmong E.moves u r r' ip header bytes m w }
 {}
@@ -167,8 +167,9 @@ pub fn a_segment_arrives_between_ports()
         → ComesAmong PortMove u r r' ip header bytes m w }
 {}
 
-/// Law: there are two hosts at ports of the simulated link, on a medium of bare packets, that meet all that `a_segment_arrives_between_ports` asks for:
-/// between their sockets a connection is open, abc is offered at the one, goes in one step of its poll, and comes in one step of the other's.
+/// Law: there are two hosts at ports of the simulated link, on a medium of bare packets, that meet all that `a_segment_arrives_between_ports` and
+/// `a_segment_that_waits_comes` ask for: between their sockets a connection is open, abc is offered at the one, goes in one step of its poll, and comes in
+/// one step of the other's.
 pub fn two_hosts_meet_what_a_segment_asks_for()
     ensures widths { HasWidths sender }
     ensures turn { IsItsTurn sender offering.places 0 (Kind.Tcp writing) }
@@ -181,6 +182,9 @@ pub fn two_hosts_meet_what_a_segment_asks_for()
     ensures brings { BringsWhatWent offering.device sent.device awaiting.device 1 }
     ensures reads { CanRead sender Hardware.Ip (reader_of awaiting.host.inner) }
     ensures awaits { IsAwaitedThroughout reader awaiting.places Hardware.Ip header push 0 (record { waiting = None }) (idle B) }
+    ensures formed { IsWellFormed packet }
+    ensures lies { LiesAmong awaiting.device.link.waiting 1 (frame_under sender sender.ident Hardware.Ip packet) }
+    ensures awaits_next { IsAwaitedWhenNext PortMove (λ (p : PortValue). p.link.waiting) now awaiting 1 sender Hardware.Ip header push text 0 }
     ensures hears { Polls PortMove now 1 awaiting true reached }
     ensures their_leave { IsTrue (has_leave reached.device.link) }
     ensures connection { HasConnection reached.places 0 }
