@@ -1,9 +1,10 @@
 -- Two hosts on numerals, and the polls in which a segment goes from the one to the other.
-use Rattle.std.proofs.Common.{inl, inr, zero, suc, true, false, [], ◌∷◌, Some, None, refl, sym, subst, arith}
+use Rattle.std.proofs.Common.{◌≤◌, inl, inr, zero, suc, true, false, [], ◌∷◌, Some, None, refl, sym, subst, arith}
 use Rattle.std.proofs.lemmas.Bool.{leb-true, ltb-true}
 use Rattle.std.specs.List.{AllByRecursion}
 use Rattle.net_base.specs.Medium.TheVariants as Medium
 use Rattle.ip_address.specs.Address.{v4_number}
+use Rattle.ip_packet.specs.Ip.{destination_of}
 use Rattle.ip_wire.specs.HardwareAddress.TheVariants as Hardware
 use Rattle.lan_base.specs.Port.{PortValue, PortMove}
 use Rattle.lan.specs.declared.at_link.history.event.Side.TheVariants.{A, B}
@@ -18,7 +19,7 @@ use Rattle.interface_ingress.specs.Packet.{PacketValue, Segment, payload_written
 use Rattle.interface_ingress.specs.Socket.TheVariants as Kind
 use Rattle.interface_ingress.specs.Sockets.{Offers}
 use Rattle.interface_ingress.specs.Upper.{IsBrought}
-use Rattle.interface_tables.specs.Inner.{with_next_ident}
+use Rattle.interface_tables.specs.Inner.{mtu_to, with_next_ident}
 use Rattle.interface_tables.specs.PathMtu.{mtu_towards}
 use Rattle.interface_egress.specs.Departure.{Whole}
 use Rattle.interface_egress.specs.GoesOut.{numbered}
@@ -90,6 +91,10 @@ offers = record { offers = refl; source_port = λ is. absurd (cc); destination_p
 pub goes : CanLeave sender Hardware.Ip packet
 unfolding v4_number mtu_towards
 goes = record { may = refl; known = refl; short = leb-true _ _ refl }
+
+pub path : 80 ≤ mtu_to sender (destination_of header)
+unfolding mtu_towards
+path = leb-true _ _ refl
 
 -- THE POLL OF A
 

@@ -1,6 +1,7 @@
 //! A segment that a TCP socket of one host offers comes to a socket of another.
 
 ghost use Rattle.std.specs.Prelude.{◌≡◌, ℕ, suc, ◌≤◌, ℤ, Bool, true, IsTrue, List, [], slice_get, Option, Some, None};
+ghost use Rattle.ip_packet.specs.Ip.{destination_of};
 ghost use Rattle.ip_packet.specs.declared.ip.repr.IpRepr.{IpRepr};
 ghost use Rattle.ip_wire.specs.HardwareAddress.{HardwareAddress};
 ghost use Rattle.ip_wire.specs.HardwareAddress.TheVariants as Hardware;
@@ -10,7 +11,8 @@ ghost use Rattle.tcp_model.specs.Value.{TcpValue};
 ghost use Rattle.interface_ingress.specs.Packet.{Segment, packet_of};
 ghost use Rattle.interface_ingress.specs.Socket.TheVariants as Kind;
 ghost use Rattle.interface_ingress.specs.WellFormed.{IsWellFormed};
-ghost use Rattle.interface_tables.specs.Inner.{InnerValue, at_moment};
+ghost use Rattle.interface_tables.specs.Inner.{InnerValue, at_moment, mtu_to};
+ghost use Rattle.interface_egress.specs.Plan.{total_len};
 ghost use Rattle.interface_egress.specs.Set.{unmarked};
 ghost use Rattle.interface_egress.specs.declared.socket_meta.Meta.{Meta};
 ghost use Rattle.interface.specs.Egress.{EgressStep};
@@ -54,6 +56,14 @@ pub fn offered_segments_go<D: Device>()
         → CanLeave (at_moment t s.host.inner) to (packet_of ip (Segment header bytes))
         → Repeats (EgressStep D.moves t) (suc budget) s before s' changed
         → GoesInTurn D.moves (at_moment t s.host.inner) to (packet_of ip (Segment header bytes)) s.device s'.device }
+{}
+
+/// Law: such a segment fits the path to its remote, and so one frame, where that carries 80 bytes: an IPv6 header and a SYN with all its options.
+pub fn offered_segments_fit_their_path()
+    ensures { (i : InnerValue) (v : TcpValue) (ip : IpRepr) (header : TcpHeader) (bytes : List ℕ)
+        → OffersSegment i v ip header bytes
+        → 80 ≤ mtu_to i (destination_of ip)
+        → total_len ip ≤ mtu_to i (destination_of ip) }
 {}
 
 /// Law: of two hosts on one medium, where a TCP socket of the one has its turn and offers a segment that can go to a known hardware address, a step of the
@@ -167,13 +177,14 @@ pub fn a_segment_arrives_between_ports()
         → ComesAmong PortMove u r r' ip header bytes m w }
 {}
 
-/// Law: there are two hosts at ports of the simulated link, on a medium of bare packets, that meet all that `a_segment_arrives_between_ports` and
-/// `a_segment_that_waits_comes` ask for: between their sockets a connection is open, abc is offered at the one, goes in one step of its poll, and comes in
+/// Law: there are two hosts at ports of the simulated link, on a medium of bare packets, that meet all that `a_segment_arrives_between_ports`,
+/// `a_segment_that_waits_comes` and `offered_segments_fit_their_path` ask for: between their sockets a connection is open, abc is offered at the one, goes in one step of its poll, and comes in
 /// one step of the other's.
 pub fn two_hosts_meet_what_a_segment_asks_for()
     ensures widths { HasWidths sender }
     ensures turn { IsItsTurn sender offering.places 0 (Kind.Tcp writing) }
     ensures offers { OffersSegment sender writing header push text }
+    ensures path { 80 ≤ mtu_to sender (destination_of header) }
     ensures goes { CanLeave sender Hardware.Ip packet }
     ensures bare { offering.device.link.waiting ≡ [] }
     ensures sends { Polls PortMove now 1 offering true sent }
