@@ -9,7 +9,8 @@ use Rattle.lan.specs.Worlds.AtLink.Moves.{Step, IsRun, run}
 use Rattle.lan.specs.Worlds.AtLink.Parties.{Party, Net, party}
 use Rattle.lan.specs.Worlds.Moves.Made.{Grows}
 use Rattle.lan.specs.Worlds.Moves.Follows.{sockets_of}
-use Rattle.lan.proofs.Worlds.Moves.Frames.{AreMoved, IsMoved, one_moved}
+use Rattle.lan.specs.Worlds.Moves.Taken.{AreMoved, IsMoved}
+use Rattle.lan.proofs.Worlds.Moves.Frames.{one_moved}
 use Rattle.lan.proofs.Worlds.Moves.Held.{AreHeld, Stays}
 use Rattle.lan.proofs.Worlds.Moves.Leave.{AreLet}
 

@@ -17,7 +17,7 @@ use Rattle.lan.specs.Worlds.Moves.Follows.{IsNetOf, Comes, sockets_of}
 use Rattle.interface_tables.specs.Inner.{InnerValue}
 use Rattle.lan.specs.Worlds.AtLink.Moves as Moves
 use Rattle.lan.proofs.Worlds.Moves.Following.{Follows}
-use Rattle.lan.proofs.Worlds.Moves.Frames.{AreMoved, all_moved_on}
+use Rattle.lan.proofs.Worlds.Moves.Frames.{all_moved_on}
 use Rattle.lan.proofs.Worlds.Moves.Held.{AreHeld, Stays, held-append}
 use Rattle.lan.proofs.Worlds.Moves.Later.{since_itself}
 use Rattle.lan.proofs.Worlds.Moves.Leave.{AreLet, let-append}
@@ -25,6 +25,7 @@ use Rattle.lan.proofs.Worlds.PortMoves.{GivesLeave, TookOf, giving_ports, taking
 use Rattle.lan.specs.Worlds.Moves.Fit.{IsFit}
 use Rattle.lan.specs.Worlds.Moves.Link.{IsLink}
 use Rattle.lan.specs.Worlds.Moves.Raws.{OfEach}
+use Rattle.lan.specs.Worlds.Moves.Taken.{AreMoved}
 use Rattle.lan.proofs.Worlds.Moves.Calls.{names}
 use Rattle.lan.proofs.Worlds.Moves.Events.{reached_comes, passed}
 use Rattle.lan.proofs.Worlds.Moves.Nets.{here, either_side, step_of}

@@ -155,7 +155,8 @@ module _ {D : Type 0} (moves : D → Move → D → Type 0) (t : ℤ) (names : L
             (taking.takes s.device mid s.host.inner.moment frame f.frames took f.taken);
         reaches = took_one names side (Stays i0 s'.host.inner) (Gives s'.device) f.frames i0 t net end.moved.next frame end.moved.reaches (λ read. record {
           i = s.host.inner;
-          like = like;
+          settings = like.settings;
+          moment = like.moment;
           timeout = s.host.timeout;
           slots = s.host.slots;
           content = content;

@@ -38,10 +38,10 @@ use Rattle.lan.specs.Worlds.AtLink.Moves.{Step}
 use Rattle.lan.specs.Worlds.AtLink.Parties.{Party, Net, party, WasMade}
 use Rattle.lan.specs.Worlds.Moves.Follows.{sockets_of}
 use Rattle.lan.proofs.Worlds.Moves.Following.{Reaches}
-use Rattle.lan.proofs.Worlds.Moves.Frames.{BringsIn, ComesNext, HandsIn, IfSegment}
 use Rattle.lan.proofs.Worlds.Moves.Held.{IsAsAt, IsBetweenHosts, nobodies, seen_at, shows, strays}
 use Rattle.lan.proofs.Worlds.Moves.Later.{IsHome, past_it, segment_errors}
 use Rattle.lan.specs.Worlds.Moves.Made.{IsMade, HandsMade, BringsMade, datagram_of}
+use Rattle.lan.specs.Worlds.Moves.Taken.{BringsIn, ComesNext, HandsIn, IfSegment}
 use Rattle.lan.proofs.Worlds.Moves.MadeReplies.{IsMadeReply}
 use Rattle.lan.proofs.Worlds.Moves.Arrivals.{Answered, packet_delivered_same, icmpv4_delivered_same, icmpv6_delivered_same, nothing, datagram_given}
 use Rattle.lan.proofs.Worlds.Moves.Arrivals.{reset, segment_taken}
