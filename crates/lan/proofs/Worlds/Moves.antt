@@ -1,5 +1,6 @@
 -- What a host does is a run over packets.
 pub mod Devices
+pub mod Frames
 pub mod Leave
 pub mod Following
 pub mod Held

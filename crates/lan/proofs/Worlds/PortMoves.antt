@@ -1,11 +1,12 @@
 -- The moves of a port.
-use Rattle.std.proofs.Common.{◌≡◌, ℕ, ◌+◌, ◌-◌, ◌^◌, ◌<◌, ◌≤◌, ℤ, Bool, true, false, cond, ltb, IsTrue, List, [], ◌∷◌, length, sym, ap, ◌∙◌, arith}
+use Rattle.std.proofs.Common.{◌≡◌, ℕ, ◌+◌, ◌-◌, ◌^◌, ◌<◌, ◌≤◌, ℤ, Bool, true, false, cond, ltb, IsTrue, List, [], ◌∷◌, ◌++◌, append_assoc, length, sym, ap, ◌∙◌, arith}
 use Rattle.std.proofs.lemmas.Bool.{and_from, and_parts, lt-ltb, ltb-true}
 use Rattle.std.specs.Prelude.{nat_le, drop}
 use Rattle.lan_base.specs.Device.{Move, Took, Empty, Allowed, Emitted, Denied, gives_tokens}
 use Rattle.lan.specs.Worlds.AtLink.Port.{PortValue, PortMove, has_leave}
 use Rattle.interface_egress.specs.Determined.{IsDetermined}
 use Rattle.interface.proofs.Unrefused.{IsCounting, head_is, none_waits, given_or_not}
+use Rattle.lan.proofs.Worlds.Moves.Frames.{IsNoTake, IsTaking}
 use Rattle.lan.proofs.Worlds.Moves.Leave.{IsGiving}
 
 -- a port before a frame was taken
@@ -107,4 +108,28 @@ giving_ports refused = record {
   had = λ old new m moved gives. (had_leave old new m moved gives.0, (let more = kept old new m moved in let few = gives.1 in omega (arith, more, few)));
   leave = λ old new t moved since gives. given_or_not (has_leave old.link) (sym (had_leave old new (Allowed t false) moved gives.0)) moved.1;
   takes = λ old new len moved since gives. (let more = denied old new len moved in let few = gives.1 in absurd (omega (arith, more, since, few)));
+}
+
+-- FRAMES THAT WERE TAKEN, of those that waited
+
+-- the others wait still
+abbrev pub TookOf : List (List ℕ) → List (List ℕ) → PortValue → Type 0
+TookOf waits frames p = waits ≡ frames ++ p.link.waiting
+
+waits_on : (waits frames : List (List ℕ)) (old new : PortValue) → new.link.waiting ≡ old.link.waiting → TookOf waits frames old → TookOf waits frames new
+waits_on waits frames old new same took = took ∙ ap (λ (xs : List (List ℕ)). frames ++ xs) (sym same)
+
+rests : (waits : List (List ℕ)) (old new : PortValue) (m : Move) (frames : List (List ℕ)) → IsNoTake m → PortMove old m new → TookOf waits frames old →
+    TookOf waits frames new
+rests waits old new (Took t frame) frames none goes took = absurd none
+rests waits old new (Empty t) frames none goes took = waits_on waits frames old new (ap (λ (p : PortValue). p.link.waiting) goes.0) took
+rests waits old new (Allowed t given) frames none goes took = waits_on waits frames old new (ap (λ (p : PortValue). p.link.waiting) goes.0) took
+rests waits old new (Emitted frame) frames none goes took = waits_on waits frames old new (ap (λ (p : PortValue). p.link.waiting) goes) took
+rests waits old new (Denied len) frames none goes took = waits_on waits frames old new (ap (λ (p : PortValue). p.link.waiting) goes.0) took
+
+pub taking_ports : (waits : List (List ℕ)) → IsTaking PortMove (TookOf waits)
+taking_ports waits = record {
+  takes = λ old new t frame frames goes took.
+      took ∙ ap (λ (p : PortValue). frames ++ p.link.waiting) goes.1 ∙ sym (append_assoc frames (frame ∷ []) new.link.waiting);
+  rests = rests waits;
 }

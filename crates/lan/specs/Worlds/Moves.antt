@@ -6,3 +6,4 @@ pub mod Joined
 pub mod Raws
 pub mod Protocols
 pub mod Fit
+pub mod Taken

@@ -6,23 +6,27 @@ use Rattle.interface.proofs.Kept.{IsKept}
 use Rattle.interface.specs.Polls.{Polls}
 use Rattle.interface.specs.State.{State}
 use Rattle.lan.proofs.Worlds.Moves.Devices.{piece_leaves, place_turns, same, takes}
+use Rattle.lan.proofs.Worlds.Moves.Frames.{IsNoTake}
 use Rattle.stack_laws.specs.PeerHost.Moved.{AreMoves, MovedTo}
 use Rattle.stack_laws.specs.PeerHost.Steps.{Step, Steps, Reaches}
 
 module _ {D : Type 0} (moves : D → Move → D → Type 0) (Q : D → Type 0) (keeps : (d d' : D) (m : Move) → moves d m d' → Q d → Q d') where
+  quiet : (d d' : D) (m : Move) → IsNoTake m → moves d m d' → Q d → Q d'
+  quiet d d' m none goes = keeps d d' m goes
+
   module _ (t : ℤ) where
     step : (s s' : State D) → Step moves t s s' → Q s.device → Q s'.device
-    step s s' (inl begins) holds = same moves Q keeps s.device s'.device (ap (λ (x : State D). x.device) begins) holds
+    step s s' (inl begins) holds = same moves Q quiet s.device s'.device (ap (λ (x : State D). x.device) begins) holds
     step s s' (inr (inl (answer, is))) holds = takes moves Q keeps s s' answer is holds
     step s s' (inr (inr (inl piece))) holds =
-        same moves Q keeps piece.to.device s'.device (ap (λ (x : State D). x.device) piece.is)
-        (piece_leaves moves Q keeps piece.left piece.from piece.to piece.gone piece.leaves (subst (λ (x : State D). Q x.device) piece.was holds))
+        same moves Q quiet piece.to.device s'.device (ap (λ (x : State D). x.device) piece.is)
+        (piece_leaves moves Q quiet piece.left piece.from piece.to piece.gone piece.leaves (subst (λ (x : State D). Q x.device) piece.was holds))
     step s s' (inr (inr (inr turn))) holds =
-        same moves Q keeps turn.to.device s'.device (ap (λ (x : State D). x.device) turn.is)
-        (place_turns moves Q keeps turn.asked turn.from turn.to (subst (λ (x : State D). Q x.device) turn.was holds) turn.place turn.place_after turn.turned turn.turns)
+        same moves Q quiet turn.to.device s'.device (ap (λ (x : State D). x.device) turn.is)
+        (place_turns moves Q quiet turn.asked turn.from turn.to (subst (λ (x : State D). Q x.device) turn.was holds) turn.place turn.place_after turn.turned turn.turns)
 
     steps : (n : ℕ) (from to : State D) → Steps moves t n from to → Q from.device → Q to.device
-    steps zero from to is holds = same moves Q keeps from.device to.device (ap (λ (x : State D). x.device) is) holds
+    steps zero from to is holds = same moves Q quiet from.device to.device (ap (λ (x : State D). x.device) is) holds
     steps (suc n) from to (mid, before, last) holds = step mid to last (steps n from mid before holds)
 
     -- what holds of the device where a poll began holds wherever the poll has come
@@ -33,8 +37,8 @@ module _ {D : Type 0} (moves : D → Move → D → Type 0) (Q : D → Type 0) (
     device_kept = record {
       maintenance = λ s holds. holds;
       arrivals = λ s s' answer runs holds is. takes moves Q keeps s s' answer is holds;
-      pieces = λ h ps x x' l gone runs waits holds leaves same_host. piece_leaves moves Q keeps l x x' gone leaves holds;
-      turns = λ turn h before after p p' x x' turned runs holds is. place_turns moves Q keeps turn x x' holds p p' turned is;
+      pieces = λ h ps x x' l gone runs waits holds leaves same_host. piece_leaves moves Q quiet l x x' gone leaves holds;
+      turns = λ turn h before after p p' x x' turned runs holds is. place_turns moves Q quiet turn x x' holds p p' turned is;
     }
 
     -- and where it ended

@@ -18,6 +18,7 @@ use Rattle.lan.specs.Worlds.AtLink.Runs.{Starts, start}
 use Rattle.lan.specs.Worlds.AtLink.Station.{Stations, station}
 use Rattle.lan.specs.Worlds.Moves.Follows.{IsNetOf}
 use Rattle.lan.specs.Worlds.Moves.Joined.{first_net}
+use Rattle.lan.specs.Worlds.Moves.Taken.{AreMoved}
 use Rattle.lan.specs.Worlds.Still.{MovePlainly, StillRun, seats_of}
 use Rattle.lan_base.specs.Carried.{names_tcp_or_udp}
 use Rattle.lan_base.specs.Medium.TheVariants as Medium
@@ -83,10 +84,18 @@ AreSentOff (OfHost side (Polls moment budget)) new steps =
     IsTrue (has_leave (station new side).link) → medium_of (station new side) ≡ Medium.Ip → AllByRecursion (λ step. IsSentOff step.move) steps
 AreSentOff kind new steps = Unit {0}
 
--- These moves are an event's own, and lead on to a net of the hosts behind it.
-pub record HappensBy (starts : Starts) (past : List Entry) (e : Entry) (new : Stations) (net : Net) (steps : List Step) : Type 0 where
+-- A poll took the first of the frames that waited for its host, and whichever segment one of them brought to a socket came to it by one of these moves.
+abbrev pub AreTaken : Kind → Stations → Stations → Net → List Step → Type 0
+AreTaken (OfHost side (Polls moment budget)) old new net steps =
+    (frames : List (List ℕ)) × ((station old side).link.waiting ≡ frames ++ (station new side).link.waiting)
+    × AreMoved side (station old side).host.inner moment net frames steps
+AreTaken kind old new net steps = Unit {0}
+
+-- These moves are an event's own, and lead on from a net of the hosts before it to one of those behind it.
+pub record HappensBy (starts : Starts) (past : List Entry) (e : Entry) (old new : Stations) (net : Net) (steps : List Step) : Type 0 where
   pub are : AreOfEvent e (kind_of e.event) (shown_in starts past) steps
   pub sent_off : AreSentOff (kind_of e.event) new steps
+  pub taken : AreTaken (kind_of e.event) old new net steps
   pub may : IsRun (names_tcp_or_udp Medium.Ip) net steps
   pub of : IsNetOf (run net steps) new (e ∷ past)
 
@@ -105,7 +114,7 @@ abbrev pub MoveBy : (starts : Starts) → Net → (past more : List Entry) (host
 MoveBy starts net past [] hosts still moves = (moves ≡ []) × IsNetOf net hosts past
 MoveBy starts net past (e ∷ more) hosts still moves =
     (before : List (ℤ × Step)) × (these : List Step) × (moves ≡ before ++ all_at (clock_in (e ∷ more ++ past)) these)
-    × MoveBy starts net past more still.0 still.1 before × HappensBy starts (more ++ past) e hosts (run net (untimed before)) these
+    × MoveBy starts net past more still.0 still.1 before × HappensBy starts (more ++ past) e still.0 hosts (run net (untimed before)) these
 
 -- plain moves lead to the hosts between, and on to these by the moves of the later events
 pub record MoveByEvents (starts : Starts) (past : List Entry) (between : Stations) (more : List Entry) (hosts : Stations)

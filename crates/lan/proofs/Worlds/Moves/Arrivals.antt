@@ -1,5 +1,5 @@
 -- What arrives at the sockets is a move, or none.
-use Rattle.std.proofs.Common.{◌≡◌, ℕ, ℤ, zero, suc, ◌<◌, Bool, true, false, if◌then◌else◌, List, [], ◌∷◌, length, get_or, Option, Some, None, IfSome}
+use Rattle.std.proofs.Common.{◌≡◌, ℕ, ℤ, zero, suc, ◌<◌, Bool, true, false, if◌then◌else◌, List, [], ◌∷◌, ◌++◌, length, get_or, Option, Some, None, IfSome}
 use Rattle.std.proofs.Common.{refl, sym, ap, ◌∙◌}
 use Rattle.std.proofs.Common.{subst, append-nil}
 use Rattle.std.specs.Prelude.{slice_get, slice_set, slice_index_or}
@@ -22,6 +22,7 @@ use Rattle.tcp_tie.proofs.HostLaws.{comes_as_made}
 use Rattle.tcp_model.specs.Arrival.{arrives}
 use Rattle.tcp_model.specs.Segments.{rst_reply}
 use Rattle.tcp_model.specs.Reply.{Reply}
+use Rattle.tcp_model.specs.Value.{TcpValue}
 use Rattle.sockets.specs.Socket.{accepts_packet, accepts_icmpv4, accepts_icmpv6, accepts_datagram, accepts_segment}
 use Rattle.sockets.specs.declared.socket.Socket.{Socket}
 use Rattle.sockets.specs.declared.socket.Socket.TheVariants as Is
@@ -44,7 +45,7 @@ use Rattle.interface_tables.specs.Inner.{InnerValue}
 use Rattle.lan.proofs.Worlds.Moves.Following.{Reaches}
 use Rattle.lan.proofs.Worlds.Moves.Held.{IsBetweenHosts, IsShownAt}
 use Rattle.lan.specs.Worlds.Moves.Made.{Grows, IsMade, datagram_of}
-use Rattle.lan.proofs.Worlds.Moves.Nets.{Moved, stays, moves_by, there, grows_to, grows_by}
+use Rattle.lan.proofs.Worlds.Moves.Nets.{Moved, stays, moves_by, step_of, there, grows_to, grows_by}
 use Rattle.lan.proofs.Worlds.Moves.Places.{Places, seen_at, seen_set, get_last}
 
 -- SOCKETS OF WHICH NOTHING IS LOOKED AT
@@ -113,8 +114,8 @@ free : SocketStorage Socket
 free = record { inner = None }
 
 -- moves lead to these sockets, and a packet that answers was made
-pub record Answered (names : List ℕ → Bool) (side : Side) (C G : Type 0) (i0 : InnerValue) (t : ℤ) (net now : Net) (sockets : List (Option Parties.Socket)) (reply : Option PacketValue) : Type 0 where
-  pub moved : Moved names side C G i0 t net now sockets
+pub record Answered (names : List ℕ → Bool) (side : Side) (C G : Type 0) (F : List (List ℕ)) (i0 : InnerValue) (t : ℤ) (net now : Net) (sockets : List (Option Parties.Socket)) (reply : Option PacketValue) : Type 0 where
+  pub moved : Moved names side C G F i0 t net now sockets
   pub made : IfSome reply (IsMade (party moved.next side))
 
 reply_made : (p : Party) (before : List Made) (a : Option Reply) → p.segments ≡ and_answer before a → IfSome (packet_by a) (IsMade p)
@@ -123,10 +124,10 @@ reply_made p before (Some reply) is =
     let last = get_last before (made_by reply) [] in
     record { written = reply.segment; among = (last.0, ap (λ (xs : List Made). slice_get xs last.0) is ∙ last.1); read = refl }
 
-module _ (names : List ℕ → Bool) (side : Side) (C G : Type 0) (i0 : InnerValue) (t : ℤ) (net now : Net) (r : Reaches names side C G i0 t net now) (places : Places) (has : (party now side).sockets ≡
+module _ (names : List ℕ → Bool) (side : Side) (C G : Type 0) (F : List (List ℕ)) (i0 : InnerValue) (t : ℤ) (net now : Net) (r : Reaches names side C G F i0 t net now) (places : Places) (has : (party now side).sockets ≡
     sockets_of places) where
   abbrev Ends : List (Option Parties.Socket) → Option PacketValue → Type 0
-  Ends sockets reply = Answered names side C G i0 t net now sockets reply
+  Ends sockets reply = Answered names side C G F i0 t net now sockets reply
 
   abbrev holds_at : ℕ → Option (Item Socket) → Type 0
   holds_at at o = (at < length places) × (get_or places at free ≡ record { inner = o })
@@ -139,13 +140,13 @@ module _ (names : List ℕ → Bool) (side : Side) (C G : Type 0) (i0 : InnerVal
   set_there at place = ap (λ (xs : List (Option Parties.Socket)). slice_set xs at (seen_place place)) has ∙ sym (seen_set places at place)
 
   pub nothing : Ends (sockets_of places) None
-  nothing = record { moved = stays names side C G i0 t net now r (sockets_of places) has; made = tt }
+  nothing = record { moved = stays names side C G F i0 t net now r (sockets_of places) has; made = tt }
 
   -- A DATAGRAM
 
   module _ (cx : ContextValue) (ip : IpRepr) (udp : UdpRepr) (bytes : List ℕ) (made : WasMade (party now (other side)) (datagram_of udp bytes)) where
     abbrev Given : Places → Type 0
-    Given qs = Moved names side C G i0 t net now (sockets_of qs)
+    Given qs = Moved names side C G F i0 t net now (sockets_of qs)
 
     -- of a client nothing is looked at
     unseen : (at : ℕ) (item : Item Socket) (s s' : Socket) → seen s ≡ None → seen s' ≡ None → holds_at at (Some (record item { socket = s })) →
@@ -154,14 +155,14 @@ module _ (names : List ℕ → Bool) (side : Side) (C G : Type 0) (i0 : InnerVal
         let next : SocketStorage Socket = record { inner = Some (record item { socket = s' }) } in
         let none : slice_index_or (sockets_of places) at None ≡ None = seen_at places at free here.0 ∙ ap seen_place here.1 ∙ was in
         let same : slice_set (sockets_of places) at None ≡ sockets_of places = set_none (sockets_of places) at none in
-        stays names side C G i0 t net now r (sockets_of (slice_set places at next))
+        stays names side C G F i0 t net now r (sockets_of (slice_set places at next))
         (has ∙ sym same ∙ ap (λ (o : Option Parties.Socket). slice_set (sockets_of places) at o) (sym becomes) ∙ sym (seen_set places at next))
 
     socket_given : (at : ℕ) (item : Item Socket) (s s' : Socket) → TakesDatagram cx ip udp bytes s s' → holds_at at (Some (record item { socket = s })) →
         accepts_datagram cx s ip udp ≡ true → Given (slice_set places at (record { inner = Some (record item { socket = s' }) }))
     socket_given at item (Is.Udp v) s' takes here accepts =
         subst (λ (x : Socket). Given (slice_set places at (record { inner = Some (record item { socket = x }) }))) (sym takes)
-        (moves_by names side C G i0 t net now r move _ (found at (record item { socket = Is.Udp v }) here, accepts, made) refl
+        (moves_by names side C G F i0 t net now r move _ (found at (record item { socket = Is.Udp v }) here, accepts, made) refl
         (set_there at (record { inner = Some (record item { socket = Is.Udp (Udps.process_after v ip udp bytes) }) }))
         (grows_to (party now side) (Moves.party_after (party now side) move) refl refl) (λ c. tt) (λ c g. tt))
       where
@@ -181,7 +182,7 @@ module _ (names : List ℕ → Bool) (side : Side) (C G : Type 0) (i0 : InnerVal
         (socket_given at item item.socket takes.0 takes.1 here passing)
 
     first_given : (o : Option ℕ) → datagram_place cx ip udp places ≡ o → (qs : Places) → GivenAt cx ip udp bytes o places qs → Given qs
-    first_given None is qs given = subst Given (sym given) (stays names side C G i0 t net now r (sockets_of places) has)
+    first_given None is qs given = subst Given (sym given) (stays names side C G F i0 t net now r (sockets_of places) has)
     first_given (Some at) is qs given =
         let first = position-Some (passes (λ s. accepts_datagram cx s ip udp)) places at free is in
         let place = get_or places at free in
@@ -197,8 +198,14 @@ module _ (names : List ℕ → Bool) (side : Side) (C G : Type 0) (i0 : InnerVal
   module _ (cx : ContextValue) (ip : IpRepr) (header : TcpHeader) (bytes : List ℕ)
       (made : MayCome (party now (other side)).segments (source_of ip) (destination_of ip) header bytes) (shown : IsShownAt i0 t cx)
       (between : IsBetweenHosts i0 ip) where
+    -- it came to the socket of a place by one move
+    pub record CameBy (at : ℕ) (sockets : List (Option Parties.Socket)) (reply : Option PacketValue) : Type 0 where
+      pub ends : Ends sockets reply
+      pub v : TcpValue
+      pub are : ends.moved.reaches.steps ≡ r.steps ++ step_of side (Moves.Takes at cx v ip header bytes) ∷ []
+
     abbrev Taken : ℕ → SocketStorage Socket → Type 0
-    Taken at place = Ends (sockets_of (slice_set places at (with_change (with_segment cx ip header bytes) place)))
+    Taken at place = CameBy at (sockets_of (slice_set places at (with_change (with_segment cx ip header bytes) place)))
         (answer_in (answer_of cx ip header bytes) place.inner)
 
     came : IsSeenAmong (party now (other side)).segments header bytes
@@ -213,12 +220,16 @@ module _ (names : List ℕ → Bool) (side : Side) (C G : Type 0) (i0 : InnerVal
     socket_takes : (at : ℕ) (item : Item Socket) (s : Socket) → holds_at at (Some (record item { socket = s })) → accepts_segment s ip header ≡ true →
         Taken at (record { inner = Some (record item { socket = s }) })
     socket_takes at item (Is.Tcp v) here accepts = record {
-      moved =
-          moves_by names side C G i0 t net now r move _ (found at (record item { socket = Is.Tcp v }) here, accepts, came) refl
-          (set_there at (with_change (with_segment cx ip header bytes) (record { inner = Some (record item { socket = Is.Tcp v }) })))
-          (grown (Moves.party_after (party now side) move) (arrives cx v ip header bytes).answer refl refl) (λ c. (shown, made, between)) (λ c g. tt);
-      made = there now side move (λ (y : Party). IfSome (packet_by (arrives cx v ip header bytes).answer) (IsMade y))
-          (reply_made (Moves.party_after (party now side) move) (party now side).segments (arrives cx v ip header bytes).answer refl);
+      ends = record {
+        moved =
+            moves_by names side C G F i0 t net now r move _ (found at (record item { socket = Is.Tcp v }) here, accepts, came) refl
+            (set_there at (with_change (with_segment cx ip header bytes) (record { inner = Some (record item { socket = Is.Tcp v }) })))
+            (grown (Moves.party_after (party now side) move) (arrives cx v ip header bytes).answer refl refl) (λ c. (shown, made, between)) (λ c g. tt);
+        made = there now side move (λ (y : Party). IfSome (packet_by (arrives cx v ip header bytes).answer) (IsMade y))
+            (reply_made (Moves.party_after (party now side) move) (party now side).segments (arrives cx v ip header bytes).answer refl);
+      };
+      v = v;
+      are = refl;
     } where
       move : Moves.Move
       move = Moves.Takes at cx v ip header bytes
@@ -237,7 +248,7 @@ module _ (names : List ℕ → Bool) (side : Side) (C G : Type 0) (i0 : InnerVal
     pub reset : (C → ⊥) → Ends (sockets_of places) (packet_by (Some (rst_reply ip header (length bytes))))
     reset none = record {
       moved =
-          moves_by names side C G i0 t net now r move (sockets_of places) refl refl has
+          moves_by names side C G F i0 t net now r move (sockets_of places) refl refl has
           (grows_by (party now side) (Moves.party_after (party now side) move) (x ∷ []) [] refl (sym (append-nil (party now side).datagrams))) none (λ c g. tt);
       made = there now side move (λ (y : Party). IfSome (packet_by (Some (rst_reply ip header (length bytes)))) (IsMade y))
           (reply_made (Moves.party_after (party now side) move) (party now side).segments (Some (rst_reply ip header (length bytes))) refl);
@@ -250,12 +261,12 @@ module _ (names : List ℕ → Bool) (side : Side) (C G : Type 0) (i0 : InnerVal
 
     -- one accepts it
     pub segment_taken : (taken : Bool) (at : ℕ) → segment_place ip header places ≡ Some at
-        → Ends (sockets_of (changed_at (with_segment cx ip header bytes) (Some at) places)) (segment_answer_at (Some at) cx ip header bytes taken places)
+        → CameBy at (sockets_of (changed_at (with_segment cx ip header bytes) (Some at) places)) (segment_answer_at (Some at) cx ip header bytes taken places)
     segment_taken taken at is =
         let first = accepted_there ip header places at free is in
         let place = get_or places at free in
-        subst (λ (o : Option PacketValue). Ends (sockets_of (changed_at (with_segment cx ip header bytes) (Some at) places)) o)
+        subst (λ (o : Option PacketValue). CameBy at (sockets_of (changed_at (with_segment cx ip header bytes) (Some at) places)) o)
         (sym (answer_here (answer_of cx ip header bytes) places at place (slice_get-get_or places at free first.0)))
-        (subst (λ (qs : Places). Ends (sockets_of qs) (answer_in (answer_of cx ip header bytes) place.inner))
+        (subst (λ (qs : Places). CameBy at (sockets_of qs) (answer_in (answer_of cx ip header bytes) place.inner))
         (sym (changed_here (with_segment cx ip header bytes) places at place (slice_get-get_or places at free first.0)))
         (place_takes at place.inner (first.0, refl) first.1))

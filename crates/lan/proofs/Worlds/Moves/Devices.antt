@@ -31,34 +31,35 @@ use Rattle.interface.specs.State.{State}
 use Rattle.interface.specs.Turn.{Leaves, SendsBy, Answers, TurnsIf, ItemTurns, PlaceTurns, is_waiting, let_through}
 use Rattle.interface.specs.WayOut.{PieceLeaves}
 use Rattle.interface.specs.declared.turn.Turned.{Turned}
+use Rattle.lan.proofs.Worlds.Moves.Frames.{IsNoTake}
 
-module _ {D : Type 0} (moves : D → Move → D → Type 0) (Q : D → Type 0) (keeps : (d d' : D) (m : Move) → moves d m d' → Q d → Q d') where
+module _ {D : Type 0} (moves : D → Move → D → Type 0) (Q : D → Type 0) (keeps : (d d' : D) (m : Move) → IsNoTake m → moves d m d' → Q d → Q d') where
   pub same : (d d' : D) → d' ≡ d → Q d → Q d'
   same d d' is holds = subst Q (sym is) holds
 
   -- A FRAME GOES, OR IS REFUSED
 
   emits : (d d' : D) (frame : List ℕ) (len : ℕ) (gone : Bool) → Emits moves d frame len gone d' → Q d → Q d'
-  emits d d' frame len true is holds = keeps d d' (Emitted frame) is.0 holds
-  emits d d' frame len false is holds = keeps d d' (Denied len) is holds
+  emits d d' frame len true is holds = keeps d d' (Emitted frame) tt is.0 holds
+  emits d d' frame len false is holds = keeps d d' (Denied len) tt is holds
 
   asked : (d d' : D) (i i' : InnerValue) (q : Question) (sent : Sent) → Asked moves d i q sent d' i' → Q d → Q d'
-  asked d d' i i' q Outcome.Waits is holds = keeps d d' (Emitted _) is.0.0 holds
-  asked d d' i i' q Outcome.Refused is holds = keeps d d' (Denied _) is.0 holds
+  asked d d' i i' q Outcome.Waits is holds = keeps d d' (Emitted _) tt is.0.0 holds
+  asked d d' i i' q Outcome.Refused is holds = keeps d d' (Denied _) tt is.0 holds
   asked d d' i i' q Outcome.Gone is holds = absurd is
   asked d d' i i' q Outcome.Dropped is holds = absurd is
   asked d d' i i' q Outcome.Busy is holds = absurd is
 
   went : (d d' : D) (i i' : InnerValue) (header : IpRepr) (p : Departure) (sent : Sent) → Went moves d i header p sent d' i' → Q d → Q d'
-  went d d' i i' header p Outcome.Gone is holds = keeps d d' (Emitted _) is.0.0 holds
-  went d d' i i' header p Outcome.Refused is holds = keeps d d' (Denied _) is.0 holds
+  went d d' i i' header p Outcome.Gone is holds = keeps d d' (Emitted _) tt is.0.0 holds
+  went d d' i i' header p Outcome.Refused is holds = keeps d d' (Denied _) tt is.0 holds
   went d d' i i' header p Outcome.Waits is holds = absurd is
   went d d' i i' header p Outcome.Dropped is holds = absurd is
   went d d' i i' header p Outcome.Busy is holds = absurd is
 
   was_cut : (d d' : D) (i i' : InnerValue) (l l' : Option LeftValue) (c : LeftValue) (sent : Sent) → WasCut moves d i l c sent d' i' l' → Q d → Q d'
-  was_cut d d' i i' l l' c Outcome.Gone is holds = keeps d d' (Emitted _) is.0.0 holds
-  was_cut d d' i i' l l' c Outcome.Refused is holds = keeps d d' (Denied _) is.0 holds
+  was_cut d d' i i' l l' c Outcome.Gone is holds = keeps d d' (Emitted _) tt is.0.0 holds
+  was_cut d d' i i' l l' c Outcome.Refused is holds = keeps d d' (Denied _) tt is.0 holds
   was_cut d d' i i' l l' c Outcome.Waits is holds = absurd is
   was_cut d d' i i' l l' c Outcome.Dropped is holds = absurd is
   was_cut d d' i i' l l' c Outcome.Busy is holds = absurd is
@@ -74,13 +75,13 @@ module _ {D : Type 0} (moves : D → Move → D → Type 0) (Q : D → Type 0) (
   goes d d' i i' l l' p (Way.Cut to) sent is holds = was_cut d d' i i' l l' (cut_of i to p) sent is holds
 
   piece_goes : (d d' : D) (i : InnerValue) (l : LeftValue) (gone : Bool) (l' : Option LeftValue) → PieceGoesOut moves d i l gone d' l' → Q d → Q d'
-  piece_goes d d' i l true l' is holds = keeps d d' (Emitted _) is.0.0 holds
-  piece_goes d d' i l false l' is holds = keeps d d' (Denied _) is.0 holds
+  piece_goes d d' i l true l' is holds = keeps d d' (Emitted _) tt is.0.0 holds
+  piece_goes d d' i l false l' is holds = keeps d d' (Denied _) tt is.0 holds
 
   pub piece_leaves : (l : LeftValue) (x x' : Sender D) (gone : Bool) → PieceLeaves moves l x gone x' → Q x.device → Q x'.device
-  piece_leaves l x x' gone (inl stays) holds = keeps x.device x'.device (Allowed x.inner.moment false) stays.0 holds
+  piece_leaves l x x' gone (inl stays) holds = keeps x.device x'.device (Allowed x.inner.moment false) tt stays.0 holds
   piece_leaves l x x' gone (inr (mid, leave, out)) holds =
-      piece_goes mid x'.device x.inner l gone x'.left out (keeps x.device mid (Allowed x.inner.moment true) leave holds)
+      piece_goes mid x'.device x.inner l gone x'.left out (keeps x.device mid (Allowed x.inner.moment true) tt leave holds)
 
   -- A FRAME COMES
 
@@ -92,21 +93,19 @@ module _ {D : Type 0} (moves : D → Move → D → Type 0) (Q : D → Type 0) (
   replied awaited (Some (Replies.Answers p)) x x' (inr answers) holds =
       goes x.device x'.device x.inner x'.inner x.left x'.left p (plan_of x.inner (is_some x.left) p.header) answers.0 answers.1 holds
 
-  pub takes : (s s' : State D) (answer : Option Bool) → Takes moves s answer s' → Q s.device → Q s'.device
-  takes s s' None is holds = keeps s.device s'.device (Empty s.host.inner.moment) is.0 holds
-  takes s s' (Some false) is holds = keeps s.device s'.device (Took s.host.inner.moment is.0) is.1 holds
-  takes s s' (Some true) (frame, mid, took, read, (content, reads, receives)) holds =
-      replied (is_awaited receives.0) receives.0.reply (record { device = mid; inner = receives.0.inner; left = s.host.left }) (sender_of moves s') receives.3
-      (keeps s.device mid (Took s.host.inner.moment frame) took holds)
+  -- from where it was taken
+  pub reads : (s s' : State D) (is : Takes moves s (Some true) s') → Q is.1 → Q s'.device
+  reads s s' (frame, mid, took, read, (content, so, receives)) holds =
+      replied (is_awaited receives.0) receives.0.reply (record { device = mid; inner = receives.0.inner; left = s.host.left }) (sender_of moves s') receives.3 holds
 
   -- A TURN
 
   module _ (turn : Option IpAddress) (x x' : Sender D) (holds : Q x.device) where
     pub leaves : (m : Meta) (p : PacketValue) (sent : Sent) → Leaves moves turn x m p sent x' → Q x'.device
-    leaves m p sent (inl rests) = keeps x.device x'.device (Allowed x.inner.moment rests.0) rests.1 holds
+    leaves m p sent (inl rests) = keeps x.device x'.device (Allowed x.inner.moment rests.0) tt rests.1 holds
     leaves m p sent (inr (mid, leave, out, free)) =
         goes mid x'.device x.inner x'.inner x.left x'.left p (plan_of x.inner (is_some x.left) p.header) sent out
-        (keeps x.device mid (Allowed x.inner.moment true) leave holds)
+        (keeps x.device mid (Allowed x.inner.moment true) tt leave holds)
 
     unmoved : x' ≡ x → Q x'.device
     unmoved is = same x.device x'.device (ap (λ (y : Sender D). y.device) is) holds
@@ -132,3 +131,11 @@ module _ {D : Type 0} (moves : D → Move → D → Type 0) (Q : D → Type 0) (
 
     pub place_turns : (p p' : SocketStorage Socket) (turned : Turned) → PlaceTurns moves turn x p turned x' p' → Q x'.device
     place_turns p p' turned is = items p.inner p'.inner turned is
+
+-- what each move keeps, a frame that is taken too
+module _ {D : Type 0} (moves : D → Move → D → Type 0) (Q : D → Type 0) (keeps : (d d' : D) (m : Move) → moves d m d' → Q d → Q d') where
+  pub takes : (s s' : State D) (answer : Option Bool) → Takes moves s answer s' → Q s.device → Q s'.device
+  takes s s' None is holds = keeps s.device s'.device (Empty s.host.inner.moment) is.0 holds
+  takes s s' (Some false) is holds = keeps s.device s'.device (Took s.host.inner.moment is.0) is.1 holds
+  takes s s' (Some true) is holds =
+      reads moves Q (λ d d' m none. keeps d d' m) s s' is (keeps s.device is.1 (Took s.host.inner.moment is.0) is.2 holds)

@@ -10,6 +10,7 @@ use Rattle.tcp_tie.specs.Host.{Made}
 use Rattle.lan.proofs.Worlds.AtLink.Extended.{run-append, IsRun-append}
 use Rattle.interface_tables.specs.Inner.{InnerValue}
 use Rattle.lan.proofs.Worlds.Moves.Following.{Reaches}
+use Rattle.lan.proofs.Worlds.Moves.Frames.{all_moved_on}
 use Rattle.lan.proofs.Worlds.Moves.Held.{AreHeld, IsHeld, held-append}
 use Rattle.lan.proofs.Worlds.Moves.Leave.{IsLet, let-append}
 use Rattle.lan.specs.Worlds.Moves.Made.{Grows}
@@ -63,12 +64,23 @@ grows_by p p' segments datagrams s d = record {
 }
 
 module _ (names : List ℕ → Bool) (side : Side) (C G : Type 0) (i0 : InnerValue) (t : ℤ) where
-  pub here : (net : Net) → Reaches names side C G i0 t net net
-  here net = record { steps = []; may = tt; ends = refl; rests = refl; history = refl; grows = grows_not (party net side); held = λ c. tt; went = λ c g. tt }
+  abbrev pub here : (net : Net) → Reaches names side C G [] i0 t net net
+  here net = record {
+    steps = [];
+    may = tt;
+    ends = refl;
+    rests = refl;
+    history = refl;
+    grows = grows_not (party net side);
+    held = λ c. tt;
+    went = λ c g. tt;
+    took = tt;
+  }
 
-  pub goes_on : (net now : Net) (move : Move) → Reaches names side C G i0 t net now → May names now side move → history_after now.history move ≡ now.history
+module _ (names : List ℕ → Bool) (side : Side) (C G : Type 0) (F : List (List ℕ)) (i0 : InnerValue) (t : ℤ) where
+  abbrev pub goes_on : (net now : Net) (move : Move) → Reaches names side C G F i0 t net now → May names now side move → history_after now.history move ≡ now.history
       → Grows (party now side) (party_after (party now side) move) → (C → IsHeld i0 t now side move) → (C → G → IsLet i0 t move) →
-      Reaches names side C G i0 t net (after now (step_of side move))
+      Reaches names side C G F i0 t net (after now (step_of side move))
   goes_on net now move r may same grows held goes = record {
     steps = r.steps ++ step_of side move ∷ [];
     may = IsRun-append names net r.steps (step_of side move ∷ []) r.may (subst (λ n. IsRun names n (step_of side move ∷ [])) (sym r.ends) (may, tt));
@@ -80,27 +92,28 @@ module _ (names : List ℕ → Bool) (side : Side) (C G : Type 0) (i0 : InnerVal
     held = λ c. held-append i0 t side net r.steps (step_of side move ∷ []) (r.held c)
         (subst (λ n. AreHeld i0 t side n (step_of side move ∷ [])) (sym r.ends) ((refl, held c), tt));
     went = λ c g. let-append i0 t r.steps (step_of side move ∷ []) (r.went c g) (goes c g, tt);
+    took = all_moved_on side i0 t net F r.steps (step_of side move ∷ []) r.took;
   }
 
 -- ONE MOVE
 
 -- moves of this host lead on, to a net with these sockets
-pub record Moved (names : List ℕ → Bool) (side : Side) (C G : Type 0) (i0 : InnerValue) (t : ℤ) (net now : Net) (sockets : List (Option Socket)) : Type 0 where
+pub record Moved (names : List ℕ → Bool) (side : Side) (C G : Type 0) (F : List (List ℕ)) (i0 : InnerValue) (t : ℤ) (net now : Net) (sockets : List (Option Socket)) : Type 0 where
   pub next : Net
-  pub reaches : Reaches names side C G i0 t net next
+  pub reaches : Reaches names side C G F i0 t net next
   pub sockets_are : (party next side).sockets ≡ sockets
   pub grows : Grows (party now side) (party next side)
 
-module _ (names : List ℕ → Bool) (side : Side) (C G : Type 0) (i0 : InnerValue) (t : ℤ) (net now : Net) (r : Reaches names side C G i0 t net now) where
-  abbrev pub stays : (sockets : List (Option Socket)) → (party now side).sockets ≡ sockets → Moved names side C G i0 t net now sockets
+module _ (names : List ℕ → Bool) (side : Side) (C G : Type 0) (F : List (List ℕ)) (i0 : InnerValue) (t : ℤ) (net now : Net) (r : Reaches names side C G F i0 t net now) where
+  abbrev pub stays : (sockets : List (Option Socket)) → (party now side).sockets ≡ sockets → Moved names side C G F i0 t net now sockets
   stays sockets same = record { next = now; reaches = r; sockets_are = same; grows = grows_not (party now side) }
 
   abbrev pub moves_by : (move : Move) (sockets : List (Option Socket)) → May names now side move → history_after now.history move ≡ now.history
       → (party_after (party now side) move).sockets ≡ sockets → Grows (party now side) (party_after (party now side) move) →
-      (C → IsHeld i0 t now side move) → (C → G → IsLet i0 t move) → Moved names side C G i0 t net now sockets
+      (C → IsHeld i0 t now side move) → (C → G → IsLet i0 t move) → Moved names side C G F i0 t net now sockets
   moves_by move sockets may same sockets_are grows held goes = record {
     next = after now (step_of side move);
-    reaches = goes_on names side C G i0 t net now move r may same grows held goes;
+    reaches = goes_on names side C G F i0 t net now move r may same grows held goes;
     sockets_are = ap (λ (p : Party). p.sockets) (mine now side move) ∙ sockets_are;
     grows = there now side move (Grows (party now side)) grows;
   }

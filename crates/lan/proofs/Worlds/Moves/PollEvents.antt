@@ -1,5 +1,5 @@
 -- A poll's event, as moves.
-use Rattle.std.proofs.Common.{◌≡◌, ◌+◌, ◌*◌, ◌≤◌, ℕ, [], ◌∷◌, List, refl, sym, ap, ◌∙◌, subst, arith}
+use Rattle.std.proofs.Common.{◌≡◌, ◌+◌, ◌*◌, ◌≤◌, ℕ, [], ◌∷◌, ◌++◌, List, refl, sym, ap, ◌∙◌, subst, arith}
 use Rattle.std.specs.Prelude.{ℤ, IsTrue}
 use Rattle.interface.specs.State.{State}
 use Rattle.lan.specs.Worlds.AtLink.History.{Entry}
@@ -17,13 +17,15 @@ use Rattle.lan.specs.Worlds.Moves.Follows.{IsNetOf, Comes, sockets_of}
 use Rattle.interface_tables.specs.Inner.{InnerValue}
 use Rattle.lan.specs.Worlds.AtLink.Moves as Moves
 use Rattle.lan.proofs.Worlds.Moves.Following.{Follows}
+use Rattle.lan.proofs.Worlds.Moves.Frames.{all_moved_on}
 use Rattle.lan.proofs.Worlds.Moves.Held.{AreHeld, Stays, held-append}
 use Rattle.lan.proofs.Worlds.Moves.Later.{since_itself}
 use Rattle.lan.proofs.Worlds.Moves.Leave.{AreLet, let-append}
-use Rattle.lan.proofs.Worlds.PortMoves.{GivesLeave, giving_ports}
+use Rattle.lan.proofs.Worlds.PortMoves.{GivesLeave, TookOf, giving_ports, taking_ports}
 use Rattle.lan.specs.Worlds.Moves.Fit.{IsFit}
 use Rattle.lan.specs.Worlds.Moves.Link.{IsLink}
 use Rattle.lan.specs.Worlds.Moves.Raws.{OfEach}
+use Rattle.lan.specs.Worlds.Moves.Taken.{AreMoved}
 use Rattle.lan.proofs.Worlds.Moves.Calls.{names}
 use Rattle.lan.proofs.Worlds.Moves.Events.{reached_comes, passed}
 use Rattle.lan.proofs.Worlds.Moves.Nets.{here, either_side, step_of}
@@ -33,14 +35,18 @@ use Rattle.lan.proofs.Worlds.Moves.Polls.{polls_follow}
 abbrev pub AtPorts : (State PortValue → Type 0) → StationValue → Type 0
 AtPorts P s = (port : PortValue) → port.link ≡ s.link → P (at_port port s)
 
--- moves lead to the hosts behind a poll, and what held of the host that was polled, with what it made, holds still
-pub record Polled (i0 : InnerValue) (t : ℤ) (net : Net) (new : Stations) (past : List Entry) (side : Side) (L : State PortValue → Party → Type 0) : Type 0 where
+-- moves lead to the hosts behind a poll, and what held of the host that was polled, with what it made, holds
+-- still. The first of the frames that waited were taken.
+pub record Polled (i0 : InnerValue) (waits : List (List ℕ)) (t : ℤ) (net : Net) (new : Stations) (past : List Entry) (side : Side) (L : State PortValue → Party → Type 0) : Type 0 where
   pub comes : Comes names net new past
   pub port : PortValue
   pub end : port.link ≡ (station new side).link
   pub link : L (at_port port (station new side)) (party comes.next side)
   pub rests : party comes.next (other side) ≡ party net (other side)
   pub held : Stays i0 (station new side).host.inner → AreHeld i0 t side net comes.steps
+  pub frames : List (List ℕ)
+  pub waited : waits ≡ frames ++ (station new side).link.waiting
+  pub took : AreMoved side i0 t net frames comes.steps
   pub went : Stays i0 (station new side).host.inner → IsTrue (has_leave (station new side).link) → AreLet i0 t comes.steps
 
 module _ (net : Net) (old new : Stations) (past : List Entry) (e : Entry) (side : Side) (t : ℤ) (budget n : ℕ) (L : ℕ → State PortValue → Party →
@@ -57,14 +63,18 @@ module _ (net : Net) (old new : Stations) (past : List Entry) (e : Entry) (side 
   abbrev refused : ℕ
   refused = (station old side).link.refusals
 
+  -- what waited before it
+  abbrev waits : List (List ℕ)
+  waits = (station old side).link.waiting
+
   gave : (p : PortValue) → p.link ≡ (station new side).link → (station new side).link.refusals ≡ refused → IsTrue (has_leave (station new side).link) →
       GivesLeave refused p
   gave p end none given = (subst (λ (l : LinkEnd). IsTrue (has_leave l)) (sym end) given, let same = ap (λ (l : LinkEnd). l.refusals) end in omega (arith, same, none))
 
   ended : (p : PortValue) → p.link ≡ (station new side).link → (station new side).link.refusals ≡ refused → station new (other side) ≡ station old (other side)
-      → Follows names side (GivesLeave refused) i0 t (L most) net (at_port p (station new side)) → Polled i0 t net new (e ∷ past) side (L most)
+      → Follows names side (GivesLeave refused) (TookOf waits) i0 t (L most) net (at_port p (station new side)) → Polled i0 waits t net new (e ∷ past) side (L most)
   ended p end none rests f = record {
-    comes = reached_comes (Stays i0 (station new side).host.inner) (GivesLeave refused p) i0 t net f.now new past e side f.reaches of.history (subst IsNoCall (sym is) tt)
+    comes = reached_comes (Stays i0 (station new side).host.inner) (GivesLeave refused p) f.frames i0 t net f.now new past e side f.reaches of.history (subst IsNoCall (sym is) tt)
         (either_side side (λ s. (party f.now s).sockets ≡ sockets_of (station new s).places) f.sockets
         (ap (λ (x : Party). x.sockets) f.reaches.rests ∙ of.sockets (other side) ∙ ap (λ (x : StationValue). sockets_of x.places) (sym rests)));
     port = p;
@@ -72,16 +82,19 @@ module _ (net : Net) (old new : Stations) (past : List Entry) (e : Entry) (side 
     link = subst (L most (at_port p (station new side))) (sym (passed f.now side e side)) f.link;
     rests = passed f.now side e (other side) ∙ f.reaches.rests;
     held = λ c. held-append i0 t side net f.reaches.steps (step_of side (Moves.Passes e) ∷ []) (f.reaches.held c) ((refl, tt), tt);
+    frames = f.frames;
+    waited = f.taken ∙ ap (λ (l : LinkEnd). f.frames ++ l.waiting) end;
+    took = all_moved_on side i0 t net f.frames f.reaches.steps (step_of side (Moves.Passes e) ∷ []) f.reaches.took;
     went = λ c given. let-append i0 t f.reaches.steps (step_of side (Moves.Passes e) ∷ []) (f.reaches.went c (gave p end none given)) (tt, tt);
   }
 
   pub poll_comes : ActsAt old side (Polls t budget) e.answer e.found new → AtPorts (λ s. L n s (party net side)) (station old side) →
-      OfEach IsFit (station old side).places → Polled i0 t net new (e ∷ past) side (L most)
+      OfEach IsFit (station old side).places → Polled i0 waits t net new (e ∷ past) side (L most)
   poll_comes acts holds fit =
       let polls = acts.acts.1 in
-      let start : Follows names side (GivesLeave refused) i0 t (L n) net (at_port polls.port (station old side)) =
-      record { now = net; reaches = here names side (Stays i0 i0) (GivesLeave refused polls.port) i0 t net; sockets = of.sockets side; link = holds polls.port polls.before } in
+      let start : Follows names side (GivesLeave refused) (TookOf waits) i0 t (L n) net (at_port polls.port (station old side)) =
+      record { now = net; frames = []; taken = ap (λ (l : LinkEnd). l.waiting) (sym polls.before); reaches = here names side (Stays i0 i0) (GivesLeave refused polls.port) i0 t net; sockets = of.sockets side; link = holds polls.port polls.before } in
       let none_before : refused ≤ polls.port.link.refusals = (let same = ap (λ (l : LinkEnd). l.refusals) polls.before in omega (arith, same)) in
       ended polls.port_after polls.after polls.none_denied acts.rests
-      (polls_follow PortMove t names side i0 net L link (λ p. refused ≤ p.link.refusals) (GivesLeave refused) (giving_ports refused) budget n (at_port polls.port (station old side)) (at_port polls.port_after (station new side)) acts.acts.0
+      (polls_follow PortMove t names side i0 net L link (λ p. refused ≤ p.link.refusals) (GivesLeave refused) (giving_ports refused) (TookOf waits) (taking_ports waits) budget n (at_port polls.port (station old side)) (at_port polls.port_after (station new side)) acts.acts.0
       fit (since_itself i0) none_before start polls.polls).1

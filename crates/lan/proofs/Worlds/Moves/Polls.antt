@@ -1,5 +1,5 @@
 -- A poll of a host is a run of moves.
-use Rattle.std.proofs.Common.{◌≡◌, ◌≤◌, ◌+◌, ◌*◌, arith, ℕ, Bool, true, false, inl, inr, List, Option, Some, None, IfSome, refl, sym, ap, ◌∙◌, subst}
+use Rattle.std.proofs.Common.{◌≡◌, ◌≤◌, ◌+◌, ◌*◌, arith, ℕ, Bool, true, false, inl, inr, List, [], ◌∷◌, ◌++◌, Option, Some, None, IfSome, refl, sym, ap, ◌∙◌, subst}
 use Rattle.std.specs.Prelude.{ℤ}
 use Rattle.std.proofs.Math.Nat.{mul-le-mul_left}
 use Rattle.lan_base.specs.Device.{Move, Empty, Took}
@@ -27,8 +27,10 @@ use Rattle.lan.specs.Worlds.Moves.Follows.{sockets_of}
 use Rattle.interface.proofs.Runs.{receives_same}
 use Rattle.interface.proofs.SameHost.{place_same}
 use Rattle.interface_tables.specs.Inner.{InnerValue}
+use Rattle.lan.proofs.Worlds.Moves.Devices as Devices
 use Rattle.lan.proofs.Worlds.Moves.Devices.{piece_leaves, place_turns, takes}
-use Rattle.lan.proofs.Worlds.Moves.Following.{Follows, Reaches, narrowed}
+use Rattle.lan.proofs.Worlds.Moves.Following.{Follows, Reaches, narrowed, took_one}
+use Rattle.lan.proofs.Worlds.Moves.Frames.{IsNoTake, IsTaking}
 use Rattle.lan.proofs.Worlds.Moves.Held.{IsAsAt, Stays, stays_before}
 use Rattle.lan.proofs.Worlds.Moves.Later.{IsSince, as_since, brings_later, brought_home, since_arrival, since_begun, since_out, stayed}
 use Rattle.lan.proofs.Worlds.Moves.Leave.{IsGiving}
@@ -45,9 +47,9 @@ use Rattle.lan.proofs.Worlds.Moves.Wide.{CanBeWide, brings_wide}
 
 module _ {D : Type 0} (moves : D → Move → D → Type 0) (t : ℤ) (names : List ℕ → Bool) (side : Side) (i0 : InnerValue) (net : Net) (L : ℕ →
     State D → Party → Type 0) (link : IsLink moves (party net (other side)) L) (Begun Gives : D → Type 0)
-    (giving : IsGiving moves Begun Gives) where
+    (giving : IsGiving moves Begun Gives) (Taken : List (List ℕ) → D → Type 0) (taking : IsTaking moves Taken) where
   abbrev At : ℕ → State D → Type 0
-  At n s = Follows names side Gives i0 t (L n) net s
+  At n s = Follows names side Gives Taken i0 t (L n) net s
 
   -- a device that gives leave gave it at this one
   abbrev GaveAt : D → D → Type 0
@@ -56,13 +58,17 @@ module _ {D : Type 0} (moves : D → Move → D → Type 0) (t : ℤ) (names : L
   gave_back : (before d d' : D) (m : Move) → moves d m d' → GaveAt before d → GaveAt before d'
   gave_back before d d' m moved gave given = gave (giving.had d d' m moved given)
 
+  -- what is no take leaves what was taken
+  rests : (frames : List (List ℕ)) (old new : D) (m : Move) → IsNoTake m → moves old m new → Taken frames old → Taken frames new
+  rests frames old new m none moved taken = taking.rests old new m frames none moved taken
+
   more : (n m : ℕ) (s : State D) → n ≤ m → At n s → At m s
-  more n m s up f = record { now = f.now; reaches = f.reaches; sockets = f.sockets; link = link.more n m s (party f.now side) up f.link }
+  more n m s up f = record { now = f.now; frames = f.frames; taken = f.taken; reaches = f.reaches; sockets = f.sockets; link = link.more n m s (party f.now side) up f.link }
 
   -- MAINTENANCE
 
   maintenance : (n : ℕ) (s : State D) → At n s → At n (begun t s)
-  maintenance n s f = record { now = f.now; reaches = f.reaches; sockets = f.sockets; link = link.maintenance n t s (party f.now side) f.link }
+  maintenance n s f = record { now = f.now; frames = f.frames; taken = f.taken; reaches = f.reaches; sockets = f.sockets; link = link.maintenance n t s (party f.now side) f.link }
 
   -- THE PIECE THAT WAITS
 
@@ -84,8 +90,10 @@ module _ {D : Type 0} (moves : D → Move → D → Type 0) (t : ℤ) (names : L
       x'.inner ≡ x.inner → At n (sending_as h x ps) → At n (sending_as h x' ps)
   pieces n h ps x x' l gone is leaves same f = record {
     now = f.now;
-    reaches = narrowed names side (Stays i0 x.inner) (Stays i0 x'.inner) (Gives x.device) (Gives x'.device) i0 t net f.now (subst (Stays i0) same)
-        (piece_leaves moves (GaveAt x.device) (gave_back x.device) l x x' gone leaves (λ g. g)) f.reaches;
+    frames = f.frames;
+    taken = piece_leaves moves (Taken f.frames) (rests f.frames) l x x' gone leaves f.taken;
+    reaches = narrowed names side (Stays i0 x.inner) (Stays i0 x'.inner) (Gives x.device) (Gives x'.device) f.frames i0 t net f.now (subst (Stays i0) same)
+        (piece_leaves moves (GaveAt x.device) (λ d d' m none. gave_back x.device d d' m) l x x' gone leaves (λ g. g)) f.reaches;
     sockets = f.sockets;
     link = left_link n h ps x x' l gone (party f.now side) is leaves same f.link;
   }
@@ -120,13 +128,13 @@ module _ {D : Type 0} (moves : D → Move → D → Type 0) (t : ℤ) (names : L
       let back : Stays i0 s'.host.inner → Stays i0 a.inner =
       stays_before i0 a.inner s'.host.inner (receives_same moves content (at_device s mid) s' receives).1 in
       let gave = takes moves (GaveAt s.device) (gave_back s.device) s s' (Some true) (frame, mid, took, reads, (content, is, receives)) (λ g. g) in
-      let so_far = narrowed names side (Stays i0 s.host.inner) (Stays i0 s'.host.inner) (Gives s.device) (Gives s'.device) i0 t net f.now
+      let so_far = narrowed names side (Stays i0 s.host.inner) (Stays i0 s'.host.inner) (Gives s.device) (Gives s'.device) f.frames i0 t net f.now
       (λ c. stayed i0 s.host.inner a.inner like.low (brings_later s.host.inner s.places (brought s content) a receives.1.1) (back c)) gave f.reaches in
       let p = party f.now side in
       let g : HostValue = record s.host { slots = s'.host.slots } in
       let x = sender mid a.inner s.host.left in
       let made = link.brings n s p frame mid content took reads is f.link in
-      let end = brings_moves names side (Stays i0 s'.host.inner) (Gives s'.device) i0 t net f.now so_far s.host.inner s.places f.sockets like (brought s content) a
+      let end = brings_moves names side (Stays i0 s'.host.inner) (Gives s'.device) f.frames i0 t net f.now so_far s.host.inner s.places f.sockets like (brought s content) a
       (brought_home s.host.inner s.host.timeout s.host.slots content) (λ c. (back c).1) receives.1.1 made in
       let p' = party end.moved.next side in
       let taken : L n (sending_as g x s.places) p = link.takes n s p frame mid content s'.host.slots a took reads is receives.1 f.link in
@@ -142,28 +150,49 @@ module _ {D : Type 0} (moves : D → Move → D → Type 0) (t : ℤ) (names : L
       λ k. state s'.device (record { inner = s'.host.inner; left = s'.host.left; slots = s'.host.slots; timeout = sym receives.4 k }) s'.places in
       record {
         now = end.moved.next;
-        reaches = end.moved.reaches;
+        frames = f.frames ++ frame ∷ [];
+        taken = Devices.reads moves (Taken (f.frames ++ frame ∷ [])) (rests (f.frames ++ frame ∷ [])) s s' (frame, mid, took, reads, (content, is, receives))
+            (taking.takes s.device mid s.host.inner.moment frame f.frames took f.taken);
+        reaches = took_one names side (Stays i0 s'.host.inner) (Gives s'.device) f.frames i0 t net end.moved.next frame end.moved.reaches (λ read. record {
+          i = s.host.inner;
+          settings = like.settings;
+          moment = like.moment;
+          timeout = s.host.timeout;
+          slots = s.host.slots;
+          content = content;
+          is = is;
+          brings = end.brings;
+        });
         sockets = end.moved.sockets_are ∙ ap (λ (ps : Places). sockets_of ps) (sym receives.2);
         link = subst (λ (u : State D). L (n + 1) u p') there placed;
       }
 
   -- a move of the device alone
-  looked : (s s' : State D) (m : Move) → moves s.device m s'.device → (now : Net) →
-      Reaches names side (Stays i0 s.host.inner) (Gives s.device) i0 t net now → Reaches names side (Stays i0 s.host.inner) (Gives s'.device) i0 t net now
-  looked s s' m moved now r =
-      narrowed names side (Stays i0 s.host.inner) (Stays i0 s.host.inner) (Gives s.device) (Gives s'.device) i0 t net now (λ c. c)
+  looked : (frames : List (List ℕ)) (s s' : State D) (m : Move) → moves s.device m s'.device → (now : Net) →
+      Reaches names side (Stays i0 s.host.inner) (Gives s.device) frames i0 t net now →
+      Reaches names side (Stays i0 s.host.inner) (Gives s'.device) frames i0 t net now
+  looked frames s s' m moved now r =
+      narrowed names side (Stays i0 s.host.inner) (Stays i0 s.host.inner) (Gives s.device) (Gives s'.device) frames i0 t net now (λ c. c)
       (giving.had s.device s'.device m moved) r
+
+  unread : (frame : List ℕ) (P : Type 0) → is_read frame ≡ false → is_read frame ≡ true → P
+  unread frame P none some = let both : true ≡ false = sym some ∙ none in absurd (cc)
 
   arrivals : (n : ℕ) (s s' : State D) (answer : Option Bool) → IsAsAt i0 t s.host.inner → At n s → Takes moves s answer s' → At (n + 1) s'
   arrivals n s s' None like f took = more n (n + 1) s' (omega arith) (subst (At n) (sym took.1) (record {
     now = f.now;
-    reaches = looked s s' (Empty s.host.inner.moment) took.0 f.now f.reaches;
+    frames = f.frames;
+    taken = rests f.frames s.device s'.device (Empty s.host.inner.moment) tt took.0 f.taken;
+    reaches = looked f.frames s s' (Empty s.host.inner.moment) took.0 f.now f.reaches;
     sockets = f.sockets;
     link = link.looks n s (party f.now side) s'.device took.0 f.link;
   }))
   arrivals n s s' (Some false) like f took = more n (n + 1) s' (omega arith) (subst (At n) (sym took.3) (record {
     now = f.now;
-    reaches = looked s s' (Took s.host.inner.moment took.0) took.1 f.now f.reaches;
+    frames = f.frames ++ took.0 ∷ [];
+    taken = taking.takes s.device s'.device s.host.inner.moment took.0 f.frames took.1 f.taken;
+    reaches = took_one names side (Stays i0 s.host.inner) (Gives s'.device) f.frames i0 t net f.now took.0
+        (looked f.frames s s' (Took s.host.inner.moment took.0) took.1 f.now f.reaches) (unread took.0 _ took.2);
     sockets = f.sockets;
     link = link.skips n s (party f.now side) took.0 s'.device took.1 took.2 f.link;
   }))
@@ -211,7 +240,7 @@ module _ {D : Type 0} (moves : D → Move → D → Type 0) (t : ℤ) (names : L
       (
         subst (IsSince i0) (sym same) both.1.0,
         (
-          piece_leaves moves Begun giving.since l x x' gone leaves both.1.1.0,
+          piece_leaves moves Begun (λ d d' m none. giving.since d d' m) l x x' gone leaves both.1.1.0,
           more n (n + 0) (sending_as h x' ps) (omega arith) (pieces n h ps x x' l gone is leaves same both.1.1.1),
         ),
       ),
@@ -221,8 +250,8 @@ module _ {D : Type 0} (moves : D → Move → D → Type 0) (t : ℤ) (names : L
       (
         since_out i0 x.inner x'.inner (place_same moves turn x x' p p' turned took) both.1.0,
         (
-          place_turns moves Begun giving.since turn x x' both.1.1.0 p p' turned took,
-          turn_follows moves turn names side i0 t net (party net (other side)) L link Begun Gives giving n h before after p p' x x' turned took both.1.1.0
+          place_turns moves Begun (λ d d' m none. giving.since d d' m) turn x x' both.1.1.0 p p' turned took,
+          turn_follows moves turn names side i0 t net (party net (other side)) L link Begun Gives giving Taken taking n h before after p p' x x' turned took both.1.1.0
               (as_since i0 x.inner t runs.0 both.1.0) (middle IsFit before after p both.0) both.1.1.1,
         ),
       ),
@@ -231,9 +260,9 @@ module _ {D : Type 0} (moves : D → Move → D → Type 0) (t : ℤ) (names : L
 
   -- What holds before a poll holds behind it, where moves of this host have led to its sockets. It counted no more packets than one for
   -- each frame that it took and each socket's turn.
-  pub polls_follow : (budget n : ℕ) (s s' : State D) (changed : Bool) → OfEach IsFit s.places → Since s → Begun s.device → Follows names side Gives i0 t (L n) net s →
+  pub polls_follow : (budget n : ℕ) (s s' : State D) (changed : Bool) → OfEach IsFit s.places → Since s → Begun s.device → Follows names side Gives Taken i0 t (L n) net s →
       Polls moves t budget s changed s'
-      → OfEach IsFit s'.places × Follows names side Gives i0 t (L (n + budget * (1 + sockets_in s.places))) net s'
+      → OfEach IsFit s'.places × Follows names side Gives Taken i0 t (L (n + budget * (1 + sockets_in s.places))) net s'
   polls_follow budget n s s' changed fit since begins f polls =
       let both = (polls_cost moves t 0 Both all_priced budget n s s' changed (fit, (since, (begins, f))) polls).0 in
       let most : budget * (1 + (0 + sockets_in s.places)) ≤ budget * (1 + sockets_in s.places) = mul-le-mul_left budget (omega arith) in

@@ -1,5 +1,5 @@
 -- A frame that is taken makes at most one move.
-use Rattle.std.proofs.Common.{◌≡◌, ℕ, ℤ, ◌≤ℤ◌, Bool, not, ◌&&◌, length, true, false, if◌then◌else◌, List, Option, Some, None, IfSome, refl, sym, ap, ◌∙◌, subst}
+use Rattle.std.proofs.Common.{◌≡◌, ℕ, ℤ, ◌≤ℤ◌, Bool, not, ◌&&◌, length, true, false, if◌then◌else◌, List, [], ◌∷◌, ◌++◌, append-nil, Option, Some, None, IfSome, refl, sym, ap, ◌∙◌, subst}
 use Rattle.std.specs.Prelude.{◌||◌, is_some}
 use Rattle.lan_base.specs.ChecksumCapabilities.{ChecksumCapabilities}
 use Rattle.interface_ingress.specs.IpAddress.{IpAddress}
@@ -33,23 +33,28 @@ use Rattle.interface_ingress.specs.Incoming.{IncomingValue, Arp, Ip4, Ip6}
 use Rattle.interface_ingress.specs.Upper.{IsBrought}
 use Rattle.lan.specs.Worlds.AtLink.Side.{Side}
 use Rattle.lan.specs.Worlds.AtLink.Kinds.{other}
+use Rattle.lan.specs.Worlds.AtLink.Moves as Moves
+use Rattle.lan.specs.Worlds.AtLink.Moves.{Step}
 use Rattle.lan.specs.Worlds.AtLink.Parties.{Party, Net, party, WasMade}
 use Rattle.lan.specs.Worlds.Moves.Follows.{sockets_of}
 use Rattle.lan.proofs.Worlds.Moves.Following.{Reaches}
 use Rattle.lan.proofs.Worlds.Moves.Held.{IsAsAt, IsBetweenHosts, nobodies, seen_at, shows, strays}
 use Rattle.lan.proofs.Worlds.Moves.Later.{IsHome, past_it, segment_errors}
 use Rattle.lan.specs.Worlds.Moves.Made.{IsMade, HandsMade, BringsMade, datagram_of}
+use Rattle.lan.specs.Worlds.Moves.Taken.{BringsIn, ComesNext, HandsIn, IfSegment}
 use Rattle.lan.proofs.Worlds.Moves.MadeReplies.{IsMadeReply}
 use Rattle.lan.proofs.Worlds.Moves.Arrivals.{Answered, packet_delivered_same, icmpv4_delivered_same, icmpv6_delivered_same, nothing, datagram_given}
 use Rattle.lan.proofs.Worlds.Moves.Arrivals.{reset, segment_taken}
-use Rattle.lan.proofs.Worlds.Moves.Nets.{Moved, stays}
+use Rattle.lan.proofs.Worlds.Moves.Nets.{Moved, stays, step_of}
 use Rattle.lan.proofs.Worlds.Moves.Places.{Places}
 use Rattle.lan.proofs.Worlds.Moves.Replies.{control_v4_made, control_v6_made, port_error_made, unread_made, answered_made, told_made}
 
--- moves lead to these sockets, and what answers was made
-pub record Ended (names : List ℕ → Bool) (side : Side) (C G : Type 0) (i0 : InnerValue) (t : ℤ) (net now : Net) (places : Places) (reply : Option ReplyValue) : Type 0 where
-  pub moved : Moved names side C G i0 t net now (sockets_of places)
+-- moves lead to these sockets, what answers was made, and the moves bring what K says
+pub record Ended (names : List ℕ → Bool) (side : Side) (C G : Type 0) (F : List (List ℕ)) (i0 : InnerValue) (t : ℤ) (net now : Net) (places : Places) (reply : Option ReplyValue)
+    (K : List Step → Type 0) : Type 0 where
+  pub moved : Moved names side C G F i0 t net now (sockets_of places)
   pub made : IfSome reply (IsMadeReply (party moved.next side))
+  pub brings : K moved.reaches.steps
 
 abbrev if_goes : Bool → Option PacketValue → Option PacketValue
 if_goes goes None = None
@@ -66,16 +71,21 @@ counted_later : (i0 i after now : InnerValue) → i0.errors_until ≤ℤ i.error
 counted_later i0 i after now low same is still = past_it i0.errors_until i.errors_until after.moment low
     (ap (λ (u : ℤ). answered_at u after.moment) (sym same) ∙ ap (λ (x : InnerValue). x.errors_until) (sym is) ∙ still)
 
-module _ (names : List ℕ → Bool) (side : Side) (C G : Type 0) (i0 : InnerValue) (t : ℤ) (net now : Net) (r : Reaches names side C G i0 t net now) where
+module _ (names : List ℕ → Bool) (side : Side) (C G : Type 0) (F : List (List ℕ)) (i0 : InnerValue) (t : ℤ) (net now : Net) (r : Reaches names side C G F i0 t net now) where
   -- A PAYLOAD
 
   module _ (i : InnerValue) (places : Places) (ip : IpRepr) (payload : List ℕ) (taken : Bool) (has : (party now side).sockets ≡ sockets_of places)
       (like : IsAsAt i0 t i) (here : is_astray i0 (source_of ip) (destination_of ip) ≡ false) where
     abbrev Ends : Places → Option PacketValue → Type 0
-    Ends qs reply = Answered names side C G i0 t net now (sockets_of qs) reply
+    Ends qs reply = Answered names side C G F i0 t net now (sockets_of qs) reply
+
+    -- and a segment that is carried comes to the socket that accepts it
+    pub record Handed (carried : Option PayloadValue) (qs : Places) (reply : Option PacketValue) : Type 0 where
+      pub ends : Ends qs reply
+      pub comes : IfSegment side i0 t net ip carried ends.moved.reaches.steps
 
     same_with : (qs : Places) (reply : Option PacketValue) → sockets_of qs ≡ sockets_of places → ((p : Party) → IfSome reply (IsMade p)) → Ends qs reply
-    same_with qs reply same free = record { moved = stays names side C G i0 t net now r (sockets_of qs) (has ∙ sym same); made = free (party now side) }
+    same_with qs reply same free = record { moved = stays names side C G F i0 t net now r (sockets_of qs) (has ∙ sym same); made = free (party now side) }
 
     control_v4 : (ip : IpRepr) (message : Icmpv4Header) (bytes : List ℕ) → sockets_of (control_v4_places ip message bytes places) ≡ sockets_of places
     control_v4 (Ip.Ipv4 header) message bytes = icmpv4_delivered_same header message bytes places
@@ -106,20 +116,62 @@ module _ (names : List ℕ → Bool) (side : Side) (C G : Type 0) (i0 : InnerVal
 
       reset_if : (quiet goes : Bool) → names_nobody i ip ≡ false → (quiet ≡ false → goes ≡ true → C → ⊥)
           → Ends places (let r : Option PacketValue = if_goes goes (if quiet then None else packet_by (Some (rst_reply ip header (length bytes)))) in r)
-      reset_if true goes somebody none = nothing names side C G i0 t net now r places has
+      reset_if true goes somebody none = nothing names side C G F i0 t net now r places has
       reset_if false true somebody none =
-          reset names side C G i0 t net now r places has cx ip header bytes made (shows i0 i t like) (between somebody) (none refl refl)
-      reset_if false false somebody none = nothing names side C G i0 t net now r places has
+          reset names side C G F i0 t net now r places has cx ip header bytes made (shows i0 i t like) (between somebody) (none refl refl)
+      reset_if false false somebody none = nothing names side C G F i0 t net now r places has
+
+      abbrev Came : Places → Option PacketValue → Type 0
+      Came qs reply = Handed (Some (Segment header bytes)) qs reply
+
+      -- no socket accepts it
+      unheard : (reply : Option PacketValue) → Ends places reply → ((at : ℕ) → names_nobody i0 ip ≡ false → segment_place ip header places ≡ Some at → ⊥) →
+          Came places reply
+      unheard reply end none = record {
+        ends = end;
+        comes = record {
+          before = end.moved.reaches.steps;
+          behind = [];
+          are = sym (append-nil end.moved.reaches.steps);
+          places = places;
+          sockets = ap (λ (n : Net). (party n side).sockets) end.moved.reaches.ends ∙ end.moved.sockets_are;
+          comes = λ at named there. absurd (none at named there);
+        };
+      }
+
+      -- the one that accepts it takes it
+      heard : (at : ℕ) → names_nobody i ip ≡ false → segment_place ip header places ≡ Some at →
+          Came (changed_at (with_segment cx ip header bytes) (Some at) places) (segment_answer_at (Some at) cx ip header bytes taken places)
+      heard at named there =
+          let came = segment_taken names side C G F i0 t net now r places has cx ip header bytes made (shows i0 i t like) (between named) taken at there in
+          record {
+            ends = came.ends;
+            comes = record {
+              before = r.steps;
+              behind = step_of side (Moves.Takes at cx came.v ip header bytes) ∷ [];
+              are = came.are;
+              places = places;
+              sockets = ap (λ (n : Net). (party n side).sockets) r.ends ∙ has;
+              comes = λ other named' there'. (
+                let same : Some at ≡ Some other = sym there ∙ there' in
+                let one : at ≡ other = cc in
+                subst (λ (n : ℕ). ComesNext side i0 t net n ip header bytes (step_of side (Moves.Takes at cx came.v ip header bytes) ∷ [])) one
+                (record { cx = cx; v = came.v; more = []; are = refl; moment = like.moment })
+              );
+            };
+          }
 
       segment_by : (nobody : Bool) (o : Option ℕ) → names_nobody i ip ≡ nobody → segment_place ip header places ≡ o → (Goes → C → ⊥)
-          → Ends (if nobody then places else changed_at (with_segment cx ip header bytes) o places)
+          → Came (if nobody then places else changed_at (with_segment cx ip header bytes) o places)
           (let_go (not nobody && not (is_some o)) i (if nobody then None else segment_answer_at o cx ip header bytes taken places))
-      segment_by true o named there none = nothing names side C G i0 t net now r places has
-      segment_by false (Some at) named there none =
-          segment_taken names side C G i0 t net now r places has cx ip header bytes made (shows i0 i t like) (between named) taken at there
+      segment_by true o named there none =
+          unheard None (nothing names side C G F i0 t net now r places has)
+          (λ at somebody there'. (let both : true ≡ false = sym named ∙ nobodies i0 i (seen_at i0 i t like) ip ∙ somebody in absurd (cc)))
+      segment_by false (Some at) named there none = heard at named there
       segment_by false None named there none =
-          subst (λ (x : Option PacketValue). Ends places x) (goes_is i (taken || is_rst header.control) (packet_in (rst_reply ip header (length bytes))))
-          (reset_if (taken || is_rst header.control) (may_tell i) named (λ quiet may c. none (named, there, quiet, may) c))
+          subst (λ (x : Option PacketValue). Came places x) (goes_is i (taken || is_rst header.control) (packet_in (rst_reply ip header (length bytes))))
+          (unheard _ (reset_if (taken || is_rst header.control) (may_tell i) named (λ quiet may c. none (named, there, quiet, may) c))
+          (λ at somebody there'. (let both : None ≡ Some at = sym there ∙ there' in absurd (cc))))
 
     -- none goes, or it is counted
     module _ (header : TcpHeader) (bytes : List ℕ) (a : Arrived) (c : C → a.inner.errors_until ≡ i0.errors_until)
@@ -144,50 +196,62 @@ module _ (names : List ℕ → Bool) (side : Side) (C G : Type 0) (i0 : InnerVal
           let counts : a.inner ≡ with_error after_it = inner ∙ let_go_counted unclaimed i reply after_it _ is goes in
           counted_later i0 i after_it a.inner like.low (segment_errors i places ip header bytes) counts (c holds)
 
+    unsegmented : (carried : Option PayloadValue) (qs : Places) → ((steps : List Step) → IfSegment side i0 t net ip carried steps) →
+        Ends qs (handed_reply i places ip payload taken carried) → Handed carried qs (limited_reply i places ip payload taken carried)
+    unsegmented carried qs none end = record { ends = limited_of carried qs end; comes = none (limited_of carried qs end).moved.reaches.steps }
+
     handed : (carried : Option PayloadValue) → IsBrought i.checksums ip payload carried → HandsMade (party net (other side)) i.checksums ip payload
         → (a : Arrived) → (C → a.inner.errors_until ≡ i0.errors_until) → a.inner ≡ limited_host i places ip payload taken carried
-        → HandsTo i places ip carried a.places → Ends a.places (limited_reply i places ip payload taken carried)
-    handed None is made a c inner to = limited_of None a.places (same_with a.places _ (ap (λ (ps : Places). sockets_of ps) to)
+        → HandsTo i places ip carried a.places → Handed carried a.places (limited_reply i places ip payload taken carried)
+    handed None is made a c inner to = unsegmented None a.places (λ steps. tt) (same_with a.places _ (ap (λ (ps : Places). sockets_of ps) to)
         (λ p. unread_made p i ip payload taken))
     handed (Some (ControlV4 message bytes)) is made a c inner to =
-        limited_of (Some (ControlV4 message bytes)) a.places
+        unsegmented (Some (ControlV4 message bytes)) a.places (λ steps. tt)
         (same_with a.places _ (ap (λ (ps : Places). sockets_of ps) to ∙ control_v4 ip message bytes) (λ p. control_v4_made p i ip message bytes))
     handed (Some (ControlV6 message bytes)) is made a c inner to =
-        limited_of (Some (ControlV6 message bytes)) a.places
+        unsegmented (Some (ControlV6 message bytes)) a.places (λ steps. tt)
         (same_with a.places _ (ap (λ (ps : Places). sockets_of ps) to ∙ control_v6 ip message bytes) (λ p. control_v6_made p i ip message bytes))
     handed (Some (Bytes bytes)) is made a c inner to =
-        limited_of (Some (Bytes bytes)) a.places (subst (λ (ps : Places). Ends ps None) (sym to) (nothing names side C G i0 t net now r places has))
+        unsegmented (Some (Bytes bytes)) a.places (λ steps. tt) (subst (λ (ps : Places). Ends ps None) (sym to) (nothing names side C G F i0 t net now r places has))
     handed (Some (Datagram udp bytes)) is made a c inner to =
         let was : WasMade (party now (other side)) (datagram_of udp bytes) =
         subst (λ (p : Party). WasMade p (datagram_of udp bytes)) (sym r.rests) (made.datagrams udp bytes is) in
-        let moved = datagram_given names side C G i0 t net now r places has (context_of i) ip udp bytes was a.places to in
-        limited_of (Some (Datagram udp bytes)) a.places (record {
+        let moved = datagram_given names side C G F i0 t net now r places has (context_of i) ip udp bytes was a.places to in
+        unsegmented (Some (Datagram udp bytes)) a.places (λ steps. tt) (record {
           moved = moved;
           made = port_error_made (party moved.next side) (is_some (datagram_place (context_of i) ip udp places) || taken) i ip payload;
         })
     handed (Some (Segment header bytes)) is made a c inner to =
         let was : MayCome (party now (other side)).segments (source_of ip) (destination_of ip) header bytes =
         subst (λ (p : Party). MayCome p.segments (source_of ip) (destination_of ip) header bytes) (sym r.rests) (made.segments header bytes is) in
-        subst (λ (ps : Places). Ends ps (limited_reply i places ip payload taken (Some (Segment header bytes)))) (sym to)
+        subst (λ (ps : Places). Handed (Some (Segment header bytes)) ps (limited_reply i places ip payload taken (Some (Segment header bytes)))) (sym to)
         (segment_by header bytes was (names_nobody i ip) (segment_place ip header places) refl refl (no_reset header bytes a c inner))
 
+    abbrev ItHands : List Step → Type 0
+    ItHands steps = HandsIn side i0 t net ip payload steps
+
     hands : (caps : ChecksumCapabilities) (a : Arrived) → i.checksums ≡ caps → (C → a.inner.errors_until ≡ i0.errors_until) → Hands i places ip payload taken a →
-        HandsMade (party net (other side)) caps ip payload → Ended names side C G i0 t net now a.places a.reply
+        HandsMade (party net (other side)) caps ip payload → Ended names side C G F i0 t net now a.places a.reply ItHands
     hands caps a same c (carried, is, so) made =
         let end = handed carried is (subst (λ (c : ChecksumCapabilities). HandsMade (party net (other side)) c ip payload) (sym same) made) a c so.inner
         so.places_are in
-        let given : Ended names side C G i0 t net now a.places (answered (limited_reply i places ip payload taken carried)) =
-        record { moved = end.moved; made = answered_made (party end.moved.next side) (limited_reply i places ip payload taken carried) end.made } in
-        subst (λ (o : Option ReplyValue). Ended names side C G i0 t net now a.places o) (sym so.reply) given
+        let given : Ended names side C G F i0 t net now a.places (answered (limited_reply i places ip payload taken carried)) ItHands =
+        record {
+          moved = end.ends.moved;
+          made = answered_made (party end.ends.moved.next side) (limited_reply i places ip payload taken carried) end.ends.made;
+          brings = (carried, subst (λ (c : ChecksumCapabilities). IsBrought c ip payload carried) like.settings.checksums is, end.comes);
+        } in
+        subst (λ (o : Option ReplyValue). Ended names side C G F i0 t net now a.places o ItHands) (sym so.reply) given
 
   -- A CONTENT
 
-  silent : (i : InnerValue) (places qs : Places) (a : Arrived) → (party now side).sockets ≡ sockets_of places → sockets_of qs ≡ sockets_of places →
-      IsSilent i qs a → Ended names side C G i0 t net now a.places a.reply
-  silent i places qs a has same is =
-      let quiet : Ended names side C G i0 t net now qs None = record { moved = stays names side C G i0 t net now r (sockets_of qs) (has ∙ sym same); made = tt } in
-      subst (λ (ps : Places). Ended names side C G i0 t net now ps a.reply) (sym is.places_are)
-      (subst (λ (o : Option ReplyValue). Ended names side C G i0 t net now qs o) (sym is.reply) quiet)
+  silent : (i : InnerValue) (places qs : Places) (a : Arrived) (K : List Step → Type 0) → ((steps : List Step) → K steps) →
+      (party now side).sockets ≡ sockets_of places → sockets_of qs ≡ sockets_of places → IsSilent i qs a → Ended names side C G F i0 t net now a.places a.reply K
+  silent i places qs a K brings has same is =
+      let quiet : Ended names side C G F i0 t net now qs None K =
+      record { moved = stays names side C G F i0 t net now r (sockets_of qs) (has ∙ sym same); made = tt; brings = brings r.steps } in
+      subst (λ (ps : Places). Ended names side C G F i0 t net now ps a.reply K) (sym is.places_are)
+      (subst (λ (o : Option ReplyValue). Ended names side C G F i0 t net now qs o K) (sym is.reply) quiet)
 
   by_renewal : (i : InnerValue) (link : Option EthernetRepr) (sender : IpAddress) → IsAsAt i0 t i → IsAsAt i0 t (renewed_by i link sender)
   by_renewal i None sender like = like
@@ -214,36 +278,49 @@ module _ (names : List ℕ → Bool) (side : Side) (C G : Type 0) (i0 : InnerVal
   renewed_as i link ip like = renewal_if (is_direct i ip) i link (sender_of ip) like
 
   module _ (i : InnerValue) (places : Places) (has : (party now side).sockets ≡ sockets_of places) (like : IsAsAt i0 t i) where
+    -- what a packet brings, if it is for this host
+    abbrev IfOurs : IpRepr → List ℕ → List Step → Type 0
+    IfOurs ip payload steps = is_for_us i (destination_of ip) ≡ true → HandsIn side i0 t net ip payload steps
+
     here : (link : Option EthernetRepr) (ip : IpRepr) (payload : List ℕ) (a : Arrived) → is_astray i (source_of ip) (destination_of ip) ≡ false →
         (C → a.inner.errors_until ≡ i0.errors_until) → Hands (renewed i link ip) (packet_delivered ip payload places) ip payload (is_taken_raw ip places) a
-        → HandsMade (party net (other side)) i.checksums ip payload → Ended names side C G i0 t net now a.places a.reply
+        → HandsMade (party net (other side)) i.checksums ip payload → Ended names side C G F i0 t net now a.places a.reply (IfOurs ip payload)
     here link ip payload a home c is made =
         let later = renewed_as i link ip like in
-        hands (renewed i link ip) (packet_delivered ip payload places) ip payload (is_taken_raw ip places) (has ∙
+        let end = hands (renewed i link ip) (packet_delivered ip payload places) ip payload (is_taken_raw ip places) (has ∙
         sym (packet_delivered_same ip payload places)) later (sym (strays i0 i (seen_at i0 i t like) (source_of ip) (destination_of ip)) ∙ home) i.checksums a
-        (later.settings.checksums ∙ sym like.settings.checksums) c is made
+        (later.settings.checksums ∙ sym like.settings.checksums) c is made in
+        record { moved = end.moved; made = end.made; brings = λ ours. end.brings }
 
-    v4 : (ours : Bool) (link : Option EthernetRepr) (ip : IpRepr) (payload : List ℕ) (a : Arrived) → is_astray i (source_of ip) (destination_of ip) ≡ false →
-        (C → a.inner.errors_until ≡ i0.errors_until) → ArrivesV4 ours i places link ip payload a →
-        HandsMade (party net (other side)) i.checksums ip payload → Ended names side C G i0 t net now a.places a.reply
-    v4 true link ip payload a home c is made = here link ip payload a home c is made
-    v4 false link ip payload a home c is made = silent i places (packet_delivered ip payload places) a has (packet_delivered_same ip payload places) is
+    theirs : (ours : Bool) (ip : IpRepr) (payload : List ℕ) → is_for_us i (destination_of ip) ≡ ours → ours ≡ false → (steps : List Step) → IfOurs ip payload steps
+    theirs ours ip payload is none steps = λ so. (let both : true ≡ false = sym so ∙ is ∙ none in absurd (cc))
 
-    v6 : (ours : Bool) (link : Option EthernetRepr) (ip : IpRepr) (payload : List ℕ) (a : Arrived) → is_astray i (source_of ip) (destination_of ip) ≡ false →
-        (C → a.inner.errors_until ≡ i0.errors_until) → ArrivesV6 ours i places link ip payload a →
-        HandsMade (party net (other side)) i.checksums ip payload → Ended names side C G i0 t net now a.places a.reply
-    v6 true link ip payload a home c is made = here link ip payload a home c is made
-    v6 false link ip payload a home c is made = silent i places places a has refl is
+    v4 : (ours : Bool) (link : Option EthernetRepr) (ip : IpRepr) (payload : List ℕ) (a : Arrived) → is_for_us i (destination_of ip) ≡ ours →
+        is_astray i (source_of ip) (destination_of ip) ≡ false → (C → a.inner.errors_until ≡ i0.errors_until) → ArrivesV4 ours i places link ip payload a →
+        HandsMade (party net (other side)) i.checksums ip payload → Ended names side C G F i0 t net now a.places a.reply (IfOurs ip payload)
+    v4 true link ip payload a so home c is made = here link ip payload a home c is made
+    v4 false link ip payload a so home c is made =
+        silent i places (packet_delivered ip payload places) a (IfOurs ip payload) (theirs false ip payload so refl) has (packet_delivered_same ip payload places) is
+
+    v6 : (ours : Bool) (link : Option EthernetRepr) (ip : IpRepr) (payload : List ℕ) (a : Arrived) → is_for_us i (destination_of ip) ≡ ours →
+        is_astray i (source_of ip) (destination_of ip) ≡ false → (C → a.inner.errors_until ≡ i0.errors_until) → ArrivesV6 ours i places link ip payload a →
+        HandsMade (party net (other side)) i.checksums ip payload → Ended names side C G F i0 t net now a.places a.reply (IfOurs ip payload)
+    v6 true link ip payload a so home c is made = here link ip payload a home c is made
+    v6 false link ip payload a so home c is made = silent i places places a (IfOurs ip payload) (theirs false ip payload so refl) has refl is
 
     pub brings_moves : (content : Option IncomingValue) (a : Arrived) → IsHome i content → (C → a.inner.errors_until ≡ i0.errors_until) →
-        Brings i places content a → BringsMade (party net (other side)) i.checksums content → Ended names side C G i0 t net now a.places a.reply
-    brings_moves None a home c is made = silent i places places a has refl is
+        Brings i places content a → BringsMade (party net (other side)) i.checksums content →
+        Ended names side C G F i0 t net now a.places a.reply (BringsIn side i0 t net i content)
+    brings_moves None a home c is made = silent i places places a (λ steps. Unit {0}) (λ steps. tt) has refl is
     brings_moves (Some (Arp link packet)) a home c is made =
-        let told : Ended names side C G i0 t net now places (Replies.told (arp_answer i packet)) =
-        record { moved = stays names side C G i0 t net now r (sockets_of places) has; made = told_made (party now side) (arp_answer i packet) } in
-        subst (λ (ps : Places). Ended names side C G i0 t net now ps a.reply) (sym is.places_are)
-        (subst (λ (o : Option ReplyValue). Ended names side C G i0 t net now places o) (sym is.reply) told)
+        let told : Ended names side C G F i0 t net now places (Replies.told (arp_answer i packet)) (λ steps. Unit {0}) = record {
+          moved = stays names side C G F i0 t net now r (sockets_of places) has;
+          made = told_made (party now side) (arp_answer i packet);
+          brings = tt;
+        } in
+        subst (λ (ps : Places). Ended names side C G F i0 t net now ps a.reply (λ steps. Unit {0})) (sym is.places_are)
+        (subst (λ (o : Option ReplyValue). Ended names side C G F i0 t net now places o (λ steps. Unit {0})) (sym is.reply) told)
     brings_moves (Some (Ip4 link header piece payload)) a home c is made =
-        v4 (is_for_us i (Address.Ipv4 header.dst_addr)) link (Ip.Ipv4 header) payload a home c is made
+        v4 (is_for_us i (Address.Ipv4 header.dst_addr)) link (Ip.Ipv4 header) payload a refl home c is made
     brings_moves (Some (Ip6 link header payload)) a home c is made =
-        v6 (is_for_us i (Address.Ipv6 header.dst_addr)) link (Ip.Ipv6 header) payload a home c is made
+        v6 (is_for_us i (Address.Ipv6 header.dst_addr)) link (Ip.Ipv6 header) payload a refl home c is made

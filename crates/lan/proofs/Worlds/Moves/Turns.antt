@@ -55,6 +55,7 @@ use Rattle.interface.specs.SameHost.{IsSameHost}
 use Rattle.interface_tables.specs.Inner.{InnerValue}
 use Rattle.lan.proofs.Worlds.Moves.Devices.{leaves as device_leaves}
 use Rattle.lan.proofs.Worlds.Moves.Following.{Reaches, Follows, narrowed}
+use Rattle.lan.proofs.Worlds.Moves.Frames.{IsTaking}
 use Rattle.lan.proofs.Worlds.Moves.Held.{IsAsAt, IsShownAt, Stays, seen_at, shows_towards, source_by, sources, stays_before}
 use Rattle.lan.proofs.Worlds.Moves.Leave.{IsGiving, IsHindered, IsHindrance, leaves_so, leaving_by}
 use Rattle.lan.specs.Worlds.Moves.Fit.{IsFit}
@@ -79,17 +80,17 @@ CanBeWide x = IsWellFormed x → IsWide x
 
 -- moves lead to these sockets, and a packet that is done with was made, as it leaves from this address
 pub record Gives (names : List ℕ →
-    Bool) (side : Side) (C G : Type 0) (i0 : InnerValue) (t : ℤ) (net now : Net) (sockets : List (Option Parties.Socket)) (from : IpAddress) (sent : Bool) (packet : Option PacketValue) : Type 0 where
-  pub moved : Moved names side C G i0 t net now sockets
+    Bool) (side : Side) (C G : Type 0) (F : List (List ℕ)) (i0 : InnerValue) (t : ℤ) (net now : Net) (sockets : List (Option Parties.Socket)) (from : IpAddress) (sent : Bool) (packet : Option PacketValue) : Type 0 where
+  pub moved : Moved names side C G F i0 t net now sockets
   pub made : sent ≡ true → IfSome packet (IsMadeFrom (party moved.next side) from)
 
-module _ (names : List ℕ → Bool) (side : Side) (C G : Type 0) (i0 : InnerValue) (t : ℤ) (net now : Net) (r : Reaches names side C G i0 t net now) (before after : Places) (from : IpAddress) where
+module _ (names : List ℕ → Bool) (side : Side) (C G : Type 0) (F : List (List ℕ)) (i0 : InnerValue) (t : ℤ) (net now : Net) (r : Reaches names side C G F i0 t net now) (before after : Places) (from : IpAddress) where
   -- the party has the sockets of the places, of which one holds this socket
   abbrev Has : Meta → Socket → Type 0
   Has m s = (party now side).sockets ≡ sockets_of (before ++ holding m s ∷ after)
 
   abbrev To : Meta → Socket → Bool → Option PacketValue → Type 0
-  To m s sent packet = Gives names side C G i0 t net now (sockets_of (before ++ holding m s ∷ after)) from sent packet
+  To m s sent packet = Gives names side C G F i0 t net now (sockets_of (before ++ holding m s ∷ after)) from sent packet
 
   found : (m : Meta) (s : Socket) → Has m s → Parties.socket_at (party now side) (length before) ≡ seen s
   found m s has =
@@ -101,9 +102,9 @@ module _ (names : List ℕ → Bool) (side : Side) (C G : Type 0) (i0 : InnerVal
       ap (λ (xs : List (Option Parties.Socket)). slice_set xs (length before) (seen s')) has ∙
       set-middle seen_place before (holding m s) (holding m' s') after
 
-  abbrev looks_same : (m m' : Meta) (s s' : Socket) → seen s' ≡ seen s → Has m s → Moved names side C G i0 t net now (sockets_of (before ++ holding m' s' ∷ after))
+  abbrev looks_same : (m m' : Meta) (s s' : Socket) → seen s' ≡ seen s → Has m s → Moved names side C G F i0 t net now (sockets_of (before ++ holding m' s' ∷ after))
   looks_same m m' s s' same has =
-      stays names side C G i0 t net now r (sockets_of (before ++ holding m' s' ∷ after)) (has ∙
+      stays names side C G F i0 t net now r (sockets_of (before ++ holding m' s' ∷ after)) (has ∙
       sym (same-middle seen_place before (holding m s) (holding m' s') after same))
 
   -- a raw packet and a control message are neither segments nor datagrams
@@ -130,7 +131,7 @@ module _ (names : List ℕ → Bool) (side : Side) (C G : Type 0) (i0 : InnerVal
       To m' (settled sent (Is.Udp v')) sent v'.offered
   udp_gives m m' cx v v' answer sent offers has = record {
     moved =
-        moves_by names side C G i0 t net now r move (sockets_of (before ++ holding m' (settled sent (Is.Udp v')) ∷ after)) (found m (Is.Udp v) has, offers) refl
+        moves_by names side C G F i0 t net now r move (sockets_of (before ++ holding m' (settled sent (Is.Udp v')) ∷ after)) (found m (Is.Udp v) has, offers) refl
         (changed m m' (Is.Udp v) (settled sent (Is.Udp v')) has)
         (grows_by (party now side) (Moves.party_after (party now side) move) [] (datagrams_of v'.offered) (sym (append-nil (party now side).segments)) refl)
         (λ c. tt) (λ c g. tt);
@@ -157,7 +158,7 @@ module _ (names : List ℕ → Bool) (side : Side) (C G : Type 0) (i0 : InnerVal
       To m' (settled sent (Is.Tcp (offer_of cx v).socket)) sent (offered_packet (offer_of cx v).socket)
   tcp_gives m m' cx v true leaves held goes has = record {
     moved =
-        moves_by names side C G i0 t net now r move (sockets_of (before ++ holding m' (settled true (Is.Tcp (offer_of cx v).socket)) ∷ after))
+        moves_by names side C G F i0 t net now r move (sockets_of (before ++ holding m' (settled true (Is.Tcp (offer_of cx v).socket)) ∷ after))
         (found m (Is.Tcp v) has, leaves) refl
         (changed m m' (Is.Tcp v) (settled true (Is.Tcp (offer_of cx v).socket)) has)
         (more_offered (Moves.party_after (party now side) move) (offer_of cx v).socket.offered (offer_of cx v).socket.queued.queue refl refl) held goes;
@@ -169,7 +170,7 @@ module _ (names : List ℕ → Bool) (side : Side) (C G : Type 0) (i0 : InnerVal
     move = Moves.Offers (length before) cx v from true
   tcp_gives m m' cx v false leaves held goes has = record {
     moved =
-        moves_by names side C G i0 t net now r move (sockets_of (before ++ holding m' (settled false (Is.Tcp (offer_of cx v).socket)) ∷ after))
+        moves_by names side C G F i0 t net now r move (sockets_of (before ++ holding m' (settled false (Is.Tcp (offer_of cx v).socket)) ∷ after))
         (found m (Is.Tcp v) has, leaves) refl
         (changed m m' (Is.Tcp v) (settled false (Is.Tcp (offer_of cx v).socket)) has)
         (grows_to (party now side) (Moves.party_after (party now side) move) refl refl) held goes;
@@ -253,19 +254,20 @@ nowhere = Address.Ipv4 (record { 0 = [] })
 -- THE TURN
 
 module _ {D : Type 0} (moves : D → Move → D → Type 0) (turn_of : Option IpAddress) (names : List ℕ → Bool) (side : Side) (i0 : InnerValue) (t : ℤ) (net : Net) (q : Party) (L : ℕ →
-    State D → Party → Type 0) (link : IsLink moves q L) (Since Gives : D → Type 0) (giving : IsGiving moves Since Gives) (n : ℕ) (h : HostValue) (before after : Places) where
+    State D → Party → Type 0) (link : IsLink moves q L) (Since Gives : D → Type 0) (giving : IsGiving moves Since Gives)
+    (Taken : List (List ℕ) → D → Type 0) (taking : IsTaking moves Taken) (n : ℕ) (h : HostValue) (before after : Places) where
   abbrev At : Sender D → Option (Item Socket) → State D
   At x o = sending_as h x (before ++ record { inner = o } ∷ after)
 
   -- before the turn, and behind it
   abbrev Now : State D → Type 0
-  Now s = Follows names side Gives i0 t (L n) net s
+  Now s = Follows names side Gives Taken i0 t (L n) net s
 
   abbrev Next : State D → Type 0
-  Next s = Follows names side Gives i0 t (L (n + 1)) net s
+  Next s = Follows names side Gives Taken i0 t (L (n + 1)) net s
 
   uncounted : (s : State D) → Now s → Next s
-  uncounted s f = record { now = f.now; reaches = f.reaches; sockets = f.sockets; link = link.more n (n + 1) s (party f.now side) (omega arith) f.link }
+  uncounted s f = record { now = f.now; frames = f.frames; taken = f.taken; reaches = f.reaches; sockets = f.sockets; link = link.more n (n + 1) s (party f.now side) (omega arith) f.link }
 
   -- a packet goes its way, with its sockets told already
   leaves : (x x' : Sender D) (places : Places) (party : Party) (meta : Meta) (packet : PacketValue) (sent : Sent) → IsWide packet →
@@ -285,16 +287,20 @@ module _ {D : Type 0} (moves : D → Move → D → Type 0) (turn_of : Option Ip
       Now (At x' o')
   stays_put x x' o o' is same f = subst (λ (y : Sender D). Now (At y o')) (sym is) (record {
     now = f.now;
+    frames = f.frames;
+    taken = f.taken;
     reaches = f.reaches;
     sockets = f.sockets ∙ sym (same-middle seen_place before (record { inner = o }) (record { inner = o' }) after same);
     link = link.grown n (At x o) (before ++ record { inner = o' } ∷ after) (party f.now side) (party f.now side) (grows_not (party f.now side)) f.link;
   })
 
   -- moves lead on, while nothing goes
-  abbrev moved_on : (x : Sender D) (o : Option (Item Socket)) (places : Places) (f : Now (At x o)) → (m : Moved names side (Stays i0 x.inner) (Gives x.device) i0 t net f.now (sockets_of places)) →
+  abbrev moved_on : (x : Sender D) (o : Option (Item Socket)) (places : Places) (f : Now (At x o)) → (m : Moved names side (Stays i0 x.inner) (Gives x.device) f.frames i0 t net f.now (sockets_of places)) →
       Now (sending_as h x places)
   moved_on x o places f m = record {
     now = m.next;
+    frames = f.frames;
+    taken = f.taken;
     reaches = m.reaches;
     sockets = m.sockets_are;
     link = link.grown n (At x o) places (party f.now side) (party m.next side) m.grows f.link;
@@ -311,7 +317,7 @@ module _ {D : Type 0} (moves : D → Move → D → Type 0) (turn_of : Option Ip
       let cx = context_for x.inner item.socket in
       let none : offered_by offered ≡ None =
       none_offered (offered_by offered) changed (has_packet item.socket offered cx (Offer.Silent changed) offers) in
-      let given = gives names side (Stays i0 x.inner) (Gives x.device) i0 t net f.now f.reaches before after nowhere x.inner like item.meta unmarked cx item.socket offered (Offer.Silent changed) false
+      let given = gives names side (Stays i0 x.inner) (Gives x.device) f.frames i0 t net f.now f.reaches before after nowhere x.inner like item.meta unmarked cx item.socket offered (Offer.Silent changed) false
       fit offers (subst (λ (o : Option PacketValue). IfSome o (λ x. LeavesFrom cx nowhere x.header)) (sym none) tt)
       (λ c. (
         shows_towards i0 x.inner t like (remote_of item.socket) c.0,
@@ -352,10 +358,10 @@ module _ {D : Type 0} (moves : D → Move → D → Type 0) (turn_of : Option Ip
       let from = source_of (sourced x.inner packet).header in
       let from_it : LeavesFrom cx from packet.header = leaves_from x.inner packet in
       let back : Gives x'.device → Gives x.device =
-      device_leaves moves (λ (d : D). Gives d → Gives x.device) (λ d d' m moved had given. had (giving.had d d' m moved given)) turn_of x x' (λ g. g)
+      device_leaves moves (λ (d : D). Gives d → Gives x.device) (λ d d' m none moved had given. had (giving.had d d' m moved given)) turn_of x x' (λ g. g)
       item.meta leaving sent goes.1 in
-      let reaches = narrowed names side (Stays i0 x.inner) (Stays i0 x.inner) (Gives x.device) (Gives x'.device) i0 t net f.now (λ c. c) back f.reaches in
-      let given = gives names side (Stays i0 x.inner) (Gives x'.device) i0 t net f.now reaches before after from x.inner like item.meta meta cx item.socket
+      let reaches = narrowed names side (Stays i0 x.inner) (Stays i0 x.inner) (Gives x.device) (Gives x'.device) f.frames i0 t net f.now (λ c. c) back f.reaches in
+      let given = gives names side (Stays i0 x.inner) (Gives x'.device) f.frames i0 t net f.now reaches before after from x.inner like item.meta meta cx item.socket
       offered (Offer.Packet changed) (is_done sent) fit offers (subst (λ (o : Option PacketValue). IfSome o (λ y. LeavesFrom cx from y.header)) is from_it)
       (λ c. (
         shows_towards i0 x.inner t like (remote_of item.socket) c.0,
@@ -368,7 +374,9 @@ module _ {D : Type 0} (moves : D → Move → D → Type 0) (turn_of : Option Ip
       link.grown n (At x (Some item)) places (party f.now side) (party given.moved.next side) given.moved.grows f.link in
       let told : Next (sending_as h x' places) = record {
         now = given.moved.next;
-        reaches = narrowed names side (Stays i0 x.inner) (Stays i0 x'.inner) (Gives x'.device) (Gives x'.device) i0 t net given.moved.next
+        frames = f.frames;
+        taken = device_leaves moves (Taken f.frames) (λ d d' m none. taking.rests d d' m f.frames none) turn_of x x' f.taken item.meta leaving sent goes.1;
+        reaches = narrowed names side (Stays i0 x.inner) (Stays i0 x'.inner) (Gives x'.device) (Gives x'.device) f.frames i0 t net given.moved.next
             (stays_before i0 x.inner x'.inner same) (λ g. g) given.moved.reaches;
         sockets = given.moved.sockets_are;
         link = leaves x x' places (party given.moved.next side) item.meta leaving sent
