@@ -1,6 +1,6 @@
 -- A poll that comes to a frame which waits among others, and in which a segment comes to the socket of its connection.
-use Rattle.std.proofs.Common.{◌≡◌, ℕ, zero, suc, ◌+◌, ◌<◌, ◌≤◌, ◌&&◌, Bool, true, false, not, ◌⊎◌, inl, inr, ℤ, List, [], ◌∷◌, ◌++◌, length, get_or, Option, Some, None, IsTrue}
-use Rattle.std.proofs.Common.{refl, sym, ap, ◌∙◌, subst, arith}
+use Rattle.std.proofs.Common.{◌≡◌, ℕ, zero, suc, ◌+◌, ◌<◌, ◌≤◌, ◌&&◌, Bool, true, false, not, ◌⊎◌, inl, inr, ℤ, List, [], ◌∷◌, ◌++◌, length, get_or, Option, Some}
+use Rattle.std.proofs.Common.{None, IsTrue, refl, sym, ap, ◌∙◌, subst, arith}
 use Rattle.std.specs.List.{list_any}
 use Rattle.std.proofs.lemmas.List.Quantifiers.{position-Some}
 use Rattle.std.proofs.lemmas.Option.{get_or_from_slice_get}
@@ -320,7 +320,8 @@ module _ {E : Type 0} (moves : E → Move → E → Type 0) (gives_leave : E →
     comes_awaited : (count : ℕ) → length before < count → IsAwaitedWhenNext moves frames_at u r count i to ip header bytes m
         → ComesAmong moves u r r' ip header bytes m w
     comes_awaited count less awaits =
-        let coming : Coming HaveRead one_read = coming_so HaveRead one_read (0, (let none : (k : ℕ) → 0 + k ≡ k = λ k. omega arith in none (length before)), refl) in
+        let none : (k : ℕ) → 0 + k ≡ k = λ k. omega arith in
+        let coming : Coming HaveRead one_read = coming_so HaveRead one_read (0, none (length before), refl) in
         let all = coming.holds.1 in
         comes_among HaveRead one_read coming
         (awaits coming.holds.0 coming.x ident padding behind (omega (arith, all, less)) coming.holds.2 coming.wait)
@@ -424,8 +425,8 @@ comes_when_next moves gives_leave frames_at u count steps i ident r r' changed m
 -- ONE POLL SENDS IT, AND ANOTHER READS IT
 
 pub arrives_in_a_poll : {D E : Type 0} (out : D → Move → D → Type 0) (moves : E → Move → E → Type 0) (gives_leave : E → Bool)
-    (frames_at : E → List (List ℕ)) (t u : ℤ) (budget count steps : ℕ) (s s' : State D) (r r' : State E) (changed changed' : Bool) (n m : ℕ) (meta : Meta) (v w : TcpValue) (ip : IpRepr)
-    (header : TcpHeader) (bytes : List ℕ) (to : HardwareAddress) → IsInboxWhile moves gives_leave frames_at → IsTrue (gives_leave r'.device)
+    (frames_at : E → List (List ℕ)) (t u : ℤ) (budget count steps : ℕ) (s s' : State D) (r r' : State E) (changed changed' : Bool) (n m : ℕ) (meta : Meta)
+    (v w : TcpValue) (ip : IpRepr) (header : TcpHeader) (bytes : List ℕ) (to : HardwareAddress) → IsInboxWhile moves gives_leave frames_at → IsTrue (gives_leave r'.device)
     → HasWidths (at_moment t s.host.inner)
     → IsItsTurn (at_moment t s.host.inner) s.places n (Kind.Tcp v) → OffersSegment (at_moment t s.host.inner) v ip header bytes
     → CanLeave (at_moment t s.host.inner) to (packet_of ip (Segment header bytes)) → HasNoFrame out t s.device → Polls out t (suc budget) s changed s'

@@ -42,7 +42,8 @@ use net_base::Device;
 /// to its destination, and the socket isn't waiting for another neighbour. So it goes in the way out of a poll that comes to such a socket, whatever came
 /// in before, unless the device refuses in one of its steps.
 pub fn offered_segments_go<D: Device>()
-    ensures at_once { (t : ℤ) (s s' : State D) (answer : Option Bool) (n : ℕ) (v : TcpValue) (ip : IpRepr) (header : TcpHeader) (bytes : List ℕ) (to : HardwareAddress)
+    ensures at_once { (t : ℤ) (s s' : State D) (answer : Option Bool) (n : ℕ) (v : TcpValue) (ip : IpRepr) (header : TcpHeader) (bytes : List ℕ)
+        (to : HardwareAddress)
         → IsItsTurn (at_moment t s.host.inner) s.places n (Kind.Tcp v)
         → OffersSegment (at_moment t s.host.inner) v ip header bytes
         → CanLeave (at_moment t s.host.inner) to (packet_of ip (Segment header bytes))
@@ -178,8 +179,8 @@ pub fn a_segment_arrives_between_ports()
 {}
 
 /// Law: there are two hosts at ports of the simulated link, on a medium of bare packets, that meet all that `a_segment_arrives_between_ports`,
-/// `a_segment_that_waits_comes` and `offered_segments_fit_their_path` ask for: between their sockets a connection is open, abc is offered at the one, goes in one step of its poll, and comes in
-/// one step of the other's.
+/// `a_segment_that_waits_comes` and `offered_segments_fit_their_path` ask for: between their sockets a connection is open, abc is offered at the one, goes
+/// in one step of its poll, and comes in one step of the other's.
 pub fn two_hosts_meet_what_a_segment_asks_for()
     ensures widths { HasWidths sender }
     ensures turn { IsItsTurn sender offering.places 0 (Kind.Tcp writing) }
