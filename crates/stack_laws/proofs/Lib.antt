@@ -13,6 +13,7 @@ pub mod Settled
 pub mod OfferLengths
 pub mod SentOff
 pub mod EventMoves
+pub mod EventTakes
 pub mod EventLeave
 pub mod EventClocks
 pub mod EventAsked
