@@ -60,7 +60,7 @@ use Rattle.stack_laws.specs.Progress.Events.{AreTaken, HappensBy}
 use Rattle.stack_laws.specs.Progress.Leave.{LiesAmong}
 use Rattle.stack_laws.specs.Progress.Queued.{frame_under, with_ident}
 use Rattle.stack_laws.specs.Progress.Segments.{CanLeave, OffersSegment}
-use Rattle.stack_laws.specs.Progress.Takings.{ComesBy, IsForHost, IsForPlace, IsForPlaceThroughout}
+use Rattle.stack_laws.specs.Progress.Takings.{ComesBy, IsForHost}
 use Rattle.stack_laws.proofs.Peers.Devices.{device_kept}
 use Rattle.stack_laws.proofs.Polls.Connected.{Has}
 use Rattle.stack_laws.proofs.Polls.Delivered as Delivered
@@ -75,7 +75,20 @@ use Rattle.stack_laws.proofs.Polls.Stays.{astray, for_us, heard, nobody, positio
 clash : {X : Type 0} → true ≡ false → X
 clash {X} e = absurd cc
 
--- THE PLACE OF A SEGMENT, where it is for the socket at a place
+-- THE PLACE OF A SEGMENT
+
+-- A segment with this header between these addresses is for the TCP socket at a place: that has its connection, and none before it has.
+pub record IsForPlace (p : Party) (place : ℕ) (ip : IpRepr) (header : TcpHeader) : Type 0 where
+  pub v : TcpValue
+  pub stands : socket_at p place ≡ Some (Parties.Tcp v)
+  pub has : is_connected (Kind.Tcp v) ip header ≡ true
+  pub first : (k : ℕ) (w : TcpValue) → k < place → socket_at p k ≡ Some (Parties.Tcp w) → is_connected (Kind.Tcp w) ip header ≡ false
+
+-- so it is wherever these moves have led
+abbrev pub IsForPlaceThroughout : Side → ℕ → IpRepr → TcpHeader → Net → List Step → Type 0
+IsForPlaceThroughout side place ip header net steps =
+    (before behind : List Step) → steps ≡ before ++ behind → IsForPlace (party (run net before) side) place ip header
+
 
 module _ (ip : IpRepr) (header : TcpHeader) where
   abbrev Ours : SocketStorage Socket → Bool

@@ -14,6 +14,7 @@ pub mod OfferLengths
 pub mod SentOff
 pub mod EventMoves
 pub mod EventTakes
+pub mod EventPlaces
 pub mod EventLeave
 pub mod EventClocks
 pub mod EventAsked

@@ -1,10 +1,11 @@
 //! The events of a world are moves of its hosts.
 
-ghost use Rattle.std.specs.Prelude.{◌≡◌, ◌∷◌, ◌++◌, ℕ, ℤ, pos, ◌+ℤ◌, ◌≤ℤ◌, IsTrue, List};
+ghost use Rattle.std.specs.Prelude.{◌≡◌, ◌∷◌, ◌++◌, ℕ, ℤ, pos, ◌+ℤ◌, ◌≤ℤ◌, true, IsTrue, List};
 ghost use Rattle.ip_packet.specs.declared.ip.repr.IpRepr.{IpRepr};
 ghost use Rattle.ip_wire.specs.HardwareAddress.{HardwareAddress};
 ghost use Rattle.ip_wire.specs.TcpHeader.{TcpHeader};
 ghost use Rattle.tcp_model.specs.Value.{TcpValue};
+ghost use Rattle.tcp_progress.specs.Arrivals.{is_synchronized};
 ghost use Rattle.interface_ingress.specs.Packet.{Segment, packet_of};
 ghost use Rattle.interface_ingress.specs.WellFormed.{IsWellFormed};
 ghost use Rattle.interface.specs.Taken.{CanRead, HasWidths};
@@ -17,15 +18,17 @@ ghost use Rattle.lan.specs.Worlds.AtLink.History.{Entry};
 ghost use Rattle.lan.specs.Worlds.AtLink.Kinds.{kind_of};
 ghost use Rattle.lan.specs.Worlds.AtLink.Kinds.Act.{Polls};
 ghost use Rattle.lan.specs.Worlds.AtLink.Kinds.Kind.{OfHost};
-ghost use Rattle.lan.specs.Worlds.AtLink.Moves.{Step};
+ghost use Rattle.lan.specs.Worlds.AtLink.Moves.{IsRun, Step, run};
 ghost use Rattle.lan.specs.Worlds.AtLink.Paired.{AreNew, HaveKeys, NewSocket, Seat};
 ghost use Rattle.lan.specs.Worlds.AtLink.Parties.{Net};
 ghost use Rattle.lan.specs.Worlds.AtLink.Partners.{ArePartners};
 ghost use Rattle.lan.specs.Worlds.AtLink.Runs.{Leads, Starts};
 ghost use Rattle.lan.specs.Worlds.AtLink.Station.{Stations, station};
 ghost use Rattle.lan.specs.Worlds.Events.{AreTyped};
+ghost use Rattle.lan.specs.Worlds.Moves.Follows.{IsNetOf};
 ghost use Rattle.lan.specs.Worlds.Moves.Joined.{first_net};
 ghost use Rattle.lan.specs.Worlds.Still.{IsStill, StillRun, seats_of};
+ghost use Rattle.lan_base.specs.Carried.{names_tcp_or_udp};
 ghost use Rattle.lan_base.specs.Medium.TheVariants as Medium;
 ghost use Rattle.lan_base.specs.Port.{has_leave};
 ghost use Rattle.stack_laws.specs.Progress.ByEvents.{GoOnByEvents};
@@ -38,8 +41,8 @@ ghost use Rattle.stack_laws.specs.Progress.Partners.{HoldText};
 ghost use Rattle.stack_laws.specs.Progress.Patience.{ArePatient};
 ghost use Rattle.stack_laws.specs.Progress.Queued.{frame_under, with_ident};
 ghost use Rattle.stack_laws.specs.Progress.Segments.{CanLeave, OffersSegment};
-ghost use Rattle.stack_laws.specs.Progress.Serving.{AreServed, GiveLeave, IsAtRest, IsQuietPoll, IsReadOften, WaitsForNone, with_rest};
-ghost use Rattle.stack_laws.specs.Progress.Takings.{ComesBy, IsForHost, IsForPlaceThroughout};
+ghost use Rattle.stack_laws.specs.Progress.Serving.{AreServed, GiveLeave, IsAtHost, IsAtRest, IsQuietPoll, IsReadOften, WaitsForNone, with_rest};
+ghost use Rattle.stack_laws.specs.Progress.Takings.{ComesBy, IsForHost, IsOfConnection};
 
 use super::inboxes::ports_refuse_nothing;
 use super::partners::{moves_go_on, partners_are_reached, partners_go_on};
@@ -85,12 +88,17 @@ pub fn offers_go_while_links_give_leave()
 {}
 
 /// Law: where a frame waits for a host, behind fewer others than its poll has steps, and its link gives leave to send behind that poll, the segment in the
-/// frame comes by one of the moves of that poll to the TCP socket that it is for: one that has its connection all the while, before any other. The packet can
-/// be sent by its host, and went under this identification; this host can read it, and takes it in.
+/// frame comes by one of the moves of that poll to the TCP socket of its connection, which has it before and behind the poll. The packet can be sent by its
+/// host, and went under this identification; this host can read it, and takes it in.
 pub fn a_segment_that_waits_comes_by_a_move()
-    ensures { (starts : Starts) (past : List Entry) (old new : Stations) (e : Entry) (net : Net) (steps : List Step) (side : Side) (t : ℤ)
+    ensures { (starts : Starts) (so_far steps : List Step) (past : List Entry) (old new : Stations) (e : Entry) (side : Side) (t : ℤ)
         (budget place : ℕ) (i : InnerValue) (ident : ℕ) (v : TcpValue) (ip : IpRepr) (header : TcpHeader) (bytes : List ℕ) (to : HardwareAddress)
-        → HappensBy starts past e old new net steps → Leads past old e new → kind_of e.event ≡ OfHost side (Polls t budget)
+        → IsFreshWorld starts
+        → IsRun (names_tcp_or_udp Medium.Ip) (first_net starts) so_far
+        → IsNetOf (run (first_net starts) so_far) old past
+        → HappensBy starts past e old new (run (first_net starts) so_far) steps
+        → Leads past old e new
+        → kind_of e.event ≡ OfHost side (Polls t budget)
         → IsTrue (has_leave (station new side).link)
         → HasWidths (with_ident i ident)
         → OffersSegment i v ip header bytes
@@ -99,7 +107,8 @@ pub fn a_segment_that_waits_comes_by_a_move()
         → LiesAmong (station old side).link.waiting budget (frame_under i ident to (packet_of ip (Segment header bytes)))
         → CanRead i to (reader_of (station old side).host.inner)
         → IsForHost (station old side).host.inner to ip
-        → IsForPlaceThroughout side place ip header net steps
+        → IsAtHost place (station old side) (IsOfConnection ip header)
+        → IsAtHost place (station new side) (λ w. is_synchronized w.block.state ≡ true)
         → ComesBy side place t ip header bytes steps }
 {}
 
