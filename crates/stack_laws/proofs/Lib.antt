@@ -13,6 +13,8 @@ pub mod Settled
 pub mod OfferLengths
 pub mod SentOff
 pub mod EventMoves
+pub mod EventTakes
+pub mod EventPlaces
 pub mod EventLeave
 pub mod EventClocks
 pub mod EventAsked

@@ -22,6 +22,7 @@ pub mod OnEthernet
 pub mod Partners
 pub mod Moving
 pub mod Events
+pub mod Takings
 pub mod OneClock
 pub mod Serving
 pub mod ByEvents

@@ -19,7 +19,9 @@ use Rattle.tcp_control.specs.declared.state.State.{State as TcpState}
 use Rattle.tcp_control.specs.declared.state.State.TheVariants as In
 use Rattle.tcp_model.specs.Arrival.{arrives, arrives_in, is_void_syn}
 use Rattle.tcp_model.specs.Names.{accepts, accepts_in}
+use Rattle.tcp_model.specs.Offers.{offer_of}
 use Rattle.tcp_model.specs.Opening.{is_first_syn, opens}
+use Rattle.tcp_model.specs.Settled.{settled}
 use Rattle.tcp_model.specs.Value.{Arrived as TcpArrived, TcpValue, dropped, unoffered}
 use Rattle.tcp_model.specs.declared.block.Block.{Block}
 use Rattle.tcp_tie.specs.Endpoints.{IsLeftBy, IsRenamed}
@@ -96,26 +98,27 @@ arrival_late cx v ip header bytes late =
     let calm = arrival_calm cx ip header bytes v late in
     renamed_late v (arrives cx v ip header bytes).socket ip header late (calm.early late) calm.closed (arrival_names cx v ip header bytes)
 
+pub offer_late : (cx : ContextValue) (v : TcpValue) (sent : Bool) → is_early v.block.state ≡ false → StaysLate v (settled sent (offer_of cx v).socket)
+offer_late cx v true late = let calm = offer_calm cx v late in left_late v _ late (calm.early late) calm.closed (sent_names cx v)
+offer_late cx v false late = let calm = refused_calm cx v late in left_late v _ late (calm.early late) calm.closed (withheld_names cx v)
+
+pub then_late : (v mid new : TcpValue) → StaysLate v mid → StaysLate mid new → StaysLate v new
+then_late v mid new one two = record { late = two.late; closed = λ over. two.closed (one.closed over); pair = by one.pair two.pair } where
+  by : (is_closed mid.block.state ≡ true) ⊎ (mid.block.names.pair ≡ v.block.names.pair)
+      → (is_closed new.block.state ≡ true) ⊎ (new.block.names.pair ≡ mid.block.names.pair)
+      → (is_closed new.block.state ≡ true) ⊎ (new.block.names.pair ≡ v.block.names.pair)
+  by (inl over) last = inl (two.closed over)
+  by (inr same) (inl over) = inl over
+  by (inr same) (inr last) = inr (last ∙ same)
+
 module _ {D : Type 0} (moves : D → Move → D → Type 0) (t : ℤ) (from : State D) where
   event_late : (v : TcpValue) (event : Event) → IsOfPoll moves t from v event → is_early v.block.state ≡ false → StaysLate v (after v event)
   event_late v (Comes cx ip header bytes) is late = arrival_late cx v ip header bytes late
-  event_late v (Does (Offers cx true)) is late =
-      let calm = offer_calm cx v late in left_late v _ late (calm.early late) calm.closed (sent_names cx v)
-  event_late v (Does (Offers cx false)) is late =
-      let calm = refused_calm cx v late in left_late v _ late (calm.early late) calm.closed (withheld_names cx v)
+  event_late v (Does (Offers cx sent)) is late = offer_late cx v sent late
   event_late v (Does other) is late = absurd is
   event_late v (Listens endpoint) is late = absurd is
   event_late v (Connects cx remote local) is late = absurd is
   event_late v (Sends bytes) is late = absurd is
-
-  then_late : (v mid new : TcpValue) → StaysLate v mid → StaysLate mid new → StaysLate v new
-  then_late v mid new one two = record { late = two.late; closed = λ over. two.closed (one.closed over); pair = by one.pair two.pair } where
-    by : (is_closed mid.block.state ≡ true) ⊎ (mid.block.names.pair ≡ v.block.names.pair)
-        → (is_closed new.block.state ≡ true) ⊎ (new.block.names.pair ≡ mid.block.names.pair)
-        → (is_closed new.block.state ≡ true) ⊎ (new.block.names.pair ≡ v.block.names.pair)
-    by (inl over) last = inl (two.closed over)
-    by (inr same) (inl over) = inl over
-    by (inr same) (inr last) = inr (last ∙ same)
 
   pub events_late : (v : TcpValue) (events : List Event) → AreOfPoll moves t from v events → is_early v.block.state ≡ false
       → StaysLate v (after_all v events)

@@ -123,12 +123,12 @@ module _ (i : InnerValue) (v : TcpValue) (ip : IpRepr) (header : TcpHeader) (byt
 
   -- A READER MAKES THE SAME HEADER OF IT
 
-  as_written : normal header ≡ header
+  pub as_written : normal header ≡ header
   as_written =
       let from = of_packet (asked_by i v).offered (asked_by i v).queued.queue ip header bytes offers.offers in
       subst (λ (h : TcpHeader). normal h ≡ h) from.2 (offers_read cx v from.0 from.1)
 
-  can_be_read : IsWellFormed packet → CanBeRead ip (Segment header bytes)
+  pub can_be_read : IsWellFormed packet → CanBeRead ip (Segment header bytes)
   can_be_read formed =
       let fields : AreFields header = formed.payload in (
         offered_names cx (Kind.Tcp v) (Kind.Tcp (asked_by i v)) (offer_of cx v).answer packet (refl, refl) offers.offers,

@@ -1,6 +1,14 @@
 //! The events of a world are moves of its hosts.
 
-ghost use Rattle.std.specs.Prelude.{◌≡◌, ◌∷◌, ◌++◌, ℕ, ℤ, pos, ◌+ℤ◌, ◌≤ℤ◌, List};
+ghost use Rattle.std.specs.Prelude.{◌≡◌, ◌∷◌, ◌++◌, ℕ, ℤ, pos, ◌+ℤ◌, ◌≤ℤ◌, true, IsTrue, List};
+ghost use Rattle.ip_packet.specs.declared.ip.repr.IpRepr.{IpRepr};
+ghost use Rattle.ip_wire.specs.HardwareAddress.{HardwareAddress};
+ghost use Rattle.ip_wire.specs.TcpHeader.{TcpHeader};
+ghost use Rattle.tcp_model.specs.Value.{TcpValue};
+ghost use Rattle.tcp_progress.specs.Arrivals.{is_synchronized};
+ghost use Rattle.interface_ingress.specs.Packet.{Segment, packet_of};
+ghost use Rattle.interface_ingress.specs.WellFormed.{IsWellFormed};
+ghost use Rattle.interface.specs.Taken.{CanRead, HasWidths};
 ghost use Rattle.interface_tables.specs.Inner.{InnerValue};
 ghost use Rattle.lan.specs.declared.at_link.history.event.Side.{Side};
 ghost use Rattle.lan.specs.declared.at_link.history.event.Side.TheVariants.{A, B};
@@ -10,22 +18,31 @@ ghost use Rattle.lan.specs.Worlds.AtLink.History.{Entry};
 ghost use Rattle.lan.specs.Worlds.AtLink.Kinds.{kind_of};
 ghost use Rattle.lan.specs.Worlds.AtLink.Kinds.Act.{Polls};
 ghost use Rattle.lan.specs.Worlds.AtLink.Kinds.Kind.{OfHost};
+ghost use Rattle.lan.specs.Worlds.AtLink.Moves.{IsRun, Step, run};
 ghost use Rattle.lan.specs.Worlds.AtLink.Paired.{AreNew, HaveKeys, NewSocket, Seat};
 ghost use Rattle.lan.specs.Worlds.AtLink.Parties.{Net};
 ghost use Rattle.lan.specs.Worlds.AtLink.Partners.{ArePartners};
 ghost use Rattle.lan.specs.Worlds.AtLink.Runs.{Leads, Starts};
 ghost use Rattle.lan.specs.Worlds.AtLink.Station.{Stations, station};
 ghost use Rattle.lan.specs.Worlds.Events.{AreTyped};
+ghost use Rattle.lan.specs.Worlds.Moves.Follows.{IsNetOf};
 ghost use Rattle.lan.specs.Worlds.Moves.Joined.{first_net};
 ghost use Rattle.lan.specs.Worlds.Still.{IsStill, StillRun, seats_of};
+ghost use Rattle.lan_base.specs.Carried.{names_tcp_or_udp};
 ghost use Rattle.lan_base.specs.Medium.TheVariants as Medium;
+ghost use Rattle.lan_base.specs.Port.{has_leave};
 ghost use Rattle.stack_laws.specs.Progress.ByEvents.{GoOnByEvents};
-ghost use Rattle.stack_laws.specs.Progress.Events.{MoveBy, MoveByEvents, clock_in};
+ghost use Rattle.stack_laws.specs.Progress.Delivered.{reader_of};
+ghost use Rattle.stack_laws.specs.Progress.Events.{HappensBy, MoveBy, MoveByEvents, clock_in};
+ghost use Rattle.stack_laws.specs.Progress.Leave.{LiesAmong};
 ghost use Rattle.stack_laws.specs.Progress.Moving.{AreAsked, AreAtMoments, AreLetGo, IsReadInTime};
 ghost use Rattle.stack_laws.specs.Progress.OneClock.{KeepOneClock, timed};
 ghost use Rattle.stack_laws.specs.Progress.Partners.{HoldText};
 ghost use Rattle.stack_laws.specs.Progress.Patience.{ArePatient};
-ghost use Rattle.stack_laws.specs.Progress.Serving.{AreServed, GiveLeave, IsAtRest, IsQuietPoll, IsReadOften, WaitsForNone, with_rest};
+ghost use Rattle.stack_laws.specs.Progress.Queued.{frame_under, with_ident};
+ghost use Rattle.stack_laws.specs.Progress.Segments.{CanLeave, OffersSegment};
+ghost use Rattle.stack_laws.specs.Progress.Serving.{AreServed, GiveLeave, IsAtHost, IsAtRest, IsQuietPoll, IsReadOften, WaitsForNone, with_rest};
+ghost use Rattle.stack_laws.specs.Progress.Takings.{ComesBy, IsForHost, IsOfConnection};
 
 use super::inboxes::ports_refuse_nothing;
 use super::partners::{moves_go_on, partners_are_reached, partners_go_on};
@@ -68,6 +85,31 @@ pub fn offers_go_while_links_give_leave()
     ensures { (starts : Starts) (net : Net) (past more : List Entry) (hosts : Stations) (still : StillRun starts (more ++ past) hosts)
         (seats : Side → Seat) (moves : List (ℤ × Happening)) → IsFreshWorld starts → starts.a.capabilities.medium ≡ Medium.Ip
         → MoveBy starts net past more hosts still (timed moves) → GiveLeave starts past more hosts still → AreLetGo seats moves }
+{}
+
+/// Law: where a frame waits for a host, behind fewer others than its poll has steps, and its link gives leave to send behind that poll, the segment in the
+/// frame comes by one of the moves of that poll to the TCP socket of its connection, which has it before and behind the poll. The packet can be sent by its
+/// host, and went under this identification; this host can read it, and takes it in.
+pub fn a_segment_that_waits_comes_by_a_move()
+    ensures { (starts : Starts) (so_far steps : List Step) (past : List Entry) (old new : Stations) (e : Entry) (side : Side) (t : ℤ)
+        (budget place : ℕ) (i : InnerValue) (ident : ℕ) (v : TcpValue) (ip : IpRepr) (header : TcpHeader) (bytes : List ℕ) (to : HardwareAddress)
+        → IsFreshWorld starts
+        → IsRun (names_tcp_or_udp Medium.Ip) (first_net starts) so_far
+        → IsNetOf (run (first_net starts) so_far) old past
+        → HappensBy starts past e old new (run (first_net starts) so_far) steps
+        → Leads past old e new
+        → kind_of e.event ≡ OfHost side (Polls t budget)
+        → IsTrue (has_leave (station new side).link)
+        → HasWidths (with_ident i ident)
+        → OffersSegment i v ip header bytes
+        → CanLeave i to (packet_of ip (Segment header bytes))
+        → IsWellFormed (packet_of ip (Segment header bytes))
+        → LiesAmong (station old side).link.waiting budget (frame_under i ident to (packet_of ip (Segment header bytes)))
+        → CanRead i to (reader_of (station old side).host.inner)
+        → IsForHost (station old side).host.inner to ip
+        → IsAtHost place (station old side) (IsOfConnection ip header)
+        → IsAtHost place (station new side) (λ w. is_synchronized w.block.state ≡ true)
+        → ComesBy side place t ip header bytes steps }
 {}
 
 /// Law: behind a poll in which nothing happens any more each TCP socket of its host is at rest that waits for no neighbor, where no socket has a user

@@ -227,7 +227,7 @@ nothing_alone starts places h side p q i v k lone is = by (opening h side i) ref
       let keeps = ok.alone o opened lone in
       ((alone_nothing v (past_at o.local p.segments (told h side i)) keeps).read, alone_queue v (past_at o.local p.segments (told h side i)) keeps)
 
-kept_at : (starts : Side → ℕ → ℕ) (places : Places) (net : Net) (side : Side) → Kept starts places net →
+pub kept_at : (starts : Side → ℕ → ℕ) (places : Places) (net : Net) (side : Side) → Kept starts places net →
     KeptFrom starts places net.history side (party net side) (party net (other side))
 kept_at starts places net A k = k
 kept_at starts places net B k = kept_turned starts places net.history A net.a net.b k
