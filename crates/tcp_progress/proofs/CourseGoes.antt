@@ -28,7 +28,7 @@ use Rattle.tcp_tie.specs.declared.pair.event.Side.TheVariants.{A, B}
 use Rattle.tcp_progress.specs.Anew.{BeginsAnew, BeginsAnewIn, put_off_in}
 use Rattle.tcp_progress.specs.Arrivals.{is_synchronized}
 use Rattle.tcp_progress.specs.BothWays.{AreThere, total_in}
-use Rattle.tcp_progress.specs.Course.{AreTaken, DeliversWithin, GoesInTime, IsHinderedAmong, IsHinderedIn, IsShutAmong}
+use Rattle.tcp_progress.specs.Course.{AreTaken, DeliversWithin, GoesInTime, IsClocked, IsHinderedAmong, IsHinderedIn, IsShutAmong}
 use Rattle.tcp_progress.specs.Course.{IsTaken, end_of, events_of, span_of}
 use Rattle.tcp_progress.specs.Exchange.{IsOpen, left_of, text_of}
 use Rattle.tcp_progress.specs.Late.{GoesFrom, sent_by}
@@ -45,7 +45,7 @@ use Rattle.tcp_progress.proofs.CourseRuns.{Start, starts_in_course}
 use Rattle.tcp_progress.proofs.Exchange.{last_of}
 use Rattle.tcp_progress.proofs.Kept.{reached_by, reached_keeps}
 use Rattle.tcp_progress.proofs.LateExchange.{goes_last, goes_now}
-use Rattle.tcp_progress.proofs.LateText.{left_within, open_of, there_of}
+use Rattle.tcp_progress.proofs.LateText.{left_within, open_of, risen_since, stream_since, there_of}
 use Rattle.tcp_progress.proofs.Left.{left_same}
 use Rattle.tcp_progress.proofs.MendingEvents.{is_sure}
 use Rattle.tcp_progress.proofs.Mirrored.{named_in}
@@ -66,6 +66,22 @@ pub record Goes (p : PairValue) (side : Side) (event : PairEvent) : Type 0 where
   pub x : SentSegment
   pub goes : GoesFrom (takes p event) side x
   pub sent : slice_get (at (takes p event).sides side).sent (next_sent p side) ≡ Some x
+
+-- it comes, and its answer
+pub exchanges :
+    (p q : PairValue) (side : Side) (x : ℤ × PairEvent) (course : List (ℤ × PairEvent)) (delay : ℕ) → Goes p side x.1 → IsReached (takes p x.1)
+    → AreOpen (takes p x.1) → Steps (takes p x.1) (events_of course) q → AreThere q → HasStream (past_at (takes p x.1) side)
+    → 1 ≤ room_of (socket_of (takes p x.1) (other side)).received → DeliversWithin delay p (x ∷ course) → IsClocked x.0 course
+    → ((x.0 +ℤ pos delay) +ℤ pos delay) <ℤ end_of x.0 course
+    → HasRisen (takes p x.1) q side ⊎ (HasRisen (takes p x.1) q (other side) ⊎ IsShutAmong (takes p x.1) side (next_sent p side) course)
+exchanges p q side x course delay it r o s there stream room delivers clocked over =
+    exchange_in_time (takes p x.1) q side (next_sent p side) it.x course delay x.0 r o s there stream room it.goes it.sent
+    (delivers.0 side (next_sent p side) (itself (next_sent p side))
+    (slice_get_within (at (takes p x.1).sides side).sent (next_sent p side) it.x it.sent))
+    clocked delivers.1 over
+  where
+    itself : (n : ℕ) → n ≤ n
+    itself n = omega arith
 
 -- a side with its connection, which it keeps with the event
 pub record IsThere (p : PairValue) (side : Side) (event : PairEvent) : Type 0 where
@@ -374,47 +390,21 @@ module _ (p q : PairValue) (side : Side) (course : List (ℤ × PairEvent)) (wai
 
   -- the stream, and the other's buffer, are no less then
   stream : HasStream (past_at after side)
-  stream =
-      inr
-      (more (length (past_at p side).written) (length (past_at after side).written) (wrote c.stream) (p_after side).written)
-    where
-      more : (a b : ℕ) → 1 ≤ a → a ≤ b → 1 ≤ b
-      more a b e f = omega arith
-
-      some : (written : ℕ) {fin left : ℕ} → fin ≡ 0 → left ≤ written + fin → 1 ≤ left → 1 ≤ written
-      some written e f g = omega arith
-
-      wrote : HasStream (past_at p side) → 1 ≤ length (past_at p side).written
-      wrote (inl unclosed) = some (length (past_at p side).written) (ap one_if unclosed) (left_within p side r (open_of p side o)) some_left
-      wrote (inr some) = some
+  stream = stream_since p after side r (open_of p side o) some_left (p_after side) c.stream
 
   room : 1 ≤ room_of (socket_of after (other side)).received
   room = subst (λ (n : ℕ). 1 ≤ n) (sym (p_after (other side)).room) c.room
 
   lifted : (of : Side) → HasRisen after q of → HasRisen p q of
-  lifted of (inl e) =
-      inl (more (total_in p of) (left_in p of) (total_in after of) (left_in after of) (acked_in q of) (p_after of).acked e) where
-        more : (a b c d e : ℕ) → a + d ≤ c + b → c - d < e → a - b < e
-        more a b c d e x y = omega arith
-  lifted of (inr e) = inr (more (taken_in p of) (taken_in after of) (taken_in q of) (p_after of).taken e) where
-    more : (a b c : ℕ) → a ≤ b → b < c → a < c
-    more a b c x y = omega arith
+  lifted of risen = risen_since p after q of (p_after of) risen
 
-  -- the exchange
-  exchanges : Goes mid side st.x.1 → Ways
-  exchanges it =
+  exchanged : Goes mid side st.x.1 → Ways
+  exchanged it =
       by
-      (exchange_in_time after q side (next_sent mid side) it.x st.rest delay st.x.0 ra (open_after A, open_after B) st.steps_on.1 there stream room it.goes
-      it.sent (st.has.1.0 side (next_sent mid side) (itself (next_sent mid side)) sent_now) st.clocked st.has.1.1
+      (exchanges mid q side st.x st.rest delay it ra (open_after A, open_after B) st.steps_on.1 there stream room st.has.1 st.clocked
       (subst (λ (end : ℤ). ((st.x.0 +ℤ pos delay) +ℤ pos delay) <ℤ end) (sym st.same_end)
       (sooner st.x.0 ((now +ℤ pos (put_off_in p side)) +ℤ pos wait) (end_of now course) delay st.within over)))
     where
-      itself : (n : ℕ) → n ≤ n
-      itself n = omega arith
-
-      sent_now : next_sent mid side < next_sent after side
-      sent_now = slice_get_within (at after.sides side).sent (next_sent mid side) it.x it.sent
-
       by : HasRisen after q side ⊎ (HasRisen after q (other side) ⊎ IsShutAmong after side (next_sent mid side) st.rest) → Ways
       by (inl risen) = inl (lifted side risen)
       by (inr (inl risen)) = inr (inl (lifted (other side) risen))
@@ -428,7 +418,7 @@ module _ (p q : PairValue) (side : Side) (course : List (ℤ × PairEvent)) (wai
     where
       by : IsHinderedIn mid side st.x.1 ⊎ Goes mid side st.x.1 → Ways
       by (inl hindered) = inr (inr (st.hindered (inl hindered)))
-      by (inr it) = exchanges it
+      by (inr it) = exchanged it
 
 pub goes_on_in_time :
     (p q : PairValue) (side : Side) (course : List (ℤ × PairEvent)) (wait delay : ℕ) (now : ℤ) → IsReached p → AreOpen p → Steps p (events_of course) q

@@ -29,7 +29,7 @@ use Rattle.tcp_progress.proofs.CourseRuns.{wants}
 use Rattle.tcp_progress.proofs.CourseSpans.{Cut, all_reached, first_span, no_less, one_more, other_spans, times_suc}
 use Rattle.tcp_progress.proofs.CourseWindows.{gets_on}
 use Rattle.tcp_progress.proofs.Kept.{reached_by}
-use Rattle.tcp_progress.proofs.LateText.{left_within, open_of, there_of}
+use Rattle.tcp_progress.proofs.LateText.{left_within, open_of, stream_since, there_of}
 use Rattle.tcp_progress.proofs.OnwardPairs.{IsBegun, MovesIn, begun, begun_after, by_steps}
 use Rattle.tcp_progress.proofs.Opened.{is_open}
 use Rattle.tcp_progress.proofs.PairTimers.{timer_near}
@@ -255,16 +255,7 @@ reached_whatever (suc n) p q side course read wait delay now r o s there c reads
 
     -- what isn't acknowledged was written
     wrote : (it : Cut now limit wait course) → 1 ≤ left_in p side → HasStream (past_at (mid it) side)
-    wrote it owes = inr (more (length (past_at p side).written) (length (past_at (mid it) side).written) (first c.stream) (to_mid it side).written) where
-      more : (a b : ℕ) → 1 ≤ a → a ≤ b → 1 ≤ b
-      more a b e f = omega arith
-
-      some : (written : ℕ) {fin left : ℕ} → fin ≡ 0 → left ≤ written + fin → 1 ≤ left → 1 ≤ written
-      some written e f g = omega arith
-
-      first : HasStream (past_at p side) → 1 ≤ length (past_at p side).written
-      first (inl unclosed) = some (length (past_at p side).written) (ap one_if unclosed) (left_within p side r (open_of p side o)) owes
-      first (inr it) = it
+    wrote it owes = stream_since p (mid it) side r (open_of p side o) owes (to_mid it side) c.stream
 
     one_span : (it : Cut now limit wait course) → 1 ≤ left_in p side → HasRisen p (mid it) side ⊎ HasRisen p (mid it) (other side)
     one_span it owes =

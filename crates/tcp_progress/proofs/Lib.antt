@@ -91,12 +91,14 @@ pub mod ProbeGoes
 pub mod AgainGoes
 pub mod CourseGoes
 pub mod CourseParts
+pub mod CourseStands
 pub mod CourseOwes
 pub mod CourseSpans
 pub mod Frees
 pub mod Idles
 pub mod OrWaits
 pub mod CourseIdle
+pub mod CourseBegins
 pub mod CourseWindows
 pub mod CourseThrough
 pub mod Accepted

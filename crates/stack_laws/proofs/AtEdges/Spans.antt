@@ -24,6 +24,7 @@ use Rattle.tcp_progress.proofs.CourseIdle.{wants_soon}
 use Rattle.tcp_progress.proofs.CourseParts.{Course, after_all, asks_first, clocked_first, end_parts, steps_first, taken_first, through_now, through_rest}
 use Rattle.tcp_progress.proofs.CourseRuns.{wants}
 use Rattle.tcp_progress.proofs.CourseSpans.{Cut, all_reached, first_span, no_less, one_more, other_spans, times_suc}
+use Rattle.tcp_progress.proofs.CourseStands.{Stands}
 use Rattle.tcp_progress.proofs.Kept.{reached_by}
 use Rattle.tcp_progress.proofs.LateText.{open_of}
 use Rattle.tcp_progress.proofs.OnwardPairs.{MovesIn, begun, stays}
@@ -31,7 +32,6 @@ use Rattle.tcp_progress.proofs.PairTimers.{timer_near}
 use Rattle.tcp_progress.proofs.PutOff.{is_running}
 use Rattle.stack_laws.specs.Progress.Edges.{ArrivesBy, ArrivesInTime, ArrivesWith, ArrivesWithin, KeepsStream, edge_span}
 use Rattle.stack_laws.proofs.AtEdges.Comes.{Here, from_here, here_at, moves_between, open_here, step_on, stream_now, there_here}
-use Rattle.stack_laws.proofs.AtEdges.Owing.{Stands}
 use Rattle.stack_laws.proofs.AtEdges.Whole.{goes_on}
 
 -- MOMENTS

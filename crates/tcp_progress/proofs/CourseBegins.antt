@@ -28,8 +28,8 @@ use Rattle.tcp_progress.specs.Readers.{IsReadBy, Reads, ReadsWithin}
 use Rattle.tcp_progress.specs.Rounds.{takes}
 use Rattle.tcp_progress.specs.Sent.{taken_in}
 use Rattle.tcp_progress.proofs.CourseGoes.{Goes, begins_anew, sent_all}
-use Rattle.stack_laws.proofs.AtEdges.Idle.{Open, idle_out}
-use Rattle.stack_laws.proofs.AtEdges.Owing.{Gets, Stands, State, acked_to_end, back, lift, moves, open_at, stands_first, stands_on, still_owes, tail}
+use Rattle.tcp_progress.proofs.CourseIdle.{Open, idle_out}
+use Rattle.tcp_progress.proofs.CourseStands.{Gets, Stands, State, acked_to_end, back, lift, moves, open_at, stands_first, stands_on, still_owes, tail}
 use Rattle.tcp_progress.proofs.CourseParts.{Course, there_before}
 use Rattle.tcp_progress.proofs.CourseRuns.{Start, runs_in_course}
 use Rattle.tcp_progress.proofs.Frees.{frees_on, reads_free}
@@ -250,7 +250,7 @@ module _ (q : PairValue) (side : Side) (there : AreThere q) (wait reserve : ℕ)
   lasts_all p course m x rest l = (l.0.1, (behind_on wait m x rest l.1.0, stands_on p course m x rest l.1.1))
 
   abbrev Gets_ : PairValue → Course → Type 0
-  Gets_ p course = Gets q side there wait reserve p course
+  Gets_ p course = Gets q side reserve p course
 
   abbrev Open_ : PairValue → ℤ → Course → Type 0
   Open_ p now course = Open q side there wait reserve p now course
@@ -268,7 +268,7 @@ module _ (q : PairValue) (side : Side) (there : AreThere q) (wait reserve : ℕ)
   module _ (p : PairValue) (now : ℤ) (course : Course) (o : Open_ p now course) (same : acked_in q side ≤ acked_in p side)
       (st : Start (Lasts_ p course) p q side now ((now +ℤ pos (put_off_in p side)) +ℤ pos wait) course)
       (over : (((now +ℤ pos (put_off_in p side)) +ℤ pos wait) +ℤ pos (wait + 60_000_000 + wait + reserve)) <ℤ end_of now course) where
-    abbrev h : State q side there wait reserve p now course
+    abbrev h : State q side there wait p now course
     h = o.state
 
     abbrev mid : PairValue
@@ -278,7 +278,7 @@ module _ (q : PairValue) (side : Side) (there : AreThere q) (wait reserve : ℕ)
     after = takes mid st.x.1
 
     mine_p : IsOpen (socket_of p side).block
-    mine_p = open_at q side there wait reserve p now course side h
+    mine_p = open_at q side there wait p now course side h
 
     to_mid : (of : Side) → MovesIn p mid of
     to_mid of = by_steps p st.before_it mid h.reached h.a h.b st.steps of
@@ -336,7 +336,7 @@ module _ (q : PairValue) (side : Side) (there : AreThere q) (wait reserve : ℕ)
     stands_then = stands_on p course mid st.x st.rest st.has.1.1
 
     behind : Gets_ after st.rest → Gets_ p course
-    behind gets = back q side there wait reserve p after course st.rest stands_then p_after gets
+    behind gets = back q side reserve p after course st.rest stands_then p_after gets
 
     here : IsHere mid side st.x.1
     here = record {
@@ -429,11 +429,11 @@ module _ (q : PairValue) (side : Side) (there : AreThere q) (wait reserve : ℕ)
       (h.in_time.taken, (behind_of wait now p course h.in_time.clocked h.in_time.asks, stands_first p course))
       (less_time ((now +ℤ pos (put_off_in p side)) +ℤ pos wait) (end_of now course) (wait + 60_000_000 + wait + reserve) over_all))
     where
-      h : State q side there wait reserve p now course
+      h : State q side there wait p now course
       h = o.state
 
       opened : (of : Side) → IsOpen (socket_of p of).block
-      opened of = open_at q side there wait reserve p now course of h
+      opened of = open_at q side there wait p now course of h
 
       over_all : (((now +ℤ pos (put_off_in p side)) +ℤ pos wait) +ℤ pos (wait + 60_000_000 + wait + reserve)) <ℤ end_of now course
       over_all = runs_sum now (end_of now course) (put_off_in p side) over
@@ -474,17 +474,17 @@ module _ (q : PairValue) (side : Side) (there : AreThere q) (wait reserve : ℕ)
 
   -- a user whose buffer is full is waited for
   read_gets :
-      (p : PairValue) (now : ℤ) (course : Course) (last : ℤ) → State q side there wait reserve p now course → now ≤ℤ last
+      (p : PairValue) (now : ℤ) (course : Course) (last : ℤ) → State q side there wait p now course → now ≤ℤ last
       → IsReadBy last (other side) course → (last +ℤ pos (open_time p)) <ℤ end_of now course → Gets_ p course
   read_gets p now [] last h before reads over = absurd (not_both last now before (less_time last now (open_time p) over))
   read_gets p now (x ∷ course) last h before reads over =
       by
-      (λ (state : State q side there wait reserve (takes p x.1) x.0 course) (more : IsReadBy last (other side) course).
+      (λ (state : State q side there wait (takes p x.1) x.0 course) (more : IsReadBy last (other side) course).
       read_gets (takes p x.1) x.0 course last state reads.0 more over_on)
       (nat_lt (acked_in p side) (acked_in (takes p x.1) side)) refl
     where
       first : (of : Side) → MovesIn p (takes p x.1) of
-      first of = moves q side there wait reserve p now x course h of
+      first of = moves q side there wait p now x course h of
 
       same_time : open_time (takes p x.1) ≡ open_time p
       same_time =
@@ -494,18 +494,18 @@ module _ (q : PairValue) (side : Side) (there : AreThere q) (wait reserve : ℕ)
       over_on = subst (λ (n : ℕ). (last +ℤ pos n) <ℤ end_of x.0 course) (sym same_time) over
 
       lifted : Gets_ (takes p x.1) course → Gets_ p (x ∷ course)
-      lifted gets = lift q side there wait reserve p now x course h gets
+      lifted gets = lift q side there wait p now x course h reserve gets
 
       Rest : Type 0
-      Rest = State q side there wait reserve (takes p x.1) x.0 course → IsReadBy last (other side) course → Gets_ (takes p x.1) course
+      Rest = State q side there wait (takes p x.1) x.0 course → IsReadBy last (other side) course → Gets_ (takes p x.1) course
 
-      read_now : State q side there wait reserve (takes p x.1) x.0 course → Reads (other side) x.1 → Gets_ (takes p x.1) course
+      read_now : State q side there wait (takes p x.1) x.0 course → Reads (other side) x.1 → Gets_ (takes p x.1) course
       read_now state reads_it =
           open_gets (takes p x.1) x.0 course
           (record { state = state; free = reads_free p x.1 (other side) reads_it h.in_time.room })
           (sooner x.0 last (end_of x.0 course) (open_time (takes p x.1)) reads.0 over_on)
 
-      on : Rest → State q side there wait reserve (takes p x.1) x.0 course → Reads (other side) x.1 ⊎ IsReadBy last (other side) course → Gets_ (takes p x.1) course
+      on : Rest → State q side there wait (takes p x.1) x.0 course → Reads (other side) x.1 ⊎ IsReadBy last (other side) course → Gets_ (takes p x.1) course
       on rest state (inl reads_it) = read_now state reads_it
       on rest state (inr more) = rest state more
 
@@ -517,12 +517,12 @@ module _ (q : PairValue) (side : Side) (there : AreThere q) (wait reserve : ℕ)
           inl
           (inl
           (less (acked_in p side) (acked_in (takes p x.1) side) (acked_in q side) (ltb-true (acked_in p side) (acked_in (takes p x.1) side) e)
-          (acked_to_end q side there wait reserve p now x course h)))
+          (acked_to_end q side there wait p now x course h)))
       by rest false e =
           lifted
           (on rest
-          (tail q side there wait reserve p now x course h
-          (still_owes q side there wait reserve p now x course h (ltb-false (acked_in p side) (acked_in (takes p x.1) side) e)))
+          (tail q side there wait p now x course h
+          (still_owes q side there wait p now x course h (ltb-false (acked_in p side) (acked_in (takes p x.1) side) e)))
           reads.1)
 
   whole_sum : (now end : ℤ) (read put : ℕ) → (now +ℤ pos (read + 60_000_000 + wait + wait + (put + wait + reserve))) <ℤ end →
@@ -530,7 +530,7 @@ module _ (q : PairValue) (side : Side) (there : AreThere q) (wait reserve : ℕ)
   whole_sum now end read put e = first_of (omega (arith, ints), grind (arith, ints))
 
   pub all_gets :
-      (p : PairValue) (now : ℤ) (course : Course) (read : ℕ) → State q side there wait reserve p now course
+      (p : PairValue) (now : ℤ) (course : Course) (read : ℕ) → State q side there wait p now course
       → ReadsWithin read now p (other side) course → (now +ℤ pos (read + 60_000_000 + wait + wait + (put_off_in p side + wait + reserve))) <ℤ end_of now course → Gets_ p course
   all_gets p now course read h reads over = by (nat_lt 0 (free_in (socket_of p (other side)))) refl where
     over_all : ((now +ℤ pos read) +ℤ pos (open_time p)) <ℤ end_of now course
@@ -543,7 +543,7 @@ module _ (q : PairValue) (side : Side) (there : AreThere q) (wait reserve : ℕ)
     some n e = omega arith
 
     shut :
-        (course : Course) → State q side there wait reserve p now course → ReadsWithin read now p (other side) course
+        (course : Course) → State q side there wait p now course → ReadsWithin read now p (other side) course
         → ((now +ℤ pos read) +ℤ pos (open_time p)) <ℤ end_of now course → free_in (socket_of p (other side)) ≡ 0 → Gets_ p course
     shut [] h reads over none = absurd (not_both (now +ℤ pos read) now (later now read) (less_time (now +ℤ pos read) now (open_time p) over))
     shut (x ∷ course) h reads over none =
