@@ -12,7 +12,6 @@ use Rattle.tcp_rules.specs.OpenOffer.{OpenOffer}
 use Rattle.tcp_rules.specs.States.{is_closed}
 use Rattle.tcp_rules.specs.Timing.{carries}
 use Rattle.tcp_rules.proofs.OrderSteps.{clash}
-use Rattle.tcp_model.specs.Blocks.{one_if}
 use Rattle.tcp_model.specs.Offers.{offer_of}
 use Rattle.tcp_model.specs.Segments.{segment_len}
 use Rattle.tcp_model.specs.Settled.{settled}
@@ -38,7 +37,6 @@ use Rattle.tcp_progress.specs.PutOff.{RunsOutIn}
 use Rattle.tcp_progress.specs.Reached.{IsReached}
 use Rattle.tcp_progress.specs.Restart.{Sends, first_cwnd, worth_sending}
 use Rattle.tcp_progress.specs.Rounds.{takes}
-use Rattle.tcp_progress.specs.Sent.{taken_in}
 use Rattle.tcp_progress.proofs.AgainGoes.{anew_some, survives}
 use Rattle.tcp_progress.proofs.CourseExchange.{exchange_in_time}
 use Rattle.tcp_progress.proofs.CourseRuns.{Start, starts_in_course}

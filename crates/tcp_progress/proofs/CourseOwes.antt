@@ -1,6 +1,6 @@
 -- A side that owes something, and has nothing in flight, is asked and sends, where both windows let it.
-use Rattle.std.proofs.Common.{◌≡◌, ◌⊎◌, inl, inr, ℕ, zero, suc, ◌+◌, ◌-◌, ◌*◌, ◌<◌, ◌≤◌, ◌==◌, nat_le, nat_lt, max, ℤ, pos, ◌+ℤ◌, ◌≤ℤ◌, ◌<ℤ◌, Bool}
-use Rattle.std.proofs.Common.{true, false, if◌then◌else◌, [], ◌∷◌, length, Some, refl, sym, ap, ◌∙◌, subst, arith}
+use Rattle.std.proofs.Common.{◌≡◌, ◌⊎◌, inl, inr, ℕ, zero, suc, ◌+◌, ◌*◌, ◌<◌, ◌≤◌, ◌==◌, nat_le, nat_lt, max, ℤ, pos, ◌+ℤ◌, ◌≤ℤ◌, ◌<ℤ◌, Bool}
+use Rattle.std.proofs.Common.{true, false, if◌then◌else◌, [], ◌∷◌, Some, refl, sym, ap, ◌∙◌, subst, arith}
 use Rattle.std.proofs.lemmas.Bool.{eqb-true, leb-false, leb-true, ltb-false, ltb-true}
 use Rattle.std.proofs.lemmas.Int.{ints}
 use Rattle.tcp_tie.specs.Offers.{IsBefore}
@@ -10,7 +10,6 @@ use Rattle.tcp_rules.specs.EndpointPair.{EndpointPair}
 use Rattle.tcp_rules.specs.Moments.{is_due}
 use Rattle.tcp_rules.proofs.OfferCases.{begun as asked_with}
 use Rattle.tcp_rules.proofs.OrderSteps.{clash}
-use Rattle.tcp_model.specs.Blocks.{one_if}
 use Rattle.tcp_tie.specs.Pair.Sides.{at, other}
 use Rattle.tcp_tie.specs.Pair.Steps.{Steps}
 use Rattle.tcp_model.specs.Value.{TcpValue, room_of}
@@ -20,7 +19,7 @@ use Rattle.tcp_tie.specs.declared.pair.event.PairEvent.TheVariants.{Listen, Conn
 use Rattle.tcp_tie.specs.declared.pair.event.Side.{Side}
 use Rattle.tcp_tie.specs.declared.pair.event.Side.TheVariants.{A, B}
 use Rattle.tcp_progress.specs.Arrivals.{is_synchronized}
-use Rattle.tcp_progress.specs.BothWays.{AreThere, total_in}
+use Rattle.tcp_progress.specs.BothWays.{AreThere}
 use Rattle.tcp_progress.specs.Course.{Asks, DeliversWithin, GoesInTime, IsAskedBy, IsHinderedAmong, IsHinderedIn, IsShutAmong, Wants, end_of, events_of, span_of}
 use Rattle.tcp_progress.specs.Exchange.{IsOpen}
 use Rattle.tcp_progress.specs.Late.{sent_by}
@@ -29,7 +28,6 @@ use Rattle.tcp_progress.specs.Pair.{HasStream, context_of, left_in, mtu_of, next
 use Rattle.tcp_progress.specs.Reached.{IsReached}
 use Rattle.tcp_progress.specs.Restart.{Sends, first_cwnd, worth_sending}
 use Rattle.tcp_progress.specs.Rounds.{takes}
-use Rattle.tcp_progress.specs.Sent.{taken_in}
 use Rattle.tcp_progress.specs.Spans.{IsHeldAmong, IsHeldIn}
 use Rattle.tcp_progress.proofs.AgainGoes.{survives}
 use Rattle.tcp_progress.proofs.CourseGoes.{Goes, exchanges, goes_on_in_time, offered_there, shut_hinders}

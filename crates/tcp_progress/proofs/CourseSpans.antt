@@ -30,7 +30,7 @@ use Rattle.tcp_progress.proofs.CourseParts.{steps_first, steps_rest, taken_first
 use Rattle.tcp_progress.proofs.CourseOwes.{IsWide, owed_in_time, wants_idle, wide_or_held}
 use Rattle.tcp_progress.proofs.CourseRuns.{wants}
 use Rattle.tcp_progress.proofs.Kept.{reached_by}
-use Rattle.tcp_progress.proofs.LateText.{left_within, open_of, stream_since, there_of}
+use Rattle.tcp_progress.proofs.LateText.{open_of, stream_since, there_of}
 use Rattle.tcp_progress.proofs.OnwardPairs.{IsBegun, MovesIn, begun, begun_after, by_steps}
 use Rattle.tcp_progress.proofs.Opened.{is_open}
 use Rattle.tcp_progress.proofs.PairTimers.{timer_near}

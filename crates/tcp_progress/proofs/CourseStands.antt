@@ -1,5 +1,5 @@
 -- A side that owes something, in a course in which it is asked in time: what is left of the course with each event.
-use Rattle.std.proofs.Common.{◌≡◌, ◌⊎◌, inl, inr, ℕ, ◌+◌, ◌-◌, ◌<◌, ◌≤◌, ℤ, pos, ◌+ℤ◌, ◌≤ℤ◌, ◌<ℤ◌, [], ◌∷◌, ◌++◌, refl, sym, ap, ◌∙◌, subst, arith}
+use Rattle.std.proofs.Common.{◌≡◌, ◌⊎◌, inl, inr, ℕ, ◌+◌, ◌-◌, ◌≤◌, ℤ, pos, ◌+ℤ◌, ◌≤ℤ◌, ◌<ℤ◌, [], ◌∷◌, ◌++◌, refl, sym, ap, ◌∙◌, subst, arith}
 use Rattle.std.proofs.Common.{true, append_assoc}
 use Rattle.tcp_model.specs.Value.{free_in, room_of}
 use Rattle.tcp_tie.specs.Pair.Sides.{at, other}
@@ -16,7 +16,6 @@ use Rattle.tcp_progress.specs.Onward.{HasRisen, acked_in}
 use Rattle.tcp_progress.specs.Pair.{left_in, socket_of}
 use Rattle.tcp_progress.specs.Reached.{IsReached}
 use Rattle.tcp_progress.specs.Rounds.{takes}
-use Rattle.tcp_progress.specs.Sent.{taken_in}
 use Rattle.tcp_progress.proofs.CourseGoes.{Goes}
 use Rattle.tcp_progress.proofs.CourseParts.{Course, after_all, clock_on, steps_first, steps_rest, there_before}
 use Rattle.tcp_progress.proofs.Kept.{reached_by}

@@ -1,10 +1,9 @@
 -- In each span of a course in which users read a position is reached, until all is acknowledged.
-use Rattle.std.proofs.Common.{◌≡◌, ◌⊎◌, inl, inr, ℕ, zero, suc, ◌+◌, ◌-◌, ◌*◌, ◌<◌, ◌≤◌, ◌==◌, max, ℤ, pos, ◌+ℤ◌, ◌≤ℤ◌, ◌<ℤ◌, int_lt, Bool, true, false, []}
-use Rattle.std.proofs.Common.{◌∷◌, ◌++◌, length, Option, Some, None, refl, sym, ap, ◌∙◌, subst, arith}
+use Rattle.std.proofs.Common.{◌≡◌, ◌⊎◌, inl, inr, ℕ, zero, suc, ◌+◌, ◌-◌, ◌*◌, ◌≤◌, ◌==◌, max, ℤ, pos, ◌+ℤ◌, ◌≤ℤ◌, ◌<ℤ◌, int_lt, Bool, true, false, []}
+use Rattle.std.proofs.Common.{◌∷◌, ◌++◌, Option, Some, None, refl, sym, ap, ◌∙◌, subst, arith}
 use Rattle.std.proofs.lemmas.Bool.{eqb-true}
 use Rattle.std.proofs.lemmas.Int.{ints}
 use Rattle.tcp_rules.proofs.OrderSteps.{clash}
-use Rattle.tcp_model.specs.Blocks.{one_if}
 use Rattle.tcp_tie.specs.Pair.Sides.{at, other}
 use Rattle.tcp_tie.specs.Pair.Steps.{Steps}
 use Rattle.tcp_tie.specs.Pair.Values.{PairValue, past_at}
@@ -29,7 +28,7 @@ use Rattle.tcp_progress.proofs.CourseRuns.{wants}
 use Rattle.tcp_progress.proofs.CourseSpans.{Cut, all_reached, first_span, no_less, one_more, other_spans, times_suc}
 use Rattle.tcp_progress.proofs.CourseWindows.{gets_on}
 use Rattle.tcp_progress.proofs.Kept.{reached_by}
-use Rattle.tcp_progress.proofs.LateText.{left_within, open_of, stream_since, there_of}
+use Rattle.tcp_progress.proofs.LateText.{open_of, stream_since, there_of}
 use Rattle.tcp_progress.proofs.OnwardPairs.{IsBegun, MovesIn, begun, begun_after, by_steps}
 use Rattle.tcp_progress.proofs.Opened.{is_open}
 use Rattle.tcp_progress.proofs.PairTimers.{timer_near}

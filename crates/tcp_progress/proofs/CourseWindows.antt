@@ -1,10 +1,10 @@
 -- A side that owes something gets on, whatever its windows are, where the other's user reads.
-use Rattle.std.proofs.Common.{◌≡◌, ◌⊎◌, inl, inr, ℕ, ◌+◌, ◌≤◌, ℤ, pos, ◌+ℤ◌, ◌<ℤ◌, ◌∷◌, refl, sym, subst, arith}
+use Rattle.std.proofs.Common.{◌⊎◌, inl, inr, ℕ, ◌+◌, ◌≤◌, ℤ, pos, ◌+ℤ◌, ◌<ℤ◌, ◌∷◌, sym, subst, arith}
 use Rattle.std.proofs.lemmas.Int.{ints}
 use Rattle.tcp_tie.specs.Pair.Sides.{other}
 use Rattle.tcp_tie.specs.Pair.Steps.{Steps}
 use Rattle.tcp_model.specs.Value.{room_of}
-use Rattle.tcp_tie.specs.Pair.Values.{PairValue, past_at}
+use Rattle.tcp_tie.specs.Pair.Values.{PairValue}
 use Rattle.tcp_tie.specs.declared.pair.event.Side.{Side}
 use Rattle.tcp_tie.specs.declared.pair.event.Side.TheVariants.{A, B}
 use Rattle.tcp_progress.specs.Anew.{put_off_in}
