@@ -29,6 +29,7 @@ use Rattle.tcp_progress.specs.Rounds.{takes}
 use Rattle.tcp_progress.specs.Sent.{taken_in}
 use Rattle.tcp_progress.proofs.CourseGoes.{Goes, begins_anew, sent_all}
 use Rattle.tcp_progress.proofs.CourseIdle.{Open, idle_out}
+use Rattle.tcp_progress.proofs.CourseMoments.{at_most, later, less_time, not_both, sooner}
 use Rattle.tcp_progress.proofs.CourseStands.{Gets, Stands, State, acked_to_end, back, lift, moves, open_at, stands_first, stands_on, still_owes, tail}
 use Rattle.tcp_progress.proofs.CourseParts.{Course, there_before}
 use Rattle.tcp_progress.proofs.CourseRuns.{Start, runs_in_course}
@@ -41,26 +42,6 @@ use Rattle.tcp_progress.proofs.Opened.{is_open}
 use Rattle.tcp_progress.proofs.OrWaits.{IsBare, WaitsIn, goes_or_waits}
 use Rattle.tcp_progress.proofs.PutOff.{is_running}
 use Rattle.tcp_progress.proofs.PutOffRuns.{begun_of}
-
--- MOMENTS
-
-itself : (a : ℤ) → a ≤ℤ a
-itself a = grind arith
-
-upto : (a b c : ℤ) → a ≤ℤ b → b ≤ℤ c → a ≤ℤ c
-upto a b c e f = grind arith
-
-not_both : (last end : ℤ) → end ≤ℤ last → last <ℤ end → ⊥
-not_both last end e f = first_of (omega (arith, ints), grind (arith, ints))
-
-later : (now : ℤ) (n : ℕ) → now ≤ℤ (now +ℤ pos n)
-later now n = first_of (omega (arith, ints), grind (arith, ints))
-
-less_time : (a end : ℤ) (n : ℕ) → (a +ℤ pos n) <ℤ end → a <ℤ end
-less_time a end n e = first_of (omega (arith, ints), grind (arith, ints))
-
-sooner : (a b end : ℤ) (n : ℕ) → a ≤ℤ b → (b +ℤ pos n) <ℤ end → (a +ℤ pos n) <ℤ end
-sooner a b end n e f = first_of (omega (arith, ints), grind (arith, ints))
 
 -- FREE SPACE, THROUGH EVENTS
 
@@ -192,15 +173,12 @@ starts_or_idles p side (Clock of moment) (inr never) taken h = absurd never
 starts_or_idles p side (Deliver from k) (inl never) taken h = absurd never
 starts_or_idles p side (Deliver from k) (inr never) taken h = absurd never
 
-equal : (a b : ℤ) → a ≡ b → a ≤ℤ b
-equal a b e = subst (λ (m : ℤ). a ≤ℤ m) e (itself a)
-
 -- the clock of a side that starts so is the one of the course
 clock_at :
     (p : PairValue) (now : ℤ) (side : Side) (event : PairEvent) → RunsOutIn p side event ⊎ BeginsAnewIn p side event → IsTaken event → IsAt now event
     → (at (takes p event).sides side).moment ≤ℤ now
-clock_at p now A (Offer A moment true) starts taken is = equal moment now is
-clock_at p now B (Offer B moment true) starts taken is = equal moment now is
+clock_at p now A (Offer A moment true) starts taken is = at_most moment now is
+clock_at p now B (Offer B moment true) starts taken is = at_most moment now is
 clock_at p now A (Offer B moment true) (inl out) taken is = absurd (let no = out.0 in cc)
 clock_at p now B (Offer A moment true) (inl out) taken is = absurd (let no = out.0 in cc)
 clock_at p now A (Offer B moment true) (inr anew) taken is = absurd (let no = anew.0 in cc)

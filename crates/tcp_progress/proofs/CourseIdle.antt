@@ -1,9 +1,8 @@
 -- A side with nothing in flight, and no timer, sends from SND.UNA on within a minute and twice what it is let wait, whatever its windows are.
 use Rattle.std.proofs.Common.{◌≡◌, ◌⊎◌, inl, inr, ℕ, zero, suc, ◌+◌, ◌-◌, ◌/◌, ◌<◌, ◌≤◌, ◌==◌, nat_lt, ◌&&◌, not, min, max, ℤ, pos, ◌+ℤ◌, ◌≤ℤ◌}
-use Rattle.std.proofs.Common.{◌<ℤ◌, int_lt, int_le, Bool, true, false}
+use Rattle.std.proofs.Common.{◌<ℤ◌, int_lt, Bool, true, false}
 use Rattle.std.proofs.Common.{if◌then◌else◌, [], ◌∷◌, length, Option, Some, None, is_none, is_some, refl, sym, ap, ◌∙◌, subst, arith}
 use Rattle.std.proofs.lemmas.Bool.{eq-eqb, eqb-true, ltb-false, ltb-true}
-use Rattle.std.proofs.lemmas.Int.{ints}
 use Rattle.tcp_tie.specs.Offers.{IsBefore}
 use Rattle.tcp_tie.specs.PollAt.{PollAt}
 use Rattle.tcp_tie.specs.Tie.{IsConnectedAs, Keeps, Past, core_of, is_closed_in, unsent}
@@ -40,6 +39,7 @@ use Rattle.tcp_progress.specs.Reached.{IsReached}
 use Rattle.tcp_progress.specs.Rounds.{takes}
 use Rattle.tcp_progress.specs.Sent.{taken_in}
 use Rattle.tcp_progress.proofs.CourseGoes.{Goes}
+use Rattle.tcp_progress.proofs.CourseMoments.{below, come, itself, later, less_time, more_time, not_below, not_both, sooner, upto}
 use Rattle.tcp_progress.proofs.CourseParts.{Course}
 use Rattle.tcp_progress.proofs.CourseRuns.{poll_is}
 use Rattle.tcp_progress.proofs.CourseStands.{Gets, State, acked_to_end, from_m, lift as lifted, moves, open_at, open_m, rm, stands_first, still_owes, tail, there_m}
@@ -57,44 +57,6 @@ use Rattle.tcp_progress.proofs.PairTimers.{probe_near}
 use Rattle.tcp_progress.proofs.PutOffProbes.{held_back}
 use Rattle.tcp_progress.proofs.Resent.{again_sent}
 use Rattle.tcp_progress.proofs.Resumes.{StartsWith, both}
-
--- MOMENTS
-
-not_both : (last end : ℤ) → end ≤ℤ last → last <ℤ end → ⊥
-not_both last end e f = first_of (omega (arith, ints), grind (arith, ints))
-
-upto : (a b c : ℤ) → a ≤ℤ b → b ≤ℤ c → a ≤ℤ c
-upto a b c e f = grind arith
-
-itself : (a : ℤ) → a ≤ℤ a
-itself a = grind arith
-
-later : (now : ℤ) (n : ℕ) → now ≤ℤ (now +ℤ pos n)
-later now n = first_of (omega (arith, ints), grind (arith, ints))
-
-more_time : (a b : ℤ) (n : ℕ) → a ≤ℤ b → (a +ℤ pos n) ≤ℤ (b +ℤ pos n)
-more_time a b n e = first_of (omega (arith, ints), grind (arith, ints))
-
-below : (due now : ℤ) → int_lt due now ≡ true → due ≤ℤ now
-below due now e = first_of (omega (arith, ints), grind (arith, ints))
-
-not_below : (due now : ℤ) → int_lt due now ≡ false → now ≤ℤ due
-not_below due now e = first_of (omega (arith, ints), grind (arith, ints))
-
-come : (when now : ℤ) → when ≤ℤ now → is_due now (Some when) ≡ true
-come when now e = by (int_le when now) refl where
-  never : int_le when now ≡ false → ⊥
-  never so = first_of (omega (arith, ints), grind (arith, ints))
-
-  by : (due : Bool) → int_le when now ≡ due → due ≡ true
-  by true so = refl
-  by false so = absurd (never so)
-
-sooner : (a b end : ℤ) (n : ℕ) → a ≤ℤ b → (b +ℤ pos n) <ℤ end → (a +ℤ pos n) <ℤ end
-sooner a b end n e f = first_of (omega (arith, ints), grind (arith, ints))
-
-less_time : (a end : ℤ) (n : ℕ) → (a +ℤ pos n) <ℤ end → a <ℤ end
-less_time a end n e = first_of (omega (arith, ints), grind (arith, ints))
 
 -- WHETHER IT IS ASKED
 

@@ -1,5 +1,5 @@
 -- A side that owes something, and has nothing in flight, is asked and sends, where both windows let it.
-use Rattle.std.proofs.Common.{◌≡◌, ◌⊎◌, inl, inr, ℕ, zero, suc, ◌+◌, ◌*◌, ◌<◌, ◌≤◌, ◌==◌, nat_le, nat_lt, max, ℤ, pos, ◌+ℤ◌, ◌≤ℤ◌, ◌<ℤ◌, Bool}
+use Rattle.std.proofs.Common.{◌≡◌, ◌⊎◌, inl, inr, ℕ, ◌+◌, ◌*◌, ◌<◌, ◌≤◌, ◌==◌, nat_le, nat_lt, max, ℤ, pos, ◌+ℤ◌, ◌≤ℤ◌, ◌<ℤ◌, Bool}
 use Rattle.std.proofs.Common.{true, false, if◌then◌else◌, [], ◌∷◌, Some, refl, sym, ap, ◌∙◌, subst, arith}
 use Rattle.std.proofs.lemmas.Bool.{eqb-true, leb-false, leb-true, ltb-false, ltb-true}
 use Rattle.std.proofs.lemmas.Int.{ints}
@@ -31,6 +31,7 @@ use Rattle.tcp_progress.specs.Rounds.{takes}
 use Rattle.tcp_progress.specs.Spans.{IsHeldAmong, IsHeldIn}
 use Rattle.tcp_progress.proofs.AgainGoes.{survives}
 use Rattle.tcp_progress.proofs.CourseGoes.{Goes, exchanges, goes_on_in_time, offered_there, shut_hinders}
+use Rattle.tcp_progress.proofs.CourseMoments.{later, less_time, not_both, sooner}
 use Rattle.tcp_progress.proofs.CourseRuns.{poll_is}
 use Rattle.tcp_progress.proofs.CourseParts.{Course, held_now}
 use Rattle.tcp_progress.proofs.CourseStands.{State as Owing, acked_to_end, moves, open_at, open_m, rm, still_owes, tail, there_m, timely}
@@ -45,11 +46,11 @@ use Rattle.tcp_progress.proofs.Resumes.{StartsWith, text}
 
 -- WHAT IT WANTS
 
-pub record IsWide (v : TcpValue) : Type 0 where
+record IsWide (v : TcpValue) : Type 0 where
   pub window : worth_sending v ≤ v.block.peer.window
   pub cwnd : worth_sending v ≤ v.block.reno.cwnd
 
-pub wide_or_held : (p : PairValue) (side : Side) → (socket_of p side).block.sender.in_flight ≡ 0 → IsWide (socket_of p side) ⊎ IsHeldIn p side
+wide_or_held : (p : PairValue) (side : Side) → (socket_of p side).block.sender.in_flight ≡ 0 → IsWide (socket_of p side) ⊎ IsHeldIn p side
 wide_or_held p side none = by (nat_le worth window) (nat_le worth cwnd) refl refl where
   worth : ℕ
   worth = worth_sending (socket_of p side)
@@ -66,7 +67,7 @@ wide_or_held p side none = by (nat_le worth window) (nat_le worth cwnd) refl ref
   by true false e f = inr (none, inr (leb-false worth cwnd f))
 
 -- it has text to send, and wants to be asked
-pub wants_idle :
+wants_idle :
     (p : PairValue) (side : Side) (due : ℤ) → IsReached p → IsOpen (socket_of p side).block → 1 ≤ left_in p side
     → (socket_of p side).block.sender.in_flight ≡ 0 → IsWide (socket_of p side) → Wants due p side
 wants_idle p side due r mine owes none wide before =
@@ -165,29 +166,11 @@ asked_sends p side (Deliver from k) never r mine owes none wide stays = absurd n
 
 -- MOMENTS
 
-not_both : (last end : ℤ) → end ≤ℤ last → last <ℤ end → ⊥
-not_both last end e f = first_of (omega (arith, ints), grind (arith, ints))
-
-later : (now : ℤ) (n : ℕ) → now ≤ℤ (now +ℤ pos n)
-later now n = first_of (omega (arith, ints), grind (arith, ints))
-
-sooner : (a b end : ℤ) (n : ℕ) → a ≤ℤ b → (b +ℤ pos n) <ℤ end → (a +ℤ pos n) <ℤ end
-sooner a b end n e f = first_of (omega (arith, ints), grind (arith, ints))
-
-less_time : (a end : ℤ) (n : ℕ) → (a +ℤ pos n) <ℤ end → a <ℤ end
-less_time a end n e = first_of (omega (arith, ints), grind (arith, ints))
-
 two_segments : (a end : ℤ) (more delay : ℕ) → (a +ℤ pos (more + delay + delay)) <ℤ end → ((a +ℤ pos delay) +ℤ pos delay) <ℤ end
 two_segments a end more delay e = first_of (omega (arith, ints), grind (arith, ints))
 
 waits_first : (a end : ℤ) (wait span : ℕ) → (a +ℤ pos (wait + span)) <ℤ end → ((a +ℤ pos wait) +ℤ pos span) <ℤ end
 waits_first a end wait span e = first_of (omega (arith, ints), grind (arith, ints))
-
-positive : (n : ℕ) → (n == 0) ≡ false → 1 ≤ n
-positive zero e = clash e
-positive (suc n) e = one n where
-  one : (n : ℕ) → 1 ≤ suc n
-  one n = omega arith
 
 -- THE COURSE
 

@@ -82,6 +82,7 @@ pub mod PutOffProbes
 pub mod Mending
 pub mod MendingEvents
 pub mod MendingRuns
+pub mod CourseMoments
 pub mod CourseRuns
 pub mod Inside
 pub mod CourseExchange
@@ -99,6 +100,7 @@ pub mod Idles
 pub mod OrWaits
 pub mod CourseIdle
 pub mod CourseBegins
+pub mod CourseCuts
 pub mod CourseWindows
 pub mod CourseThrough
 pub mod Accepted

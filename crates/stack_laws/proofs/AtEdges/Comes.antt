@@ -1,6 +1,5 @@
 -- A pair in a course in which each segment comes in time, and the segments that come.
 use Rattle.std.proofs.Common.{◌≡◌, ◌⊎◌, inl, inr, ℕ, ◌+◌, ◌-◌, ◌<◌, ◌≤◌, ℤ, ◌≤ℤ◌, ◌<ℤ◌, false, true, [], ◌∷◌, ◌++◌, Some, slice_get, refl, sym, subst, arith}
-use Rattle.std.proofs.lemmas.Int.{ints}
 use Rattle.tcp_tie.specs.Pair.Sides.{at, other}
 use Rattle.tcp_tie.specs.Pair.Steps.{Steps}
 use Rattle.tcp_tie.specs.Pair.Values.{PairValue, past_at}
@@ -20,6 +19,7 @@ use Rattle.tcp_progress.specs.Reached.{IsReached}
 use Rattle.tcp_progress.specs.Rounds.{takes}
 use Rattle.tcp_progress.specs.Sent.{taken_in}
 use Rattle.tcp_progress.proofs.CourseExchange.{sent_by}
+use Rattle.tcp_progress.proofs.CourseMoments.{not_both}
 use Rattle.tcp_progress.proofs.CourseParts.{Course, after_all, clock_on, there_before}
 use Rattle.tcp_progress.proofs.CourseStands.{Stands, stands_on, steps_to}
 use Rattle.tcp_progress.proofs.Kept.{reached_by}
@@ -29,9 +29,6 @@ use Rattle.tcp_progress.proofs.Opened.{is_open}
 use Rattle.stack_laws.specs.Progress.Edges.{ArrivesBy, ArrivesInTime, ArrivesWith, KeepsStream}
 
 -- A SEGMENT COMES
-
-not_both : (last end : ℤ) → end ≤ℤ last → last <ℤ end → ⊥
-not_both last end e f = first_of (omega (arith, ints), grind (arith, ints))
 
 -- where the segment `x` of a side, its number `k`, comes in a course
 pub record Comes (p : PairValue) (course : Course) (last : ℤ) (side : Side) (k : ℕ) (x : SentSegment) : Type 0 where

@@ -35,6 +35,7 @@ use Rattle.tcp_progress.specs.Readers.{whole_span}
 use Rattle.tcp_progress.specs.Rounds.{takes}
 use Rattle.tcp_progress.specs.Sent.{taken_in}
 use Rattle.tcp_progress.proofs.CourseBegins.{all_gets, free_through}
+use Rattle.tcp_progress.proofs.CourseMoments.{later, more_time, sooner, upto}
 use Rattle.tcp_progress.proofs.CourseParts.{Course}
 use Rattle.tcp_progress.proofs.CourseStands.{Begins, Gets, stands_first, stands_on}
 use Rattle.tcp_progress.proofs.Exchange.{last_of}
@@ -55,20 +56,8 @@ use Rattle.stack_laws.proofs.AtEdges.Sent.{follows_more}
 
 -- MOMENTS
 
-later : (now : ℤ) (n : ℕ) → now ≤ℤ (now +ℤ pos n)
-later now n = first_of (omega (arith, ints), grind (arith, ints))
-
-sooner : (a b end : ℤ) (n : ℕ) → a ≤ℤ b → (b +ℤ pos n) <ℤ end → (a +ℤ pos n) <ℤ end
-sooner a b end n e f = first_of (omega (arith, ints), grind (arith, ints))
-
 two_later : (a b c : ℤ) (n : ℕ) → a ≤ℤ b → b ≤ℤ (c +ℤ pos n) → a ≤ℤ (c +ℤ pos n)
 two_later a b c n e f = grind arith
-
-more_time : (a b : ℤ) (n : ℕ) → a ≤ℤ b → (a +ℤ pos n) ≤ℤ (b +ℤ pos n)
-more_time a b n e = first_of (omega (arith, ints), grind (arith, ints))
-
-upto : (a b c : ℤ) → a ≤ℤ b → b ≤ℤ c → a ≤ℤ c
-upto a b c e f = grind arith
 
 itself : (n : ℕ) → n ≤ n
 itself n = omega arith
