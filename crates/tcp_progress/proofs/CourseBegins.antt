@@ -31,14 +31,13 @@ use Rattle.tcp_progress.proofs.CourseGoes.{Goes, begins_anew, sent_all}
 use Rattle.tcp_progress.proofs.CourseIdle.{Open, idle_out}
 use Rattle.tcp_progress.proofs.CourseMoments.{at_most, later, less_time, not_both, sooner}
 use Rattle.tcp_progress.proofs.CourseStands.{Gets, Stands, State, acked_to_end, back, lift, moves, open_at, stands_first, stands_on, still_owes, tail}
-use Rattle.tcp_progress.proofs.CourseParts.{Course, there_before}
+use Rattle.tcp_progress.proofs.CourseParts.{Course, Midway, midway, there_before}
 use Rattle.tcp_progress.proofs.CourseRuns.{Start, runs_in_course}
 use Rattle.tcp_progress.proofs.Frees.{frees_on, reads_free}
 use Rattle.tcp_progress.proofs.Idles.{IsIdle}
 use Rattle.tcp_progress.proofs.Kept.{reached_by}
 use Rattle.tcp_progress.proofs.LateText.{left_within, there_of}
 use Rattle.tcp_progress.proofs.OnwardPairs.{IsBegun, MovesIn, begun_after, by_steps, then_moves}
-use Rattle.tcp_progress.proofs.Opened.{is_open}
 use Rattle.tcp_progress.proofs.OrWaits.{IsBare, WaitsIn, goes_or_waits}
 use Rattle.tcp_progress.proofs.PutOff.{is_running}
 use Rattle.tcp_progress.proofs.PutOffRuns.{begun_of}
@@ -258,47 +257,14 @@ module _ (q : PairValue) (side : Side) (there : AreThere q) (wait reserve : ℕ)
     mine_p : IsOpen (socket_of p side).block
     mine_p = open_at q side there wait p now course side h
 
-    to_mid : (of : Side) → MovesIn p mid of
-    to_mid of = by_steps p st.before_it mid h.reached h.a h.b st.steps of
+    at_mid : Midway p mid q
+    at_mid = midway p mid q h.reached (λ of. begun_of p of h.a h.b) there st.before_it (st.x.1 ∷ events_of st.rest) st.steps st.steps_on
 
-    rm : IsReached mid
-    rm = reached_by p mid st.before_it h.reached st.steps
-
-    begun_mid : (of : Side) → IsBegun mid of
-    begun_mid of = begun_after p mid of (to_mid of) (begun_of p of h.a h.b)
-
-    allowed : refusal mid st.x.1 ≡ None
-    allowed = st.steps_on.0
-
-    to_after : (of : Side) → MovesIn mid after of
-    to_after of = by_steps mid (st.x.1 ∷ []) after rm (begun_mid A) (begun_mid B) (allowed, refl) of
-
-    ra : IsReached after
-    ra = reached_by mid after (st.x.1 ∷ []) rm (allowed, refl)
-
-    begun_then : (of : Side) → IsBegun after of
-    begun_then of = begun_after mid after of (to_after of) (begun_mid of)
-
-    from_after : (of : Side) → MovesIn after q of
-    from_after of = by_steps after (events_of st.rest) q ra (begun_then A) (begun_then B) st.steps_on.1 of
-
-    from_mid : (of : Side) → MovesIn mid q of
-    from_mid of = then_moves mid after q of (to_after of) (from_after of)
+    at_after : Midway mid after q
+    at_after = midway mid after q at_mid.reached at_mid.begun there (st.x.1 ∷ []) (events_of st.rest) (st.steps_on.0, refl) st.steps_on.1
 
     p_after : (of : Side) → MovesIn p after of
-    p_after of = then_moves p mid after of (to_mid of) (to_after of)
-
-    there_mid : (of : Side) → is_synchronized (socket_of mid of).block.state ≡ true
-    there_mid of = there_before mid q of (begun_mid of) (from_mid of) (there_of q of there)
-
-    there_after : (of : Side) → is_synchronized (socket_of after of).block.state ≡ true
-    there_after of = there_before after q of (begun_then of) (from_after of) (there_of q of there)
-
-    open_mid : IsOpen (socket_of mid side).block
-    open_mid = is_open mid side rm (there_mid side) (begun_mid side).syn
-
-    open_after : IsOpen (socket_of after side).block
-    open_after = is_open after side ra (there_after side) (begun_then side).syn
+    p_after of = then_moves p mid after of (at_mid.to of) (at_after.to of)
 
     -- as long as no more is acknowledged, it owes something still
     owes_then : (m : PairValue) → MovesIn p m side → MovesIn m q side → left_in m side ≤ total_in m side → 1 ≤ left_in m side
@@ -318,21 +284,21 @@ module _ (q : PairValue) (side : Side) (there : AreThere q) (wait reserve : ℕ)
 
     here : IsHere mid side st.x.1
     here = record {
-      reached = rm;
-      mine = open_mid;
-      owes = owes_then mid (to_mid side) (from_mid side) (left_within mid side rm open_mid);
-      stays = there_after side;
+      reached = at_mid.reached;
+      mine = at_mid.opened side;
+      owes = owes_then mid (at_mid.to side) (at_mid.from side) (left_within mid side at_mid.reached (at_mid.opened side));
+      stays = (at_after.opened side).synchronized;
     }
 
     -- the course as it is behind that event
     after_open : 1 ≤ free_in (socket_of after (other side)) → Open_ after st.x.0 st.rest
     after_open free = record {
       state = record {
-        reached = ra;
-        a = begun_then A;
-        b = begun_then B;
+        reached = at_after.reached;
+        a = at_after.begun A;
+        b = at_after.begun B;
         steps = st.steps_on.1;
-        owes = owes_then after (p_after side) (from_after side) (left_within after side ra open_after);
+        owes = owes_then after (p_after side) (at_after.from side) (left_within after side at_after.reached (at_after.opened side));
         in_time = record {
           clock = clock_at mid st.x.0 side st.x.1 st.starts st.has.0.0 st.has.1.0.0;
           clocked = st.clocked;
@@ -370,7 +336,7 @@ module _ (q : PairValue) (side : Side) (there : AreThere q) (wait reserve : ℕ)
     started : Gets_ p course
     started =
         by_free
-        (free_through p after (other side) (st.before_it ++ (st.x.1 ∷ [])) h.reached h.a h.b all_steps (there_after (other side))
+        (free_through p after (other side) (st.before_it ++ (st.x.1 ∷ [])) h.reached h.a h.b all_steps (at_after.opened (other side)).synchronized
         o.free)
       where
         steps_to : (a b c : PairValue) (before : List PairEvent) (event : PairEvent) → Steps a before b → refusal b event ≡ None →
@@ -379,7 +345,7 @@ module _ (q : PairValue) (side : Side) (there : AreThere q) (wait reserve : ℕ)
         steps_to a b c (first ∷ before) event s e = (s.0, steps_to (takes a first) b c before event s.1 e)
 
         all_steps : Steps p (st.before_it ++ (st.x.1 ∷ [])) after
-        all_steps = steps_to p mid after st.before_it st.x.1 st.steps allowed
+        all_steps = steps_to p mid after st.before_it st.x.1 st.steps st.steps_on.0
 
         open_then : 1 ≤ free_in (socket_of after (other side)) → GoesOrIdles mid side st.x.1 → Gets_ p course
         open_then free (inl it) = gone it free
@@ -391,7 +357,7 @@ module _ (q : PairValue) (side : Side) (there : AreThere q) (wait reserve : ℕ)
         by_free : (1 ≤ free_in (socket_of after (other side))) ⊎ (taken_in p (other side) < taken_in after (other side)) → Gets_ p course
         by_free (inl free) = open_then free (starts_or_idles mid side st.x.1 st.starts st.has.0.0 here)
         by_free (inr e) =
-            inr (inl (inr (less (taken_in p (other side)) (taken_in after (other side)) (taken_in q (other side)) e (from_after (other side)).taken)))
+            inr (inl (inr (less (taken_in p (other side)) (taken_in after (other side)) (taken_in q (other side)) e (at_after.from (other side)).taken)))
 
   runs_sum : (now end : ℤ) (put : ℕ) → (now +ℤ pos (put + wait + (wait + 60_000_000 + wait + reserve))) <ℤ end →
       (((now +ℤ pos put) +ℤ pos wait) +ℤ pos (wait + 60_000_000 + wait + reserve)) <ℤ end

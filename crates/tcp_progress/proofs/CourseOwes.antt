@@ -10,7 +10,7 @@ use Rattle.tcp_rules.specs.EndpointPair.{EndpointPair}
 use Rattle.tcp_rules.specs.Moments.{is_due}
 use Rattle.tcp_rules.proofs.OfferCases.{begun as asked_with}
 use Rattle.tcp_rules.proofs.OrderSteps.{clash}
-use Rattle.tcp_tie.specs.Pair.Sides.{at, other}
+use Rattle.tcp_tie.specs.Pair.Sides.{other}
 use Rattle.tcp_tie.specs.Pair.Steps.{Steps}
 use Rattle.tcp_model.specs.Value.{TcpValue, room_of}
 use Rattle.tcp_tie.specs.Pair.Values.{PairValue, past_at}

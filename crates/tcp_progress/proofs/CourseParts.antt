@@ -13,17 +13,24 @@ use Rattle.tcp_tie.specs.declared.pair.event.PairEvent.{PairEvent}
 use Rattle.tcp_tie.specs.declared.pair.event.PairEvent.TheVariants.{Listen, Connect, Send, Recv, Close, Abort, TcpSetting, Clock, Offer, Deliver}
 use Rattle.tcp_tie.specs.declared.pair.event.SentSegment.{SentSegment}
 use Rattle.tcp_tie.specs.declared.pair.event.Side.{Side}
+use Rattle.tcp_tie.specs.declared.pair.event.Side.TheVariants.{A, B}
 use Rattle.tcp_progress.specs.Arrivals.{is_synchronized}
+use Rattle.tcp_progress.specs.BothWays.{AreThere}
 use Rattle.tcp_progress.specs.Course.{AreTaken, Asks, AsksWithin, DeliversWithin, IsAskedBy, IsAt, IsClocked, IsHeardBy, IsHeardWith, IsHinderedAmong}
 use Rattle.tcp_progress.specs.Course.{Wants, end_of, events_of}
+use Rattle.tcp_progress.specs.Exchange.{IsOpen}
 use Rattle.tcp_progress.specs.Pair.{left_in, socket_of}
+use Rattle.tcp_progress.specs.Reached.{IsReached}
 use Rattle.tcp_progress.specs.Readers.{IsReadBy, Reads, ReadsWithin}
 use Rattle.tcp_progress.specs.Rounds.{takes}
 use Rattle.tcp_progress.specs.Spans.{IsHeldAmong, IsHeldIn, IsThroughAmong}
 use Rattle.tcp_progress.proofs.CourseExchange.{by_put}
 use Rattle.tcp_progress.proofs.CourseMoments.{at_most, upto}
 use Rattle.tcp_progress.proofs.Moments.{handed_moment}
-use Rattle.tcp_progress.proofs.OnwardPairs.{IsBegun, MovesIn}
+use Rattle.tcp_progress.proofs.Kept.{reached_by}
+use Rattle.tcp_progress.proofs.LateText.{there_of}
+use Rattle.tcp_progress.proofs.OnwardPairs.{IsBegun, MovesIn, begun_after, by_steps}
+use Rattle.tcp_progress.proofs.Opened.{is_open}
 use Rattle.tcp_progress.proofs.Pair.{not_closed}
 use Rattle.tcp_progress.proofs.Turns.{late_on}
 
@@ -211,3 +218,34 @@ there_before p q side b m there =
     late_on (socket_of p side).block.state b.early
     (was_open (is_closed (socket_of p side).block.state) (is_closed (socket_of q side).block.state) m.closed
     (not_closed (socket_of q side).block.state there))
+
+-- events led from `p` to `m`, and lead from there to `q`
+pub record Midway (p m q : PairValue) : Type 0 where
+  pub reached : IsReached m
+  pub begun : (of : Side) → IsBegun m of
+  pub to : (of : Side) → MovesIn p m of
+  pub from : (of : Side) → MovesIn m q of
+  pub opened : (of : Side) → IsOpen (socket_of m of).block
+
+pub midway :
+    (p m q : PairValue) → IsReached p → ((of : Side) → IsBegun p of) → AreThere q → (before after : List PairEvent) → Steps p before m → Steps m after q
+    → Midway p m q
+midway p m q r begun there before after s t = record {
+  reached = rm;
+  begun = begun_m;
+  to = to;
+  from = from;
+  opened = λ of. is_open m of rm (there_before m q of (begun_m of) (from of) (there_of q of there)) (begun_m of).syn;
+}
+  where
+    rm : IsReached m
+    rm = reached_by p m before r s
+
+    to : (of : Side) → MovesIn p m of
+    to of = by_steps p before m r (begun A) (begun B) s of
+
+    begun_m : (of : Side) → IsBegun m of
+    begun_m of = begun_after p m of (to of) (begun of)
+
+    from : (of : Side) → MovesIn m q of
+    from of = by_steps m after q rm (begun_m A) (begun_m B) t of

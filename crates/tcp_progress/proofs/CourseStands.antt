@@ -47,6 +47,7 @@ stands_on p course m x rest s = record {
   is = s.is ∙ sym (append_assoc s.first (x ∷ []) rest);
 }
 
+-- the events that lead there, and those that follow
 pub steps_to : (p q m : PairValue) (course rest : Course) (s : Stands p course m rest) → Steps p (events_of course) q → Steps p (events_of s.first) m
 steps_to p q m course rest s steps =
     subst (λ (m : PairValue). Steps p (events_of s.first) m) s.to
@@ -65,6 +66,7 @@ pub record IsTimely (wait : ℕ) (now : ℤ) (p : PairValue) (side : Side) (cour
   pub taken : AreTaken course
   pub room : 1 ≤ room_of (socket_of p (other side)).received
 
+-- a course in which segments come too
 pub timely : (wait delay : ℕ) (now : ℤ) (p : PairValue) (side : Side) (course : Course) → GoesInTime wait delay now p side course → IsTimely wait now p side course
 timely wait delay now p side course c = record { clock = c.clock; clocked = c.clocked; asks = c.asks; taken = c.taken; room = c.room }
 

@@ -2,32 +2,29 @@
 use Rattle.std.proofs.Common.{◌≡◌, ◌⊎◌, inl, inr, ℕ, zero, suc, ◌+◌, ◌-◌, ◌*◌, ◌≤◌, ◌==◌, max, ℤ, pos, ◌+ℤ◌, ◌<ℤ◌, Bool, true, false}
 use Rattle.std.proofs.Common.{◌++◌, refl, sym, ap, ◌∙◌, subst, arith}
 use Rattle.std.proofs.lemmas.Bool.{eqb-true}
-use Rattle.tcp_tie.specs.Pair.Sides.{at, other}
+use Rattle.tcp_tie.specs.Pair.Sides.{other}
 use Rattle.tcp_tie.specs.Pair.Steps.{Steps}
 use Rattle.tcp_tie.specs.Pair.Values.{PairValue, past_at}
 use Rattle.tcp_tie.specs.declared.pair.event.Side.{Side}
 use Rattle.tcp_tie.specs.declared.pair.event.Side.TheVariants.{A, B}
-use Rattle.tcp_progress.specs.Arrivals.{is_synchronized}
 use Rattle.tcp_progress.specs.BothWays.{AreThere}
 use Rattle.tcp_progress.specs.Course.{AreTaken, AsksWithin, DeliversWithin, GoesInTime, IsClocked, end_of, events_of}
-use Rattle.tcp_progress.specs.Exchange.{IsOpen}
 use Rattle.tcp_progress.specs.Onward.{AreOpen, HasRisen}
-use Rattle.tcp_progress.specs.Pair.{HasStream, left_in, socket_of}
+use Rattle.tcp_progress.specs.Pair.{HasStream, left_in}
 use Rattle.tcp_progress.specs.Reached.{IsReached}
 use Rattle.tcp_progress.specs.Readers.{ReadsWithin, whole_span}
 use Rattle.tcp_progress.specs.Spans.{IsThroughAmong, most_reached, reached_in}
 use Rattle.tcp_progress.proofs.CourseCuts.{Cut, cut_on}
 use Rattle.tcp_progress.proofs.CourseMoments.{later}
-use Rattle.tcp_progress.proofs.CourseParts.{Course, after_all, asks_first, asks_rest, clock_all, clocked_first, clocked_rest, delivers_first}
-use Rattle.tcp_progress.proofs.CourseParts.{delivers_rest, end_parts, reads_first, reads_rest, steps_first, steps_rest, taken_first, taken_rest}
-use Rattle.tcp_progress.proofs.CourseParts.{there_before, through_now, through_rest}
+use Rattle.tcp_progress.proofs.CourseParts.{Course, Midway, after_all, asks_first, asks_rest, clock_all, clocked_first, clocked_rest, delivers_first}
+use Rattle.tcp_progress.proofs.CourseParts.{delivers_rest, end_parts, midway, reads_first, reads_rest, steps_first, steps_rest, taken_first, taken_rest}
+use Rattle.tcp_progress.proofs.CourseParts.{through_now, through_rest}
 use Rattle.tcp_progress.proofs.CourseSpans.{all_reached, first_span, no_less, one_more, other_spans, times_suc}
 use Rattle.tcp_progress.proofs.CourseWindows.{gets_on}
 use Rattle.tcp_progress.proofs.Kept.{reached_by}
 use Rattle.tcp_progress.proofs.LateText.{open_of, stream_since, there_of}
 use Rattle.tcp_progress.proofs.Onward.{positive}
-use Rattle.tcp_progress.proofs.OnwardPairs.{IsBegun, MovesIn, begun, begun_after, by_steps}
-use Rattle.tcp_progress.proofs.Opened.{is_open}
+use Rattle.tcp_progress.proofs.OnwardPairs.{IsBegun, begun, by_steps}
 
 -- SO MANY SPANS
 
@@ -46,7 +43,7 @@ reached_whatever zero p q side course read wait delay now r o s there c reads ov
 reached_whatever (suc n) p q side course read wait delay now r o s there c reads over =
     by
     (λ (it : Cut now limit wait course) (wrote : HasStream (past_at (mid it) side)).
-    reached_whatever n (mid it) q side it.rest read wait delay (end_of now it.first) (rm it) (open_mid it A, open_mid it B) (on it) there
+    reached_whatever n (mid it) q side it.rest read wait delay (end_of now it.first) (at_mid it).reached ((at_mid it).opened A, (at_mid it).opened B) (on it) there
     (record {
       clock = clock_all p side now it.first c.clock (clocked_first now it.first it.rest (clocked it));
       clocked = clocked_rest now it.first it.rest (clocked it);
@@ -54,7 +51,7 @@ reached_whatever (suc n) p q side course read wait delay now r o s there c reads
       taken = taken_rest it.first it.rest (subst AreTaken it.is c.taken);
       delivers = delivers_rest delay p it.first it.rest (subst (DeliversWithin delay p) it.is c.delivers);
       stream = wrote;
-      room = subst (λ (k : ℕ). 1 ≤ k) (sym (to_mid it (other side)).room) c.room;
+      room = subst (λ (k : ℕ). 1 ≤ k) (sym ((at_mid it).to (other side)).room) c.room;
     })
     (reads_rest read now p (other side) it.first it.rest (subst (ReadsWithin read now p (other side)) it.is reads))
     (subst (λ (end : ℤ). (end_of now it.first +ℤ pos (n * (2 * whole_span read wait delay (mid it) side))) <ℤ end) (ends it)
@@ -97,27 +94,12 @@ reached_whatever (suc n) p q side course read wait delay now r o s there c reads
     ends : (it : Cut now limit wait course) → end_of now course ≡ end_of (end_of now it.first) it.rest
     ends it = ap (end_of now) it.is ∙ end_parts now it.first it.rest
 
-    rm : (it : Cut now limit wait course) → IsReached (mid it)
-    rm it = reached_by p (mid it) (events_of it.first) r (to it)
-
-    to_mid : (it : Cut now limit wait course) (of : Side) → MovesIn p (mid it) of
-    to_mid it of = by_steps p (events_of it.first) (mid it) r (begun_p A) (begun_p B) (to it) of
-
-    begun_mid : (it : Cut now limit wait course) (of : Side) → IsBegun (mid it) of
-    begun_mid it of = begun_after p (mid it) of (to_mid it of) (begun_p of)
-
-    from_mid : (it : Cut now limit wait course) (of : Side) → MovesIn (mid it) q of
-    from_mid it of = by_steps (mid it) (events_of it.rest) q (rm it) (begun_mid it A) (begun_mid it B) (on it) of
-
-    there_mid : (it : Cut now limit wait course) (of : Side) → is_synchronized (socket_of (mid it) of).block.state ≡ true
-    there_mid it of = there_before (mid it) q of (begun_mid it of) (from_mid it of) (there_of q of there)
-
-    open_mid : (it : Cut now limit wait course) (of : Side) → IsOpen (socket_of (mid it) of).block
-    open_mid it of = is_open (mid it) of (rm it) (there_mid it of) (begun_mid it of).syn
+    at_mid : (it : Cut now limit wait course) → Midway p (mid it) q
+    at_mid it = midway p (mid it) q r begun_p there (events_of it.first) (events_of it.rest) (to it) (on it)
 
     same_span : (it : Cut now limit wait course) → whole_span read wait delay (mid it) side ≡ span
     same_span it =
-        ap (λ (k : ℕ). read + 60_000_000 + wait + wait + ((max 1 k + 2 + 2) * 60_000_000 + wait + delay + delay)) (to_mid it (other side)).room
+        ap (λ (k : ℕ). read + 60_000_000 + wait + wait + ((max 1 k + 2 + 2) * 60_000_000 + wait + delay + delay)) ((at_mid it).to (other side)).room
 
     Ways : Type 0
     Ways = (reached_in p + suc n ≤ reached_in q) ⊎ IsThroughAmong p side (events_of course)
@@ -130,11 +112,11 @@ reached_whatever (suc n) p q side course read wait delay now r o s there c reads
 
     -- what isn't acknowledged was written
     wrote : (it : Cut now limit wait course) → 1 ≤ left_in p side → HasStream (past_at (mid it) side)
-    wrote it owes = stream_since p (mid it) side r (open_of p side o) owes (to_mid it side) c.stream
+    wrote it owes = stream_since p (mid it) side r (open_of p side o) owes ((at_mid it).to side) c.stream
 
     one_span : (it : Cut now limit wait course) → 1 ≤ left_in p side → HasRisen p (mid it) side ⊎ HasRisen p (mid it) (other side)
     one_span it owes =
-        gets_on p (mid it) side it.first read wait delay now r o (to it) (there_mid it A, there_mid it B) owes
+        gets_on p (mid it) side it.first read wait delay now r o (to it) (((at_mid it).opened A).synchronized, ((at_mid it).opened B).synchronized) owes
         (record {
           clock = c.clock;
           clocked = clocked_first now it.first it.rest (clocked it);
@@ -159,8 +141,8 @@ reached_whatever (suc n) p q side course read wait delay now r o s there c reads
     by_cut rest owes (inl ends) = inr ends
     by_cut rest owes (inr it) = at (one_span it owes) where
       at : HasRisen p (mid it) side ⊎ HasRisen p (mid it) (other side) → Ways
-      at (inl risen) = then_on it (one_more p (mid it) (to_mid it) side risen) (rest it (wrote it owes))
-      at (inr risen) = then_on it (one_more p (mid it) (to_mid it) (other side) risen) (rest it (wrote it owes))
+      at (inl risen) = then_on it (one_more p (mid it) (at_mid it).to side risen) (rest it (wrote it owes))
+      at (inr risen) = then_on it (one_more p (mid it) (at_mid it).to (other side) risen) (rest it (wrote it owes))
 
     by : Rest → (none : Bool) → (left_in p side == 0) ≡ none → Ways
     by rest true e = inr (through_now p side course (eqb-true (left_in p side) 0 e))

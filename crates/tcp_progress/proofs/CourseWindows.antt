@@ -10,7 +10,6 @@ use Rattle.tcp_tie.specs.declared.pair.event.Side.TheVariants.{A, B}
 use Rattle.tcp_progress.specs.Anew.{put_off_in}
 use Rattle.tcp_progress.specs.BothWays.{AreThere}
 use Rattle.tcp_progress.specs.Course.{DeliversWithin, GoesInTime, IsClocked, IsShutAmong, end_of, events_of}
-use Rattle.tcp_progress.specs.Exchange.{IsOpen}
 use Rattle.tcp_progress.specs.Onward.{AreOpen, HasRisen}
 use Rattle.tcp_progress.specs.Pair.{left_in, next_sent, socket_of}
 use Rattle.tcp_progress.specs.Reached.{IsReached}
@@ -18,13 +17,11 @@ use Rattle.tcp_progress.specs.Readers.{ReadsWithin, whole_span}
 use Rattle.tcp_progress.specs.Rounds.{takes}
 use Rattle.tcp_progress.proofs.CourseBegins.{all_gets}
 use Rattle.tcp_progress.proofs.CourseGoes.{exchanges}
-use Rattle.tcp_progress.proofs.CourseParts.{Course, clocked_rest, delivers_rest, there_before}
+use Rattle.tcp_progress.proofs.CourseParts.{Course, Midway, clocked_rest, delivers_rest, midway}
 use Rattle.tcp_progress.proofs.CourseStands.{Begins, Gets, Stands, stands_on, steps_from, steps_to, timely}
 use Rattle.tcp_progress.proofs.Frees.{never_shut}
-use Rattle.tcp_progress.proofs.Kept.{reached_by}
-use Rattle.tcp_progress.proofs.LateText.{open_of, risen_since, stream_since, there_of}
-use Rattle.tcp_progress.proofs.OnwardPairs.{IsBegun, MovesIn, begun, begun_after, by_steps}
-use Rattle.tcp_progress.proofs.Opened.{is_open}
+use Rattle.tcp_progress.proofs.LateText.{open_of, risen_since, stream_since}
+use Rattle.tcp_progress.proofs.OnwardPairs.{IsBegun, begun}
 
 -- WHAT GOES, COMES
 
@@ -39,26 +36,14 @@ module _ (p q : PairValue) (side : Side) (course : Course) (wait delay : ℕ) (n
   begun_p : (of : Side) → IsBegun p of
   begun_p of = begun p of r (open_of p of o)
 
-  to_after : (of : Side) → MovesIn p after of
-  to_after of = by_steps p (events_of then.first) after r (begun_p A) (begun_p B) (steps_to p q after course it.rest then s) of
-
-  ra : IsReached after
-  ra = reached_by p after (events_of then.first) r (steps_to p q after course it.rest then s)
-
-  begun_then : (of : Side) → IsBegun after of
-  begun_then of = begun_after p after of (to_after of) (begun_p of)
-
   steps_on : Steps after (events_of it.rest) q
   steps_on = steps_from p q after course it.rest then s
 
-  open_after : (of : Side) → IsOpen (socket_of after of).block
-  open_after of =
-      is_open after of ra
-      (there_before after q of (begun_then of) (by_steps after (events_of it.rest) q ra (begun_then A) (begun_then B) steps_on of) (there_of q of there))
-      (begun_then of).syn
+  at_after : Midway p after q
+  at_after = midway p after q r begun_p there (events_of then.first) (events_of it.rest) (steps_to p q after course it.rest then s) steps_on
 
   room : 1 ≤ room_of (socket_of after (other side)).received
-  room = subst (λ (n : ℕ). 1 ≤ n) (sym (to_after (other side)).room) c.room
+  room = subst (λ (n : ℕ). 1 ≤ n) (sym (at_after.to (other side)).room) c.room
 
   clocked : IsClocked it.x.0 it.rest
   clocked = (clocked_rest now it.stands.first (it.x ∷ it.rest) (subst (IsClocked now) it.stands.is c.clocked)).1.1
@@ -74,18 +59,18 @@ module _ (p q : PairValue) (side : Side) (course : Course) (wait delay : ℕ) (n
   comes : HasRisen p q side ⊎ HasRisen p q (other side)
   comes =
       by
-      (exchanges it.m q side it.x it.rest delay it.goes ra (open_after A, open_after B) steps_on there
-      (stream_since p after side r (open_of p side o) owes (to_after side) c.stream) room delivers clocked (two_segments it.x.0 (end_of it.x.0 it.rest) it.over))
+      (exchanges it.m q side it.x it.rest delay it.goes at_after.reached (at_after.opened A, at_after.opened B) steps_on there
+      (stream_since p after side r (open_of p side o) owes (at_after.to side) c.stream) room delivers clocked (two_segments it.x.0 (end_of it.x.0 it.rest) it.over))
     where
       by :
           HasRisen after q side ⊎ (HasRisen after q (other side) ⊎ IsShutAmong after side (next_sent it.m side) it.rest)
           → HasRisen p q side ⊎ HasRisen p q (other side)
-      by (inl risen) = inl (risen_since p after q side (to_after side) risen)
-      by (inr (inl risen)) = inr (risen_since p after q (other side) (to_after (other side)) risen)
+      by (inl risen) = inl (risen_since p after q side (at_after.to side) risen)
+      by (inr (inl risen)) = inr (risen_since p after q (other side) (at_after.to (other side)) risen)
       by (inr (inr shut)) =
           inr
-          (risen_since p after q (other side) (to_after (other side))
-          (inr (never_shut after q side (next_sent it.m side) it.rest ra (begun_then A) (begun_then B) steps_on there it.free shut)))
+          (risen_since p after q (other side) (at_after.to (other side))
+          (inr (never_shut after q side (next_sent it.m side) it.rest at_after.reached (at_after.begun A) (at_after.begun B) steps_on there it.free shut)))
 
 pub gets_on :
     (p q : PairValue) (side : Side) (course : Course) (read wait delay : ℕ) (now : ℤ) → IsReached p → AreOpen p → Steps p (events_of course) q → AreThere q

@@ -56,9 +56,6 @@ use Rattle.stack_laws.proofs.AtEdges.Sent.{follows_more}
 
 -- MOMENTS
 
-two_later : (a b c : ℤ) (n : ℕ) → a ≤ℤ b → b ≤ℤ (c +ℤ pos n) → a ≤ℤ (c +ℤ pos n)
-two_later a b c n e f = grind arith
-
 itself : (n : ℕ) → n ≤ n
 itself n = omega arith
 
