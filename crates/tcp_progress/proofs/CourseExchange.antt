@@ -38,6 +38,7 @@ use Rattle.tcp_progress.specs.Pair.{HasStream, left_in, next_sent, socket_of}
 use Rattle.tcp_progress.specs.Reached.{IsReached}
 use Rattle.tcp_progress.specs.Rounds.{takes}
 use Rattle.tcp_progress.specs.Sent.{taken_in}
+use Rattle.tcp_progress.proofs.CourseMoments.{later, more_time, not_both}
 use Rattle.tcp_progress.proofs.Exchange.{last_of}
 use Rattle.tcp_progress.proofs.Inside.{in_window, top_ahead}
 use Rattle.tcp_progress.proofs.Kept.{reached_by}
@@ -108,20 +109,8 @@ sent_by p event side =
 
 -- MOMENTS
 
-not_both : (last end : ℤ) → end ≤ℤ last → last <ℤ end → ⊥
-not_both last end e f = first_of (omega (arith, ints), grind (arith, ints))
-
-upto : (a b c : ℤ) → a ≤ℤ b → b ≤ℤ c → a ≤ℤ c
-upto a b c e f = grind arith
-
 before : (a b c : ℤ) → a ≤ℤ b → b <ℤ c → a <ℤ c
 before a b c e f = first_of (omega (arith, ints), grind (arith, ints))
-
-later : (now : ℤ) (n : ℕ) → now ≤ℤ (now +ℤ pos n)
-later now n = first_of (omega (arith, ints), grind (arith, ints))
-
-more_time : (a b : ℤ) (n : ℕ) → a ≤ℤ b → (a +ℤ pos n) ≤ℤ (b +ℤ pos n)
-more_time a b n e = first_of (omega (arith, ints), grind (arith, ints))
 
 -- A SEGMENT COMES
 

@@ -1,6 +1,6 @@
 -- In a course in which each side is asked in time, and each segment comes in time, a connection goes on.
 use Rattle.std.proofs.Common.{◌≡◌, ◌⊎◌, inl, inr, ℕ, zero, suc, ◌+◌, ◌-◌, ◌<◌, ◌≤◌, ◌==◌, nat_le, ℤ, pos, ◌+ℤ◌, ◌≤ℤ◌, ◌<ℤ◌, Bool, true, false}
-use Rattle.std.proofs.Common.{List, [], ◌∷◌, length, Option, Some, None, slice_get, refl, sym, ap, ◌∙◌, subst, arith}
+use Rattle.std.proofs.Common.{List, [], ◌∷◌, length, Option, Some, slice_get, refl, sym, ap, ◌∙◌, subst, arith}
 use Rattle.std.proofs.lemmas.Bool.{leb-false, leb-true}
 use Rattle.std.proofs.lemmas.Int.{ints}
 use Rattle.std.proofs.lemmas.Option.{slice_get_within}
@@ -9,15 +9,13 @@ use Rattle.tcp_tie.specs.Context.{ContextValue}
 use Rattle.tcp_rules.specs.Ends.{GoesOn}
 use Rattle.tcp_rules.specs.Moments.{is_due}
 use Rattle.tcp_rules.specs.OpenOffer.{OpenOffer}
-use Rattle.tcp_rules.specs.States.{is_closed}
 use Rattle.tcp_rules.specs.Timing.{carries}
 use Rattle.tcp_rules.proofs.OrderSteps.{clash}
-use Rattle.tcp_model.specs.Blocks.{one_if}
 use Rattle.tcp_model.specs.Offers.{offer_of}
 use Rattle.tcp_model.specs.Segments.{segment_len}
 use Rattle.tcp_model.specs.Settled.{settled}
 use Rattle.tcp_tie.specs.Pair.Sides.{at, other}
-use Rattle.tcp_tie.specs.Pair.Steps.{Steps, offered_at, refusal}
+use Rattle.tcp_tie.specs.Pair.Steps.{Steps, offered_at}
 use Rattle.tcp_model.specs.Value.{TcpValue, room_of}
 use Rattle.tcp_tie.specs.Pair.Values.{PairSide, PairValue, and_offer, context_at, past_at}
 use Rattle.tcp_tie.specs.declared.pair.event.PairEvent.{PairEvent}
@@ -28,7 +26,7 @@ use Rattle.tcp_tie.specs.declared.pair.event.Side.TheVariants.{A, B}
 use Rattle.tcp_progress.specs.Anew.{BeginsAnew, BeginsAnewIn, put_off_in}
 use Rattle.tcp_progress.specs.Arrivals.{is_synchronized}
 use Rattle.tcp_progress.specs.BothWays.{AreThere, total_in}
-use Rattle.tcp_progress.specs.Course.{AreTaken, DeliversWithin, GoesInTime, IsHinderedAmong, IsHinderedIn, IsShutAmong}
+use Rattle.tcp_progress.specs.Course.{AreTaken, DeliversWithin, GoesInTime, IsClocked, IsHinderedAmong, IsHinderedIn, IsShutAmong}
 use Rattle.tcp_progress.specs.Course.{IsTaken, end_of, events_of, span_of}
 use Rattle.tcp_progress.specs.Exchange.{IsOpen, left_of, text_of}
 use Rattle.tcp_progress.specs.Late.{GoesFrom, sent_by}
@@ -38,26 +36,24 @@ use Rattle.tcp_progress.specs.PutOff.{RunsOutIn}
 use Rattle.tcp_progress.specs.Reached.{IsReached}
 use Rattle.tcp_progress.specs.Restart.{Sends, first_cwnd, worth_sending}
 use Rattle.tcp_progress.specs.Rounds.{takes}
-use Rattle.tcp_progress.specs.Sent.{taken_in}
 use Rattle.tcp_progress.proofs.AgainGoes.{anew_some, survives}
 use Rattle.tcp_progress.proofs.CourseExchange.{exchange_in_time}
+use Rattle.tcp_progress.proofs.CourseParts.{Midway, midway}
 use Rattle.tcp_progress.proofs.CourseRuns.{Start, starts_in_course}
 use Rattle.tcp_progress.proofs.Exchange.{last_of}
-use Rattle.tcp_progress.proofs.Kept.{reached_by, reached_keeps}
+use Rattle.tcp_progress.proofs.Kept.{reached_keeps}
 use Rattle.tcp_progress.proofs.LateExchange.{goes_last, goes_now}
-use Rattle.tcp_progress.proofs.LateText.{left_within, open_of, there_of}
+use Rattle.tcp_progress.proofs.LateText.{left_within, open_of, risen_since, stream_since, there_of}
 use Rattle.tcp_progress.proofs.Left.{left_same}
 use Rattle.tcp_progress.proofs.MendingEvents.{is_sure}
 use Rattle.tcp_progress.proofs.Mirrored.{named_in}
 use Rattle.tcp_progress.proofs.OfItself.{side_sends}
 use Rattle.tcp_progress.proofs.Offered.{GoesOut, goes_out_of}
-use Rattle.tcp_progress.proofs.OnwardPairs.{IsBegun, MovesIn, begun, begun_after, by_steps, then_moves}
-use Rattle.tcp_progress.proofs.Opened.{is_open}
+use Rattle.tcp_progress.proofs.OnwardPairs.{IsBegun, MovesIn, begun, then_moves}
 use Rattle.tcp_progress.proofs.Pair.{late_in, not_closed}
 use Rattle.tcp_progress.proofs.Positions.{IsPlaced, placed}
 use Rattle.tcp_progress.proofs.Ready.{ready_side}
 use Rattle.tcp_progress.proofs.Roused.{refused_same}
-use Rattle.tcp_progress.proofs.Turns.{late_on}
 
 -- WHAT THE SIDE SENDS
 
@@ -66,6 +62,22 @@ pub record Goes (p : PairValue) (side : Side) (event : PairEvent) : Type 0 where
   pub x : SentSegment
   pub goes : GoesFrom (takes p event) side x
   pub sent : slice_get (at (takes p event).sides side).sent (next_sent p side) ≡ Some x
+
+-- what goes so comes in time, and so does its answer: SND.UNA or RCV.NXT rises, or the other's window is closed as it comes
+pub exchanges :
+    (p q : PairValue) (side : Side) (x : ℤ × PairEvent) (course : List (ℤ × PairEvent)) (delay : ℕ) → Goes p side x.1 → IsReached (takes p x.1)
+    → AreOpen (takes p x.1) → Steps (takes p x.1) (events_of course) q → AreThere q → HasStream (past_at (takes p x.1) side)
+    → 1 ≤ room_of (socket_of (takes p x.1) (other side)).received → DeliversWithin delay p (x ∷ course) → IsClocked x.0 course
+    → ((x.0 +ℤ pos delay) +ℤ pos delay) <ℤ end_of x.0 course
+    → HasRisen (takes p x.1) q side ⊎ (HasRisen (takes p x.1) q (other side) ⊎ IsShutAmong (takes p x.1) side (next_sent p side) course)
+exchanges p q side x course delay it r o s there stream room delivers clocked over =
+    exchange_in_time (takes p x.1) q side (next_sent p side) it.x course delay x.0 r o s there stream room it.goes it.sent
+    (delivers.0 side (next_sent p side) (itself (next_sent p side))
+    (slice_get_within (at (takes p x.1).sides side).sent (next_sent p side) it.x it.sent))
+    clocked delivers.1 over
+  where
+    itself : (n : ℕ) → n ≤ n
+    itself n = omega arith
 
 -- a side with its connection, which it keeps with the event
 pub record IsThere (p : PairValue) (side : Side) (event : PairEvent) : Type 0 where
@@ -255,15 +267,11 @@ pub sent_all : (p : PairValue) (side : Side) → IsReached p → IsOpen (socket_
     → (socket_of p side).block.sender.in_flight ≤ (socket_of p side).block.sender.top
 sent_all p side r mine = (is_sure p side r (not_closed (socket_of p side).block.state mine.synchronized) mine.synchronized mine.acknowledged).sent
 
-was_open : (old new : Bool) → (old ≡ true → new ≡ true) → new ≡ false → old ≡ false
-was_open true new e f = clash (sym (e refl) ∙ f)
-was_open false new e f = refl
-
 -- what of a course is left with each event
-abbrev pub Lasts : ℕ → PairValue → List (ℤ × PairEvent) → Type 0
+abbrev Lasts : ℕ → PairValue → List (ℤ × PairEvent) → Type 0
 Lasts delay p course = AreTaken course × DeliversWithin delay p course
 
-pub lasts_on : (delay : ℕ) (p : PairValue) (x : ℤ × PairEvent) (course : List (ℤ × PairEvent)) → Lasts delay p (x ∷ course) → Lasts delay (takes p x.1) course
+lasts_on : (delay : ℕ) (p : PairValue) (x : ℤ × PairEvent) (course : List (ℤ × PairEvent)) → Lasts delay p (x ∷ course) → Lasts delay (takes p x.1) course
 lasts_on delay p x course l = (l.0.1, l.1.1)
 
 module _ (p q : PairValue) (side : Side) (course : List (ℤ × PairEvent)) (wait delay : ℕ) (now : ℤ) (r : IsReached p) (o : AreOpen p)
@@ -283,49 +291,14 @@ module _ (p q : PairValue) (side : Side) (course : List (ℤ × PairEvent)) (wai
   begun_p : (of : Side) → IsBegun p of
   begun_p of = begun p of r (open_of p of o)
 
-  to_mid : (of : Side) → MovesIn p mid of
-  to_mid of = by_steps p st.before_it mid r (begun_p A) (begun_p B) st.steps of
+  at_mid : Midway p mid q
+  at_mid = midway p mid q r begun_p there st.before_it (st.x.1 ∷ events_of st.rest) st.steps st.steps_on
 
-  rm : IsReached mid
-  rm = reached_by p mid st.before_it r st.steps
-
-  begun_mid : (of : Side) → IsBegun mid of
-  begun_mid of = begun_after p mid of (to_mid of) (begun_p of)
-
-  allowed : refusal mid st.x.1 ≡ None
-  allowed = st.steps_on.0
-
-  to_after : (of : Side) → MovesIn mid after of
-  to_after of = by_steps mid (st.x.1 ∷ []) after rm (begun_mid A) (begun_mid B) (allowed, refl) of
-
-  ra : IsReached after
-  ra = reached_by mid after (st.x.1 ∷ []) rm (allowed, refl)
-
-  begun_then : (of : Side) → IsBegun after of
-  begun_then of = begun_after mid after of (to_after of) (begun_mid of)
-
-  from_after : (of : Side) → MovesIn after q of
-  from_after of = by_steps after (events_of st.rest) q ra (begun_then A) (begun_then B) st.steps_on.1 of
-
-  from_mid : (of : Side) → MovesIn mid q of
-  from_mid of = then_moves mid after q of (to_after of) (from_after of)
+  at_after : Midway mid after q
+  at_after = midway mid after q at_mid.reached at_mid.begun there (st.x.1 ∷ []) (events_of st.rest) (st.steps_on.0, refl) st.steps_on.1
 
   p_after : (of : Side) → MovesIn p after of
-  p_after of = then_moves p mid after of (to_mid of) (to_after of)
-
-  alive_at : (m : PairValue) (of : Side) → MovesIn m q of → is_closed (socket_of m of).block.state ≡ false
-  alive_at m of from =
-      was_open (is_closed (socket_of m of).block.state) (is_closed (socket_of q of).block.state) from.closed
-      (not_closed (socket_of q of).block.state (there_of q of there))
-
-  there_at : (m : PairValue) (of : Side) → IsBegun m of → MovesIn m q of → is_synchronized (socket_of m of).block.state ≡ true
-  there_at m of b from = late_on (socket_of m of).block.state b.early (alive_at m of from)
-
-  open_mid : IsOpen (socket_of mid side).block
-  open_mid = is_open mid side rm (there_at mid side (begun_mid side) (from_mid side)) (begun_mid side).syn
-
-  open_after : (of : Side) → IsOpen (socket_of after of).block
-  open_after of = is_open after of ra (there_at after of (begun_then of) (from_after of)) (begun_then of).syn
+  p_after of = then_moves p mid after of (at_mid.to of) (at_after.to of)
 
   some_flight : 1 ≤ (socket_of p side).block.sender.in_flight
   some_flight = positive (socket_of p side).block.sender.in_flight flight where
@@ -346,13 +319,13 @@ module _ (p q : PairValue) (side : Side) (course : List (ℤ × PairEvent)) (wai
   owes : 1 ≤ left_in mid side
   owes =
       by (total_in p side) (left_in p side) (total_in mid side) (left_in mid side) (total_in q side) (left_in q side) some_left
-      (left_within p side r (open_of p side o)) (left_within mid side rm open_mid) (to_mid side).total (from_mid side).acked same
+      (left_within p side r (open_of p side o)) (left_within mid side at_mid.reached (at_mid.opened side)) (at_mid.to side).total (at_mid.from side).acked same
     where
       by : (a b c d e f : ℕ) → 1 ≤ b → b ≤ a → d ≤ c → a ≤ c → c + f ≤ e + d → e - f ≤ a - b → 1 ≤ d
       by a b c d e f g h i j k l = omega arith
 
   top : 1 ≤ (socket_of mid side).block.sender.top
-  top = by ((to_mid side).una (alive_at mid side (from_mid side))) where
+  top = by ((at_mid.to side).una (not_closed (socket_of mid side).block.state (at_mid.opened side).synchronized)) where
     upto : (a b c : ℕ) → 1 ≤ a → a ≤ b → b ≤ c → 1 ≤ c
     upto a b c e f g = omega arith
 
@@ -370,51 +343,25 @@ module _ (p q : PairValue) (side : Side) (course : List (ℤ × PairEvent)) (wai
     by (inr risen) =
         absurd
         (never (total_in p side) (left_in p side) (total_in mid side) (left_in mid side) (total_in q side) (left_in q side)
-        (left_within p side r (open_of p side o)) (left_within mid side rm open_mid) risen (from_mid side).acked same)
+        (left_within p side r (open_of p side o)) (left_within mid side at_mid.reached (at_mid.opened side)) risen (at_mid.from side).acked same)
 
   -- the stream, and the other's buffer, are no less then
   stream : HasStream (past_at after side)
-  stream =
-      inr
-      (more (length (past_at p side).written) (length (past_at after side).written) (wrote c.stream) (p_after side).written)
-    where
-      more : (a b : ℕ) → 1 ≤ a → a ≤ b → 1 ≤ b
-      more a b e f = omega arith
-
-      some : (written : ℕ) {fin left : ℕ} → fin ≡ 0 → left ≤ written + fin → 1 ≤ left → 1 ≤ written
-      some written e f g = omega arith
-
-      wrote : HasStream (past_at p side) → 1 ≤ length (past_at p side).written
-      wrote (inl unclosed) = some (length (past_at p side).written) (ap one_if unclosed) (left_within p side r (open_of p side o)) some_left
-      wrote (inr some) = some
+  stream = stream_since p after side r (open_of p side o) some_left (p_after side) c.stream
 
   room : 1 ≤ room_of (socket_of after (other side)).received
   room = subst (λ (n : ℕ). 1 ≤ n) (sym (p_after (other side)).room) c.room
 
   lifted : (of : Side) → HasRisen after q of → HasRisen p q of
-  lifted of (inl e) =
-      inl (more (total_in p of) (left_in p of) (total_in after of) (left_in after of) (acked_in q of) (p_after of).acked e) where
-        more : (a b c d e : ℕ) → a + d ≤ c + b → c - d < e → a - b < e
-        more a b c d e x y = omega arith
-  lifted of (inr e) = inr (more (taken_in p of) (taken_in after of) (taken_in q of) (p_after of).taken e) where
-    more : (a b c : ℕ) → a ≤ b → b < c → a < c
-    more a b c x y = omega arith
+  lifted of risen = risen_since p after q of (p_after of) risen
 
-  -- the exchange
-  exchanges : Goes mid side st.x.1 → Ways
-  exchanges it =
+  exchanged : Goes mid side st.x.1 → Ways
+  exchanged it =
       by
-      (exchange_in_time after q side (next_sent mid side) it.x st.rest delay st.x.0 ra (open_after A, open_after B) st.steps_on.1 there stream room it.goes
-      it.sent (st.has.1.0 side (next_sent mid side) (itself (next_sent mid side)) sent_now) st.clocked st.has.1.1
+      (exchanges mid q side st.x st.rest delay it at_after.reached (at_after.opened A, at_after.opened B) st.steps_on.1 there stream room st.has.1 st.clocked
       (subst (λ (end : ℤ). ((st.x.0 +ℤ pos delay) +ℤ pos delay) <ℤ end) (sym st.same_end)
       (sooner st.x.0 ((now +ℤ pos (put_off_in p side)) +ℤ pos wait) (end_of now course) delay st.within over)))
     where
-      itself : (n : ℕ) → n ≤ n
-      itself n = omega arith
-
-      sent_now : next_sent mid side < next_sent after side
-      sent_now = slice_get_within (at after.sides side).sent (next_sent mid side) it.x it.sent
-
       by : HasRisen after q side ⊎ (HasRisen after q (other side) ⊎ IsShutAmong after side (next_sent mid side) st.rest) → Ways
       by (inl risen) = inl (lifted side risen)
       by (inr (inl risen)) = inr (inl (lifted (other side) risen))
@@ -424,11 +371,11 @@ module _ (p q : PairValue) (side : Side) (course : List (ℤ × PairEvent)) (wai
   started =
       by
       (sends_in mid side st.x.1 st.starts st.has.0.0
-      (record { reached = rm; mine = open_mid; owes = owes; top = top; stays = there_at after side (begun_then side) (from_after side) }))
+      (record { reached = at_mid.reached; mine = at_mid.opened side; owes = owes; top = top; stays = (at_after.opened side).synchronized }))
     where
       by : IsHinderedIn mid side st.x.1 ⊎ Goes mid side st.x.1 → Ways
       by (inl hindered) = inr (inr (st.hindered (inl hindered)))
-      by (inr it) = exchanges it
+      by (inr it) = exchanged it
 
 pub goes_on_in_time :
     (p q : PairValue) (side : Side) (course : List (ℤ × PairEvent)) (wait delay : ℕ) (now : ℤ) → IsReached p → AreOpen p → Steps p (events_of course) q

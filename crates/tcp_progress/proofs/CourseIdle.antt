@@ -1,10 +1,8 @@
--- A side with nothing in flight, and no timer, sends within a minute and twice what it is let wait, whatever its windows are.
+-- A side with nothing in flight, and no timer, sends from SND.UNA on within a minute and twice what it is let wait, whatever its windows are.
 use Rattle.std.proofs.Common.{◌≡◌, ◌⊎◌, inl, inr, ℕ, zero, suc, ◌+◌, ◌-◌, ◌/◌, ◌<◌, ◌≤◌, ◌==◌, nat_lt, ◌&&◌, not, min, max, ℤ, pos, ◌+ℤ◌, ◌≤ℤ◌}
-use Rattle.std.proofs.Common.{◌<ℤ◌, int_lt, int_le, Bool, true, false}
+use Rattle.std.proofs.Common.{◌<ℤ◌, int_lt, Bool, true, false}
 use Rattle.std.proofs.Common.{if◌then◌else◌, [], ◌∷◌, length, Option, Some, None, is_none, is_some, refl, sym, ap, ◌∙◌, subst, arith}
 use Rattle.std.proofs.lemmas.Bool.{eq-eqb, eqb-true, ltb-false, ltb-true}
-use Rattle.std.proofs.lemmas.Int.{ints}
-use Rattle.std.proofs.lemmas.Option.{slice_get_within}
 use Rattle.tcp_tie.specs.Offers.{IsBefore}
 use Rattle.tcp_tie.specs.PollAt.{PollAt}
 use Rattle.tcp_tie.specs.Tie.{IsConnectedAs, Keeps, Past, core_of, is_closed_in, unsent}
@@ -31,21 +29,21 @@ use Rattle.tcp_tie.specs.declared.pair.event.Side.{Side}
 use Rattle.tcp_tie.specs.declared.pair.event.Side.TheVariants.{A, B}
 use Rattle.tcp_progress.specs.Arrivals.{is_synchronized}
 use Rattle.tcp_progress.specs.BothWays.{AreThere, total_in}
-use Rattle.tcp_progress.specs.Course.{Asks, IsAskedBy, IsAt, IsShutAmong, IsTaken, Wants, end_of}
+use Rattle.tcp_progress.specs.Course.{Asks, IsAskedBy, IsAt, IsTaken, Wants, end_of}
 use Rattle.tcp_progress.specs.Exchange.{IsOpen}
 use Rattle.tcp_progress.specs.Near.{IsNear}
-use Rattle.tcp_progress.specs.Onward.{HasRisen, acked_in}
-use Rattle.tcp_progress.specs.Pair.{context_of, left_in, mtu_of, next_sent, socket_of}
+use Rattle.tcp_progress.specs.Onward.{acked_in}
+use Rattle.tcp_progress.specs.Pair.{context_of, left_in, mtu_of, socket_of}
 use Rattle.tcp_progress.specs.PutOff.{CarriesIn, ProbesAt}
 use Rattle.tcp_progress.specs.Reached.{IsReached}
 use Rattle.tcp_progress.specs.Rounds.{takes}
 use Rattle.tcp_progress.specs.Sent.{taken_in}
-use Rattle.tcp_progress.proofs.CourseExchange.{exchange_in_time}
 use Rattle.tcp_progress.proofs.CourseGoes.{Goes}
-use Rattle.tcp_progress.proofs.CourseOwes.{State, acked_to_end, begun_m, from_m, lifted, moves, open_at, open_m, rm, room, still_owes, stream, tail, there_m}
+use Rattle.tcp_progress.proofs.CourseMoments.{below, come, itself, later, less_time, more_time, not_below, not_both, sooner, upto}
 use Rattle.tcp_progress.proofs.CourseParts.{Course}
 use Rattle.tcp_progress.proofs.CourseRuns.{poll_is}
-use Rattle.tcp_progress.proofs.Frees.{frees_on, never_shut}
+use Rattle.tcp_progress.proofs.CourseStands.{Gets, State, acked_to_end, from_m, lift as lifted, moves, open_at, open_m, rm, stands_first, still_owes, tail, there_m}
+use Rattle.tcp_progress.proofs.Frees.{frees_on}
 use Rattle.tcp_progress.proofs.Held.{holds_back}
 use Rattle.tcp_progress.proofs.Idles.{IsIdle, idle_on}
 use Rattle.tcp_progress.proofs.Kept.{reached_keeps}
@@ -59,47 +57,6 @@ use Rattle.tcp_progress.proofs.PairTimers.{probe_near}
 use Rattle.tcp_progress.proofs.PutOffProbes.{held_back}
 use Rattle.tcp_progress.proofs.Resent.{again_sent}
 use Rattle.tcp_progress.proofs.Resumes.{StartsWith, both}
-
--- MOMENTS
-
-not_both : (last end : ℤ) → end ≤ℤ last → last <ℤ end → ⊥
-not_both last end e f = first_of (omega (arith, ints), grind (arith, ints))
-
-upto : (a b c : ℤ) → a ≤ℤ b → b ≤ℤ c → a ≤ℤ c
-upto a b c e f = grind arith
-
-itself : (a : ℤ) → a ≤ℤ a
-itself a = grind arith
-
-later : (now : ℤ) (n : ℕ) → now ≤ℤ (now +ℤ pos n)
-later now n = first_of (omega (arith, ints), grind (arith, ints))
-
-more_time : (a b : ℤ) (n : ℕ) → a ≤ℤ b → (a +ℤ pos n) ≤ℤ (b +ℤ pos n)
-more_time a b n e = first_of (omega (arith, ints), grind (arith, ints))
-
-below : (due now : ℤ) → int_lt due now ≡ true → due ≤ℤ now
-below due now e = first_of (omega (arith, ints), grind (arith, ints))
-
-not_below : (due now : ℤ) → int_lt due now ≡ false → now ≤ℤ due
-not_below due now e = first_of (omega (arith, ints), grind (arith, ints))
-
-come : (when now : ℤ) → when ≤ℤ now → is_due now (Some when) ≡ true
-come when now e = by (int_le when now) refl where
-  never : int_le when now ≡ false → ⊥
-  never so = first_of (omega (arith, ints), grind (arith, ints))
-
-  by : (due : Bool) → int_le when now ≡ due → due ≡ true
-  by true so = refl
-  by false so = absurd (never so)
-
-sooner : (a b end : ℤ) (n : ℕ) → a ≤ℤ b → (b +ℤ pos n) <ℤ end → (a +ℤ pos n) <ℤ end
-sooner a b end n e f = first_of (omega (arith, ints), grind (arith, ints))
-
-less_time : (a end : ℤ) (n : ℕ) → (a +ℤ pos n) <ℤ end → a <ℤ end
-less_time a end n e = first_of (omega (arith, ints), grind (arith, ints))
-
-two_segments : (a end : ℤ) (delay : ℕ) → (a +ℤ pos (delay + delay)) <ℤ end → ((a +ℤ pos delay) +ℤ pos delay) <ℤ end
-two_segments a end delay e = first_of (omega (arith, ints), grind (arith, ints))
 
 -- WHETHER IT IS ASKED
 
@@ -375,58 +332,57 @@ wants_soon p side now r mine owes idle clock = by (probing_in p side) refl where
 
 -- THE COURSE
 
-module _ (q : PairValue) (side : Side) (there : AreThere q) (wait delay : ℕ) where
+module _ (q : PairValue) (side : Side) (there : AreThere q) (wait reserve : ℕ) where
   -- a side that owes something, of which the other's window is open
   pub record Open (p : PairValue) (now : ℤ) (course : Course) : Type 0 where
-    pub state : State q side there wait delay p now course
+    pub state : State q side there wait p now course
     pub free : 1 ≤ free_in (socket_of p (other side))
 
-  abbrev pub Gets : PairValue → Type 0
-  Gets p = HasRisen p q side ⊎ HasRisen p q (other side)
+  abbrev Gets_ : PairValue → Course → Type 0
+  Gets_ p course = Gets q side reserve p course
 
   -- the moment of a probe is set, and no later than this
   abbrev IsBy : ℤ → PairValue → Type 0
   IsBy due p = (1 ≤ queued_in (socket_of p side)) × ((at : ℤ) × (ProbesAt at (socket_of p side) × (at ≤ℤ due)))
 
   module _ (p : PairValue) (now : ℤ) (x : ℤ × PairEvent) (course : Course) (o : Open p now (x ∷ course)) where
-    abbrev h : State q side there wait delay p now (x ∷ course)
+    abbrev h : State q side there wait p now (x ∷ course)
     h = o.state
 
     abbrev m : PairValue
     m = takes p x.1
 
     mine : IsOpen (socket_of p side).block
-    mine = open_at q side there wait delay p now (x ∷ course) side h
+    mine = open_at q side there wait p now (x ∷ course) side h
 
     theirs : IsOpen (socket_of p (other side)).block
-    theirs = open_at q side there wait delay p now (x ∷ course) (other side) h
+    theirs = open_at q side there wait p now (x ∷ course) (other side) h
 
     first : (of : Side) → MovesIn p m of
-    first of = moves q side there wait delay p now x course h of
+    first of = moves q side there wait p now x course h of
 
     onward : (of : Side) → MovesIn m q of
-    onward of = from_m q side there wait delay p now x course h of
+    onward of = from_m q side there wait p now x course h of
 
     -- what is reached behind the event
-    lift : Gets m → Gets p
-    lift (inl risen) = inl (lifted q side there wait delay p now x course h side risen)
-    lift (inr risen) = inr (lifted q side there wait delay p now x course h (other side) risen)
+    lift : Gets_ m course → Gets_ p (x ∷ course)
+    lift gets = lifted q side there wait p now x course h reserve gets
 
     -- with the event more is acknowledged, or taken
-    acked_now : acked_in p side < acked_in m side → Gets p
-    acked_now e = inl (inl (less (acked_in p side) (acked_in m side) (acked_in q side) e (acked_to_end q side there wait delay p now x course h))) where
+    acked_now : acked_in p side < acked_in m side → Gets_ p (x ∷ course)
+    acked_now e = inl (inl (less (acked_in p side) (acked_in m side) (acked_in q side) e (acked_to_end q side there wait p now x course h))) where
       less : (a b c : ℕ) → a < b → b ≤ c → a < c
       less a b c e f = omega arith
 
-    taken_now : taken_in p (other side) < taken_in m (other side) → Gets p
-    taken_now e = inr (inr (less (taken_in p (other side)) (taken_in m (other side)) (taken_in q (other side)) e (onward (other side)).taken)) where
+    taken_now : taken_in p (other side) < taken_in m (other side) → Gets_ p (x ∷ course)
+    taken_now e = inr (inl (inr (less (taken_in p (other side)) (taken_in m (other side)) (taken_in q (other side)) e (onward (other side)).taken))) where
       less : (a b c : ℕ) → a < b → b ≤ c → a < c
       less a b c e f = omega arith
 
     -- or neither
     on : acked_in m side ≤ acked_in p side → free_in (socket_of p (other side)) ≤ free_in (socket_of m (other side)) → Open m x.0 course
     on e f = record {
-      state = tail q side there wait delay p now x course h (still_owes q side there wait delay p now x course h e);
+      state = tail q side there wait p now x course h (still_owes q side there wait p now x course h e);
       free = more (free_in (socket_of p (other side))) (free_in (socket_of m (other side))) o.free f;
     }
       where
@@ -435,7 +391,7 @@ module _ (q : PairValue) (side : Side) (there : AreThere q) (wait delay : ℕ) w
 
     -- SND.UNA stays, where no more is acknowledged
     same_una : acked_in m side ≤ acked_in p side → (socket_of m side).block.sender.una ≡ (socket_of p side).block.sender.una
-    same_una e = by ((first side).una (not_closed (socket_of m side).block.state (there_m q side there wait delay p now x course h side))) where
+    same_una e = by ((first side).una (not_closed (socket_of m side).block.state (there_m q side there wait p now x course h side))) where
       never : (a b c d : ℕ) → b ≤ a → a + d < c + b → c - d ≤ a - b → ⊥
       never a b c d e f g = absurd (omega arith)
 
@@ -449,34 +405,24 @@ module _ (q : PairValue) (side : Side) (there : AreThere q) (wait delay : ℕ) w
           absurd
           (never (total_in p side) (left_in p side) (total_in m side) (left_in m side) (left_within p side h.reached mine) risen e)
 
-    -- a segment went, and comes
-    pub goes : Goes p side x.1 → (x.0 +ℤ pos (delay + delay)) <ℤ end_of x.0 course → free_in (socket_of p (other side)) ≤ free_in (socket_of m (other side)) →
-        Gets p
+    -- a segment went
+    goes : Goes p side x.1 → (x.0 +ℤ pos reserve) <ℤ end_of x.0 course → free_in (socket_of p (other side)) ≤ free_in (socket_of m (other side)) →
+        Gets_ p (x ∷ course)
     goes it over kept =
-        by
-        (exchange_in_time m q side (next_sent p side) it.x course delay x.0 (rm q side there wait delay p now x course h)
-        (open_m q side there wait delay p now x course h A, open_m q side there wait delay p now x course h B) h.steps.1 there
-        (stream q side there wait delay p now x course h) (room q side there wait delay p now x course h) it.goes it.sent
-        (h.in_time.delivers.0 side (next_sent p side) (same (next_sent p side)) (slice_get_within (at m.sides side).sent (next_sent p side) it.x it.sent))
-        h.in_time.clocked.1.1 h.in_time.delivers.1 (two_segments x.0 (end_of x.0 course) delay over))
+        inr
+        (inr
+        (record {
+          m = p;
+          x = x;
+          rest = course;
+          stands = stands_first p (x ∷ course);
+          goes = it;
+          free = more (free_in (socket_of p (other side))) (free_in (socket_of m (other side))) o.free kept;
+          over = over;
+        }))
       where
-        same : (n : ℕ) → n ≤ n
-        same n = omega arith
-
-        free : 1 ≤ free_in (socket_of m (other side))
-        free = more (free_in (socket_of p (other side))) (free_in (socket_of m (other side))) o.free kept where
-          more : (a b : ℕ) → 1 ≤ a → a ≤ b → 1 ≤ b
-          more a b e f = omega arith
-
-        by : HasRisen m q side ⊎ (HasRisen m q (other side) ⊎ IsShutAmong m side (next_sent p side) course) → Gets p
-        by (inl risen) = lift (inl risen)
-        by (inr (inl risen)) = lift (inr risen)
-        by (inr (inr shut)) =
-            lift
-            (inr
-            (inr
-            (never_shut m q side (next_sent p side) course (rm q side there wait delay p now x course h)
-            (begun_m q side there wait delay p now x course h A) (begun_m q side there wait delay p now x course h B) h.steps.1 there free shut)))
+        more : (a b : ℕ) → 1 ≤ a → a ≤ b → 1 ≤ b
+        more a b e f = omega arith
 
     -- what is queued stays so, where no more is acknowledged
     queues_on : acked_in m side ≤ acked_in p side → QueuesOn p side x.1
@@ -487,32 +433,32 @@ module _ (q : PairValue) (side : Side) (there : AreThere q) (wait delay : ℕ) w
         (subst (λ (n : ℕ). acked_in m side ≤ n) (all_queued p side h.reached mine h.owes) e))
       where
         reached_m : IsReached m
-        reached_m = rm q side there wait delay p now x course h
+        reached_m = rm q side there wait p now x course h
 
         open_side : IsOpen (socket_of m side).block
-        open_side = open_m q side there wait delay p now x course h side
+        open_side = open_m q side there wait p now x course h side
 
         owes_m : 1 ≤ left_in m side
-        owes_m = still_owes q side there wait delay p now x course h e
+        owes_m = still_owes q side there wait p now x course h e
 
         more : (a b c d : ℕ) → 1 ≤ b → b ≤ a → a ≤ c → c - d ≤ a - b → 1 ≤ d
         more a b c d e f g h = omega arith
 
     sends_on : acked_in m side ≤ acked_in p side → sends_text (socket_of m side).block.state ≡ true
     sends_on e =
-        let mine = open_m q side there wait delay p now x course h side in
-        sends_there m side (rm q side there wait delay p now x course h) mine.synchronized mine.acknowledged
-        (still_owes q side there wait delay p now x course h e)
+        let mine = open_m q side there wait p now x course h side in
+        sends_there m side (rm q side there wait p now x course h) mine.synchronized mine.acknowledged
+        (still_owes q side there wait p now x course h e)
 
     -- of a side that is idle
-    pub idles_on : IsIdle (socket_of p side) → (x.0 +ℤ pos (delay + delay)) <ℤ end_of x.0 course →
-        Gets p ⊎ (Open m x.0 course × StaysIdle p side x.0 x.1)
+    pub idles_on : IsIdle (socket_of p side) → (x.0 +ℤ pos reserve) <ℤ end_of x.0 course →
+        Gets_ p (x ∷ course) ⊎ (Open m x.0 course × StaysIdle p side x.0 x.1)
     idles_on idle over = by (nat_lt (acked_in p side) (acked_in m side)) refl where
       mine_m : is_synchronized (socket_of m side).block.state ≡ true
-      mine_m = there_m q side there wait delay p now x course h side
+      mine_m = there_m q side there wait p now x course h side
 
       asked : acked_in m side ≤ acked_in p side → free_in (socket_of p (other side)) ≤ free_in (socket_of m (other side)) →
-          Goes p side x.1 ⊎ StaysIdle p side x.0 x.1 → Gets p ⊎ (Open m x.0 course × StaysIdle p side x.0 x.1)
+          Goes p side x.1 ⊎ StaysIdle p side x.0 x.1 → Gets_ p (x ∷ course) ⊎ (Open m x.0 course × StaysIdle p side x.0 x.1)
       asked e f (inl it) = inl (goes it over f)
       asked e f (inr stays) = inr (on e f, stays)
 
@@ -522,11 +468,11 @@ module _ (q : PairValue) (side : Side) (there : AreThere q) (wait delay : ℕ) w
 
       taking : acked_in m side ≤ acked_in p side →
           (free_in (socket_of p (other side)) ≤ free_in (socket_of m (other side))) ⊎ (taken_in p (other side) < taken_in m (other side)) →
-          Gets p ⊎ (Open m x.0 course × StaysIdle p side x.0 x.1)
+          Gets_ p (x ∷ course) ⊎ (Open m x.0 course × StaysIdle p side x.0 x.1)
       taking e (inl f) = asked e f (either e (is_asked side x.1))
       taking e (inr taken) = inl (taken_now taken)
 
-      by : (risen : Bool) → nat_lt (acked_in p side) (acked_in m side) ≡ risen → Gets p ⊎ (Open m x.0 course × StaysIdle p side x.0 x.1)
+      by : (risen : Bool) → nat_lt (acked_in p side) (acked_in m side) ≡ risen → Gets_ p (x ∷ course) ⊎ (Open m x.0 course × StaysIdle p side x.0 x.1)
       by true e = inl (acked_now (ltb-true (acked_in p side) (acked_in m side) e))
       by false e = taking (ltb-false (acked_in p side) (acked_in m side) e) (frees_on p x.1 (other side) theirs.synchronized)
 
@@ -546,8 +492,6 @@ module _ (q : PairValue) (side : Side) (there : AreThere q) (wait delay : ℕ) w
             clocked = (after, c.clocked.1);
             asks = ((λ of moment late wants. c.asks.0 of moment (upto now due moment before late) wants), c.asks.1);
             taken = c.taken;
-            delivers = c.delivers;
-            stream = c.stream;
             room = c.room;
           };
         };
@@ -555,7 +499,7 @@ module _ (q : PairValue) (side : Side) (there : AreThere q) (wait delay : ℕ) w
       }
 
   mine_at : (p : PairValue) (now : ℤ) (course : Course) → Open p now course → IsOpen (socket_of p side).block
-  mine_at p now course o = open_at q side there wait delay p now course side o.state
+  mine_at p now course o = open_at q side there wait p now course side o.state
 
   -- it wants to be asked then
   wants_by : (p : PairValue) (now : ℤ) (course : Course) (due : ℤ) → Open p now course → IsIdle (socket_of p side) → IsBy due p → Wants due p side
@@ -575,16 +519,16 @@ module _ (q : PairValue) (side : Side) (there : AreThere q) (wait delay : ℕ) w
   -- The moment has come, and the side is to be asked.
   asked_out :
       (p : PairValue) (now : ℤ) (course : Course) (due last : ℤ) → Open p now course → IsIdle (socket_of p side) → IsBy due p → due ≤ℤ now → now ≤ℤ last
-      → IsAskedBy due last side p course → (last +ℤ pos (delay + delay)) <ℤ end_of now course → Gets p
-  asked_out p now [] due last o idle by_then after before asked over = absurd (not_both last now before (less_time last now (delay + delay) over))
+      → IsAskedBy due last side p course → (last +ℤ pos reserve) <ℤ end_of now course → Gets_ p course
+  asked_out p now [] due last o idle by_then after before asked over = absurd (not_both last now before (less_time last now reserve over))
   asked_out p now (x ∷ course) due last o idle by_then after before asked over =
       by
       (λ (on : Open (takes p x.1) x.0 course) (s : StaysIdle p side x.0 x.1) (more : IsAskedBy due last side (takes p x.1) course).
       asked_out (takes p x.1) x.0 course due last on s.idle (by_on p x.0 due x.1 by_then s) (upto due now x.0 after o.state.in_time.clocked.0) asked.0 more over)
-      (idles_on p now x course o idle (sooner x.0 last (end_of x.0 course) (delay + delay) asked.0 over))
+      (idles_on p now x course o idle (sooner x.0 last (end_of x.0 course) reserve asked.0 over))
     where
       Rest : Type 0
-      Rest = Open (takes p x.1) x.0 course → StaysIdle p side x.0 x.1 → IsAskedBy due last side (takes p x.1) course → Gets (takes p x.1)
+      Rest = Open (takes p x.1) x.0 course → StaysIdle p side x.0 x.1 → IsAskedBy due last side (takes p x.1) course → Gets_ (takes p x.1) course
 
       -- a probe that was due then
       was_due : StaysIdle p side x.0 x.1 → Asks side x.1 → ⊥
@@ -595,41 +539,41 @@ module _ (q : PairValue) (side : Side) (there : AreThere q) (wait delay : ℕ) w
 
       next :
           Rest → Open (takes p x.1) x.0 course → StaysIdle p side x.0 x.1
-          → Asks side x.1 ⊎ ((Wants due (takes p x.1) side → ⊥) ⊎ IsAskedBy due last side (takes p x.1) course) → Gets p
+          → Asks side x.1 ⊎ ((Wants due (takes p x.1) side → ⊥) ⊎ IsAskedBy due last side (takes p x.1) course) → Gets_ p (x ∷ course)
       next rest on s (inl asks) = absurd (was_due s asks)
       next rest on s (inr (inl not)) = absurd (not (wants_by (takes p x.1) x.0 course due on s.idle (by_on p x.0 due x.1 by_then s)))
       next rest on s (inr (inr more)) = lift p now x course o (rest on s more)
 
-      by : Rest → Gets p ⊎ (Open (takes p x.1) x.0 course × StaysIdle p side x.0 x.1) → Gets p
+      by : Rest → Gets_ p (x ∷ course) ⊎ (Open (takes p x.1) x.0 course × StaysIdle p side x.0 x.1) → Gets_ p (x ∷ course)
       by rest (inl gets) = gets
       by rest (inr it) = next rest it.0 it.1 asked.1
 
   -- or it has yet to come
   waits_out :
       (p : PairValue) (now : ℤ) (course : Course) (due : ℤ) → Open p now course → IsIdle (socket_of p side) → IsBy due p → now ≤ℤ due
-      → ((due +ℤ pos wait) +ℤ pos (delay + delay)) <ℤ end_of now course → Gets p
+      → ((due +ℤ pos wait) +ℤ pos reserve) <ℤ end_of now course → Gets_ p course
   waits_out p now [] due o idle by_then before over =
-      absurd (not_both due now before (less_time due now wait (less_time (due +ℤ pos wait) now (delay + delay) over)))
+      absurd (not_both due now before (less_time due now wait (less_time (due +ℤ pos wait) now reserve over)))
   waits_out p now (x ∷ course) due o idle by_then before over =
       at (int_lt due x.0) refl
       (λ (early : x.0 ≤ℤ due) (on : Open (takes p x.1) x.0 course) (s : StaysIdle p side x.0 x.1).
       waits_out (takes p x.1) x.0 course due on s.idle (by_on p x.0 due x.1 by_then s) early over)
     where
       Rest : Type 0
-      Rest = x.0 ≤ℤ due → Open (takes p x.1) x.0 course → StaysIdle p side x.0 x.1 → Gets (takes p x.1)
+      Rest = x.0 ≤ℤ due → Open (takes p x.1) x.0 course → StaysIdle p side x.0 x.1 → Gets_ (takes p x.1) course
 
-      by : Rest → x.0 ≤ℤ due → Gets p ⊎ (Open (takes p x.1) x.0 course × StaysIdle p side x.0 x.1) → Gets p
+      by : Rest → x.0 ≤ℤ due → Gets_ p (x ∷ course) ⊎ (Open (takes p x.1) x.0 course × StaysIdle p side x.0 x.1) → Gets_ p (x ∷ course)
       by rest early (inl gets) = gets
       by rest early (inr it) = lift p now x course o (rest early it.0 it.1)
 
-      at : (passed : Bool) → int_lt due x.0 ≡ passed → Rest → Gets p
+      at : (passed : Bool) → int_lt due x.0 ≡ passed → Rest → Gets_ p (x ∷ course)
       at true e rest =
           asked_out p due (x ∷ course) due (due +ℤ pos wait) (with_clock p now due x course o before (below due x.0 e)) idle by_then (itself due)
           (later due wait) (o.state.in_time.asks.0 side due before (wants_by p now (x ∷ course) due o idle by_then)) over
       at false e rest =
           by rest (not_below due x.0 e)
           (idles_on p now x course o idle
-          (sooner x.0 (due +ℤ pos wait) (end_of x.0 course) (delay + delay)
+          (sooner x.0 (due +ℤ pos wait) (end_of x.0 course) reserve
           (upto x.0 due (due +ℤ pos wait) (not_below due x.0 e) (later due wait)) over))
 
   -- A PROBE WHOSE MOMENT ISN'T SET
@@ -685,18 +629,18 @@ module _ (q : PairValue) (side : Side) (there : AreThere q) (wait delay : ℕ) w
   -- it is set when the side is asked
   unset_out :
       (p : PairValue) (now : ℤ) (course : Course) (first last : ℤ) → Open p now course → IsIdle (socket_of p side) → IsUnset p → now ≤ℤ last
-      → IsAskedBy first last side p course → (((last +ℤ pos 60_000_000) +ℤ pos wait) +ℤ pos (delay + delay)) <ℤ end_of now course → Gets p
+      → IsAskedBy first last side p course → (((last +ℤ pos 60_000_000) +ℤ pos wait) +ℤ pos reserve) <ℤ end_of now course → Gets_ p course
   unset_out p now [] first last o idle unset before asked over =
       absurd
       (not_both last now before
       (less_time last now 60_000_000
-      (less_time (last +ℤ pos 60_000_000) now wait (less_time ((last +ℤ pos 60_000_000) +ℤ pos wait) now (delay + delay) over))))
+      (less_time (last +ℤ pos 60_000_000) now wait (less_time ((last +ℤ pos 60_000_000) +ℤ pos wait) now reserve over))))
   unset_out p now (x ∷ course) first last o idle unset before asked over =
       by
       (λ (on : Open (takes p x.1) x.0 course) (s : StaysIdle p side x.0 x.1) (u : IsUnset (takes p x.1))
       (more : IsAskedBy first last side (takes p x.1) course). unset_out (takes p x.1) x.0 course first last on s.idle u asked.0 more over)
       (idles_on p now x course o idle
-      (sooner x.0 ((last +ℤ pos 60_000_000) +ℤ pos wait) (end_of x.0 course) (delay + delay)
+      (sooner x.0 ((last +ℤ pos 60_000_000) +ℤ pos wait) (end_of x.0 course) reserve
       (upto x.0 last ((last +ℤ pos 60_000_000) +ℤ pos wait) asked.0
       (upto last (last +ℤ pos 60_000_000) ((last +ℤ pos 60_000_000) +ℤ pos wait) (later last 60_000_000) (later (last +ℤ pos 60_000_000) wait)))
       over))
@@ -704,12 +648,12 @@ module _ (q : PairValue) (side : Side) (there : AreThere q) (wait delay : ℕ) w
       Rest : Type 0
       Rest =
           Open (takes p x.1) x.0 course → StaysIdle p side x.0 x.1 → IsUnset (takes p x.1) → IsAskedBy first last side (takes p x.1) course
-          → Gets (takes p x.1)
+          → Gets_ (takes p x.1) course
 
       still :
           Rest → (on : Open (takes p x.1) x.0 course) → (s : StaysIdle p side x.0 x.1)
           → Asks side x.1 ⊎ ((Wants first (takes p x.1) side → ⊥) ⊎ IsAskedBy first last side (takes p x.1) course) → IsUnset (takes p x.1)
-          → Gets (takes p x.1)
+          → Gets_ (takes p x.1) course
       still rest on s (inl asks) u = absurd (unset_not p x.0 x.1 s asks u)
       still rest on s (inr (inl not)) u =
           absurd
@@ -718,28 +662,28 @@ module _ (q : PairValue) (side : Side) (there : AreThere q) (wait delay : ℕ) w
       still rest on s (inr (inr more)) u = rest on s u more
 
       next : Rest → Open (takes p x.1) x.0 course → StaysIdle p side x.0 x.1 → IsBy (x.0 +ℤ pos 60_000_000) (takes p x.1) ⊎ IsUnset (takes p x.1) →
-          Gets (takes p x.1)
+          Gets_ (takes p x.1) course
       next rest on s (inl soon) =
           waits_out (takes p x.1) x.0 course (last +ℤ pos 60_000_000) on s.idle
           (by_later (takes p x.1) (x.0 +ℤ pos 60_000_000) (last +ℤ pos 60_000_000) (more_time x.0 last 60_000_000 asked.0) soon)
           (upto x.0 last (last +ℤ pos 60_000_000) asked.0 (later last 60_000_000)) over
       next rest on s (inr u) = still rest on s asked.1 u
 
-      by : Rest → Gets p ⊎ (Open (takes p x.1) x.0 course × StaysIdle p side x.0 x.1) → Gets p
+      by : Rest → Gets_ p (x ∷ course) ⊎ (Open (takes p x.1) x.0 course × StaysIdle p side x.0 x.1) → Gets_ p (x ∷ course)
       by rest (inl gets) = gets
       by rest (inr it) =
           lift p now x course o (next rest it.0 it.1 (sorted (takes p x.1) x.0 it.0.state.reached it.0.state.in_time.clock))
 
   pub idle_out :
       (p : PairValue) (now : ℤ) (course : Course) → Open p now course → IsIdle (socket_of p side)
-      → ((((now +ℤ pos wait) +ℤ pos 60_000_000) +ℤ pos wait) +ℤ pos (delay + delay)) <ℤ end_of now course → Gets p
+      → ((((now +ℤ pos wait) +ℤ pos 60_000_000) +ℤ pos wait) +ℤ pos reserve) <ℤ end_of now course → Gets_ p course
   idle_out p now course o idle over = by course o over (sorted p now o.state.reached o.state.in_time.clock) where
     last : ℤ
     last = now +ℤ pos wait
 
     by :
-        (course : Course) → Open p now course → (((last +ℤ pos 60_000_000) +ℤ pos wait) +ℤ pos (delay + delay)) <ℤ end_of now course
-        → IsBy (now +ℤ pos 60_000_000) p ⊎ IsUnset p → Gets p
+        (course : Course) → Open p now course → (((last +ℤ pos 60_000_000) +ℤ pos wait) +ℤ pos reserve) <ℤ end_of now course
+        → IsBy (now +ℤ pos 60_000_000) p ⊎ IsUnset p → Gets_ p course
     by course o over (inl soon) =
         waits_out p now course (last +ℤ pos 60_000_000) o idle
         (by_later p (now +ℤ pos 60_000_000) (last +ℤ pos 60_000_000) (more_time now last 60_000_000 (later now wait)) soon)
@@ -748,7 +692,7 @@ module _ (q : PairValue) (side : Side) (there : AreThere q) (wait delay : ℕ) w
         absurd
         (not_both last now (later now wait)
         (less_time last now 60_000_000
-        (less_time (last +ℤ pos 60_000_000) now wait (less_time ((last +ℤ pos 60_000_000) +ℤ pos wait) now (delay + delay) over))))
+        (less_time (last +ℤ pos 60_000_000) now wait (less_time ((last +ℤ pos 60_000_000) +ℤ pos wait) now reserve over))))
     by (x ∷ course) o over (inr unset) =
         unset_out p now (x ∷ course) now last o idle unset (later now wait)
         (o.state.in_time.asks.0 side now (itself now)

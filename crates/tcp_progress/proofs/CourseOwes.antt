@@ -1,9 +1,8 @@
 -- A side that owes something, and has nothing in flight, is asked and sends, where both windows let it.
-use Rattle.std.proofs.Common.{◌≡◌, ◌⊎◌, inl, inr, ℕ, zero, suc, ◌+◌, ◌-◌, ◌*◌, ◌<◌, ◌≤◌, ◌==◌, nat_le, nat_lt, max, ℤ, pos, ◌+ℤ◌, ◌≤ℤ◌, ◌<ℤ◌, Bool}
-use Rattle.std.proofs.Common.{true, false, if◌then◌else◌, [], ◌∷◌, length, Some, refl, sym, ap, ◌∙◌, subst, arith}
+use Rattle.std.proofs.Common.{◌≡◌, ◌⊎◌, inl, inr, ℕ, ◌+◌, ◌*◌, ◌<◌, ◌≤◌, ◌==◌, nat_le, nat_lt, max, ℤ, pos, ◌+ℤ◌, ◌≤ℤ◌, ◌<ℤ◌, Bool}
+use Rattle.std.proofs.Common.{true, false, if◌then◌else◌, [], ◌∷◌, Some, refl, sym, ap, ◌∙◌, subst, arith}
 use Rattle.std.proofs.lemmas.Bool.{eqb-true, leb-false, leb-true, ltb-false, ltb-true}
 use Rattle.std.proofs.lemmas.Int.{ints}
-use Rattle.std.proofs.lemmas.Option.{slice_get_within}
 use Rattle.tcp_tie.specs.Offers.{IsBefore}
 use Rattle.tcp_tie.specs.PollAt.{PollAt}
 use Rattle.tcp_model.proofs.Waits.{is_quiet}
@@ -11,8 +10,7 @@ use Rattle.tcp_rules.specs.EndpointPair.{EndpointPair}
 use Rattle.tcp_rules.specs.Moments.{is_due}
 use Rattle.tcp_rules.proofs.OfferCases.{begun as asked_with}
 use Rattle.tcp_rules.proofs.OrderSteps.{clash}
-use Rattle.tcp_model.specs.Blocks.{one_if}
-use Rattle.tcp_tie.specs.Pair.Sides.{at, other}
+use Rattle.tcp_tie.specs.Pair.Sides.{other}
 use Rattle.tcp_tie.specs.Pair.Steps.{Steps}
 use Rattle.tcp_model.specs.Value.{TcpValue, room_of}
 use Rattle.tcp_tie.specs.Pair.Values.{PairValue, past_at}
@@ -21,8 +19,8 @@ use Rattle.tcp_tie.specs.declared.pair.event.PairEvent.TheVariants.{Listen, Conn
 use Rattle.tcp_tie.specs.declared.pair.event.Side.{Side}
 use Rattle.tcp_tie.specs.declared.pair.event.Side.TheVariants.{A, B}
 use Rattle.tcp_progress.specs.Arrivals.{is_synchronized}
-use Rattle.tcp_progress.specs.BothWays.{AreThere, total_in}
-use Rattle.tcp_progress.specs.Course.{Asks, GoesInTime, IsAskedBy, IsHinderedAmong, IsHinderedIn, IsShutAmong, Wants, end_of, events_of, span_of}
+use Rattle.tcp_progress.specs.BothWays.{AreThere}
+use Rattle.tcp_progress.specs.Course.{Asks, DeliversWithin, GoesInTime, IsAskedBy, IsHinderedAmong, IsHinderedIn, IsShutAmong, Wants, end_of, events_of, span_of}
 use Rattle.tcp_progress.specs.Exchange.{IsOpen}
 use Rattle.tcp_progress.specs.Late.{sent_by}
 use Rattle.tcp_progress.specs.Onward.{AreOpen, HasRisen, acked_in}
@@ -30,31 +28,29 @@ use Rattle.tcp_progress.specs.Pair.{HasStream, context_of, left_in, mtu_of, next
 use Rattle.tcp_progress.specs.Reached.{IsReached}
 use Rattle.tcp_progress.specs.Restart.{Sends, first_cwnd, worth_sending}
 use Rattle.tcp_progress.specs.Rounds.{takes}
-use Rattle.tcp_progress.specs.Sent.{taken_in}
 use Rattle.tcp_progress.specs.Spans.{IsHeldAmong, IsHeldIn}
 use Rattle.tcp_progress.proofs.AgainGoes.{survives}
-use Rattle.tcp_progress.proofs.CourseExchange.{exchange_in_time}
-use Rattle.tcp_progress.proofs.CourseGoes.{Goes, goes_on_in_time, offered_there, shut_hinders}
+use Rattle.tcp_progress.proofs.CourseGoes.{Goes, exchanges, goes_on_in_time, offered_there, shut_hinders}
+use Rattle.tcp_progress.proofs.CourseMoments.{later, less_time, not_both, sooner}
 use Rattle.tcp_progress.proofs.CourseRuns.{poll_is}
-use Rattle.tcp_progress.proofs.CourseParts.{Course, clock_on, held_now, there_before}
-use Rattle.tcp_progress.proofs.Kept.{reached_by}
+use Rattle.tcp_progress.proofs.CourseParts.{Course, held_now}
+use Rattle.tcp_progress.proofs.CourseStands.{State as Owing, acked_to_end, moves, open_at, open_m, rm, still_owes, tail, there_m, timely}
 use Rattle.tcp_progress.proofs.LateExchange.{goes_last, goes_now}
-use Rattle.tcp_progress.proofs.LateText.{left_within, there_of}
+use Rattle.tcp_progress.proofs.LateText.{risen_since, stream_since}
 use Rattle.tcp_progress.proofs.Mirrored.{named_in}
 use Rattle.tcp_progress.proofs.OfItself.{sends_there, side_sends}
-use Rattle.tcp_progress.proofs.OnwardPairs.{IsBegun, MovesIn, begun, begun_after, by_steps}
-use Rattle.tcp_progress.proofs.Opened.{is_open}
+use Rattle.tcp_progress.proofs.OnwardPairs.{MovesIn, begun}
 use Rattle.tcp_progress.proofs.Pair.{not_closed}
 use Rattle.tcp_progress.proofs.Resent.{again_sent}
 use Rattle.tcp_progress.proofs.Resumes.{StartsWith, text}
 
 -- WHAT IT WANTS
 
-pub record IsWide (v : TcpValue) : Type 0 where
+record IsWide (v : TcpValue) : Type 0 where
   pub window : worth_sending v ≤ v.block.peer.window
   pub cwnd : worth_sending v ≤ v.block.reno.cwnd
 
-pub wide_or_held : (p : PairValue) (side : Side) → (socket_of p side).block.sender.in_flight ≡ 0 → IsWide (socket_of p side) ⊎ IsHeldIn p side
+wide_or_held : (p : PairValue) (side : Side) → (socket_of p side).block.sender.in_flight ≡ 0 → IsWide (socket_of p side) ⊎ IsHeldIn p side
 wide_or_held p side none = by (nat_le worth window) (nat_le worth cwnd) refl refl where
   worth : ℕ
   worth = worth_sending (socket_of p side)
@@ -71,7 +67,7 @@ wide_or_held p side none = by (nat_le worth window) (nat_le worth cwnd) refl ref
   by true false e f = inr (none, inr (leb-false worth cwnd f))
 
 -- it has text to send, and wants to be asked
-pub wants_idle :
+wants_idle :
     (p : PairValue) (side : Side) (due : ℤ) → IsReached p → IsOpen (socket_of p side).block → 1 ≤ left_in p side
     → (socket_of p side).block.sender.in_flight ≡ 0 → IsWide (socket_of p side) → Wants due p side
 wants_idle p side due r mine owes none wide before =
@@ -170,100 +166,67 @@ asked_sends p side (Deliver from k) never r mine owes none wide stays = absurd n
 
 -- MOMENTS
 
-not_both : (last end : ℤ) → end ≤ℤ last → last <ℤ end → ⊥
-not_both last end e f = first_of (omega (arith, ints), grind (arith, ints))
-
-later : (now : ℤ) (n : ℕ) → now ≤ℤ (now +ℤ pos n)
-later now n = first_of (omega (arith, ints), grind (arith, ints))
-
-sooner : (a b end : ℤ) (n : ℕ) → a ≤ℤ b → (b +ℤ pos n) <ℤ end → (a +ℤ pos n) <ℤ end
-sooner a b end n e f = first_of (omega (arith, ints), grind (arith, ints))
-
-less_time : (a end : ℤ) (n : ℕ) → (a +ℤ pos n) <ℤ end → a <ℤ end
-less_time a end n e = first_of (omega (arith, ints), grind (arith, ints))
-
 two_segments : (a end : ℤ) (more delay : ℕ) → (a +ℤ pos (more + delay + delay)) <ℤ end → ((a +ℤ pos delay) +ℤ pos delay) <ℤ end
 two_segments a end more delay e = first_of (omega (arith, ints), grind (arith, ints))
 
 waits_first : (a end : ℤ) (wait span : ℕ) → (a +ℤ pos (wait + span)) <ℤ end → ((a +ℤ pos wait) +ℤ pos span) <ℤ end
 waits_first a end wait span e = first_of (omega (arith, ints), grind (arith, ints))
 
-positive : (n : ℕ) → (n == 0) ≡ false → 1 ≤ n
-positive zero e = clash e
-positive (suc n) e = one n where
-  one : (n : ℕ) → 1 ≤ suc n
-  one n = omega arith
-
 -- THE COURSE
 
 module _ (q : PairValue) (side : Side) (there : AreThere q) (wait delay : ℕ) where
-  pub record State (p : PairValue) (now : ℤ) (course : Course) : Type 0 where
-    pub reached : IsReached p
-    pub a : IsBegun p A
-    pub b : IsBegun p B
-    pub steps : Steps p (events_of course) q
-    pub owes : 1 ≤ left_in p side
-    pub in_time : GoesInTime wait delay now p side course
+  -- a side that owes something, in a course in which each segment comes in time
+  record State (p : PairValue) (now : ℤ) (course : Course) : Type 0 where
+    on : Owing q side there wait p now course
+    delivers : DeliversWithin delay p course
+    stream : HasStream (past_at p side)
 
   abbrev Ways : PairValue → Course → Type 0
   Ways p course =
       HasRisen p q side
       ⊎ (HasRisen p q (other side) ⊎ (IsHinderedAmong p side (events_of course) ⊎ IsHeldAmong p side (events_of course)))
 
-  begun_of : (p : PairValue) (of : Side) → IsBegun p A → IsBegun p B → IsBegun p of
-  begun_of p A a b = a
-  begun_of p B a b = b
-
-  pub open_at : (p : PairValue) (now : ℤ) (course : Course) (of : Side) → State p now course → IsOpen (socket_of p of).block
-  open_at p now course of h =
-      is_open p of h.reached
-      (there_before p q of (begun_of p of h.a h.b) (by_steps p (events_of course) q h.reached h.a h.b h.steps of) (there_of q of there))
-      (begun_of p of h.a h.b).syn
-
   -- with something in flight
   flies : (p : PairValue) (now : ℤ) (course : Course) → State p now course → ((socket_of p side).block.sender.in_flight == 0) ≡ false
       → (now +ℤ pos (span_of wait delay p side)) <ℤ end_of now course → Ways p course
   flies p now course h flight over =
-      by (goes_on_in_time p q side course wait delay now h.reached (open_at p now course A h, open_at p now course B h) h.steps there flight h.in_time over)
+      by
+      (goes_on_in_time p q side course wait delay now h.on.reached
+      (open_at q side there wait p now course A h.on, open_at q side there wait p now course B h.on) h.on.steps there flight in_time over)
     where
+      in_time : GoesInTime wait delay now p side course
+      in_time =
+          let c = h.on.in_time in
+          record {
+            clock = c.clock;
+            clocked = c.clocked;
+            asks = c.asks;
+            taken = c.taken;
+            delivers = h.delivers;
+            stream = h.stream;
+            room = c.room;
+          }
+
       by : HasRisen p q side ⊎ (HasRisen p q (other side) ⊎ IsHinderedAmong p side (events_of course)) → Ways p course
       by (inl risen) = inl risen
       by (inr (inl risen)) = inr (inl risen)
       by (inr (inr it)) = inr (inr (inl it))
 
   module _ (p : PairValue) (now : ℤ) (x : ℤ × PairEvent) (course : Course) (h : State p now (x ∷ course)) where
-    abbrev pub m : PairValue
+    abbrev m : PairValue
     m = takes p x.1
 
-    pub moves : (of : Side) → MovesIn p m of
-    moves of = by_steps p (x.1 ∷ []) m h.reached h.a h.b (h.steps.0, refl) of
+    first : (of : Side) → MovesIn p m of
+    first of = moves q side there wait p now x course h.on of
 
-    pub rm : IsReached m
-    rm = reached_by p m (x.1 ∷ []) h.reached (h.steps.0, refl)
-
-    pub begun_m : (of : Side) → IsBegun m of
-    begun_m of = begun_after p m of (moves of) (begun_of p of h.a h.b)
-
-    pub from_m : (of : Side) → MovesIn m q of
-    from_m of = by_steps m (events_of course) q rm (begun_m A) (begun_m B) h.steps.1 of
-
-    pub there_m : (of : Side) → is_synchronized (socket_of m of).block.state ≡ true
-    there_m of = there_before m q of (begun_m of) (from_m of) (there_of q of there)
-
-    pub open_m : (of : Side) → IsOpen (socket_of m of).block
-    open_m of = is_open m of rm (there_m of) (begun_m of).syn
+    opened : (of : Side) → IsOpen (socket_of m of).block
+    opened of = open_m q side there wait p now x course h.on of
 
     mine : IsOpen (socket_of p side).block
-    mine = open_at p now (x ∷ course) side h
+    mine = open_at q side there wait p now (x ∷ course) side h.on
 
-    pub lifted : (of : Side) → HasRisen m q of → HasRisen p q of
-    lifted of (inl e) =
-        inl (more (total_in p of) (left_in p of) (total_in m of) (left_in m of) (acked_in q of) (moves of).acked e) where
-          more : (a b c d e : ℕ) → a + d ≤ c + b → c - d < e → a - b < e
-          more a b c d e x y = omega arith
-    lifted of (inr e) = inr (more (taken_in p of) (taken_in m of) (taken_in q of) (moves of).taken e) where
-      more : (a b c : ℕ) → a ≤ b → b < c → a < c
-      more a b c x y = omega arith
+    lifted : (of : Side) → HasRisen m q of → HasRisen p q of
+    lifted of risen = risen_since p m q of (first of) risen
 
     lift : Ways m course → Ways p (x ∷ course)
     lift (inl risen) = inl (lifted side risen)
@@ -271,80 +234,45 @@ module _ (q : PairValue) (side : Side) (there : AreThere q) (wait delay : ℕ) w
     lift (inr (inr (inl it))) = inr (inr (inl (inr it)))
     lift (inr (inr (inr it))) = inr (inr (inr (inr it)))
 
-    -- the stream, and the other's buffer
-    pub stream : HasStream (past_at m side)
-    stream = inr (more (length (past_at p side).written) (length (past_at m side).written) (wrote h.in_time.stream) (moves side).written) where
-      more : (a b : ℕ) → 1 ≤ a → a ≤ b → 1 ≤ b
-      more a b e f = omega arith
+    stream : HasStream (past_at m side)
+    stream = stream_since p m side h.on.reached mine h.on.owes (first side) h.stream
 
-      some : (written : ℕ) {fin left : ℕ} → fin ≡ 0 → left ≤ written + fin → 1 ≤ left → 1 ≤ written
-      some written e f g = omega arith
-
-      wrote : HasStream (past_at p side) → 1 ≤ length (past_at p side).written
-      wrote (inl unclosed) = some (length (past_at p side).written) (ap one_if unclosed) (left_within p side h.reached mine) h.owes
-      wrote (inr some) = some
-
-    pub room : 1 ≤ room_of (socket_of m (other side)).received
-    room = subst (λ (n : ℕ). 1 ≤ n) (sym (moves (other side)).room) h.in_time.room
-
-    pub tail : 1 ≤ left_in m side → State m x.0 course
-    tail owes = record {
-      reached = rm;
-      a = begun_m A;
-      b = begun_m B;
-      steps = h.steps.1;
-      owes = owes;
-      in_time = record {
-        clock = clock_on p side x.1 now x.0 h.in_time.clock h.in_time.clocked.0 h.in_time.clocked.1.0;
-        clocked = h.in_time.clocked.1.1;
-        asks = h.in_time.asks.1;
-        taken = h.in_time.taken.1;
-        delivers = h.in_time.delivers.1;
-        stream = stream;
-        room = room;
-      };
+    behind : acked_in m side ≤ acked_in p side → State m x.0 course
+    behind e = record {
+      on = tail q side there wait p now x course h.on (still_owes q side there wait p now x course h.on e);
+      delivers = h.delivers.1;
+      stream = stream;
     }
 
-    -- more is acknowledged, or something isn't still
-    pub still_owes : acked_in m side ≤ acked_in p side → 1 ≤ left_in m side
-    still_owes e =
-        by (total_in p side) (left_in p side) (total_in m side) (left_in m side) h.owes (left_within p side h.reached mine) (moves side).total e where
-          by : (a b c d : ℕ) → 1 ≤ b → b ≤ a → a ≤ c → c - d ≤ a - b → 1 ≤ d
-          by a b c d e f g h = omega arith
-
-    pub acked_to_end : acked_in m side ≤ acked_in q side
-    acked_to_end = by (total_in m side) (total_in q side) (left_in m side) (left_in q side) (from_m side).acked where
-      by : (a b c d : ℕ) → a + d ≤ b + c → a - c ≤ b - d
-      by a b c d e = omega arith
-
     risen_now : acked_in p side < acked_in m side → Ways p (x ∷ course)
-    risen_now e = inl (inl (three (acked_in p side) (acked_in m side) (acked_in q side) e acked_to_end)) where
+    risen_now e = inl (inl (three (acked_in p side) (acked_in m side) (acked_in q side) e (acked_to_end q side there wait p now x course h.on))) where
       three : (a b c : ℕ) → a < b → b ≤ c → a < c
       three a b c e f = omega arith
 
     same_span : span_of wait delay m side ≡ span_of wait delay p side
-    same_span = ap (λ (k : ℕ). (max 1 k + 2 + 2) * 60_000_000 + wait + delay + delay) (moves (other side)).room
+    same_span = ap (λ (k : ℕ). (max 1 k + 2 + 2) * 60_000_000 + wait + delay + delay) (first (other side)).room
 
     -- the side is asked now
     asked_now : Asks side x.1 → (socket_of p side).block.sender.in_flight ≡ 0 → IsWide (socket_of p side)
         → ((x.0 +ℤ pos delay) +ℤ pos delay) <ℤ end_of x.0 course → Ways p (x ∷ course)
-    asked_now asks none wide over = by (asked_sends p side x.1 asks h.reached mine h.owes none wide (there_m side)) where
-      exchanged : HasRisen m q side ⊎ (HasRisen m q (other side) ⊎ IsShutAmong m side (next_sent p side) course) → Ways p (x ∷ course)
-      exchanged (inl risen) = inl (lifted side risen)
-      exchanged (inr (inl risen)) = inr (inl (lifted (other side) risen))
-      exchanged (inr (inr shut)) = inr (inr (inl (inr (shut_hinders m side (next_sent p side) course shut))))
+    asked_now asks none wide over =
+        by
+        (asked_sends p side x.1 asks h.on.reached mine h.on.owes none wide (there_m q side there wait p now x course h.on side))
+      where
+        exchanged : HasRisen m q side ⊎ (HasRisen m q (other side) ⊎ IsShutAmong m side (next_sent p side) course) → Ways p (x ∷ course)
+        exchanged (inl risen) = inl (lifted side risen)
+        exchanged (inr (inl risen)) = inr (inl (lifted (other side) risen))
+        exchanged (inr (inr shut)) = inr (inr (inl (inr (shut_hinders m side (next_sent p side) course shut))))
 
-      itself : (n : ℕ) → n ≤ n
-      itself n = omega arith
+        room : 1 ≤ room_of (socket_of m (other side)).received
+        room = subst (λ (n : ℕ). 1 ≤ n) (sym (first (other side)).room) h.on.in_time.room
 
-      by : IsHinderedIn p side x.1 ⊎ Goes p side x.1 → Ways p (x ∷ course)
-      by (inl it) = inr (inr (inl (inl it)))
-      by (inr it) =
-          exchanged
-          (exchange_in_time m q side (next_sent p side) it.x course delay x.0 rm (open_m A, open_m B) h.steps.1 there stream room it.goes it.sent
-          (h.in_time.delivers.0 side (next_sent p side) (itself (next_sent p side))
-          (slice_get_within (at m.sides side).sent (next_sent p side) it.x it.sent))
-          h.in_time.clocked.1.1 h.in_time.delivers.1 over)
+        by : IsHinderedIn p side x.1 ⊎ Goes p side x.1 → Ways p (x ∷ course)
+        by (inl it) = inr (inr (inl (inl it)))
+        by (inr it) =
+            exchanged
+            (exchanges p q side x course delay it (rm q side there wait p now x course h.on) (opened A, opened B) h.on.steps.1 there stream room h.delivers
+            h.on.in_time.clocked.1.1 over)
 
   -- the side waits to be asked
   walk :
@@ -372,7 +300,7 @@ module _ (q : PairValue) (side : Side) (there : AreThere q) (wait delay : ℕ) w
           State (takes p x.1) x.0 course → (socket_of (takes p x.1) side).block.sender.in_flight ≡ 0 → (Wants due (takes p x.1) side → ⊥)
           → IsWide (socket_of (takes p x.1) side) ⊎ IsHeldIn (takes p x.1) side → Ways (takes p x.1) course
       unwilling on idle not (inl wide) =
-          absurd (not (wants_idle (takes p x.1) side due on.reached (open_m p now x course h side) on.owes idle wide))
+          absurd (not (wants_idle (takes p x.1) side due on.on.reached (opened p now x course h side) on.on.owes idle wide))
       unwilling on idle not (inr held) = inr (inr (inr (held_now (takes p x.1) side course held)))
 
       idle_on :
@@ -392,7 +320,7 @@ module _ (q : PairValue) (side : Side) (there : AreThere q) (wait delay : ℕ) w
       goes_by rest next false e =
           lift p now x course h
           (idle_on rest next
-          (tail p now x course h (still_owes p now x course h (ltb-false (acked_in p side) (acked_in (takes p x.1) side) e)))
+          (behind p now x course h (ltb-false (acked_in p side) (acked_in (takes p x.1) side) e))
           ((socket_of (takes p x.1) side).block.sender.in_flight == 0) refl)
 
       with_room : IsWide (socket_of p side) → Rest → Asks side x.1 ⊎ ((Wants due (takes p x.1) side → ⊥) ⊎ IsAskedBy due last side (takes p x.1) course)
@@ -420,7 +348,9 @@ module _ (q : PairValue) (side : Side) (there : AreThere q) (wait delay : ℕ) w
         (not_both (now +ℤ pos wait) now (later now wait) (less_time (now +ℤ pos wait) now (span_of wait delay p side) over))
     starts (x ∷ course) h none over wide =
         walk p now (x ∷ course) now (now +ℤ pos wait) h none (later now wait)
-        (h.in_time.asks.0 side now (itself now) (wants_idle p side now h.reached (open_at p now (x ∷ course) side h) h.owes none wide)) over
+        (h.on.in_time.asks.0 side now (itself now)
+        (wants_idle p side now h.on.reached (open_at q side there wait p now (x ∷ course) side h.on) h.on.owes none wide))
+        over
       where
         itself : (a : ℤ) → a ≤ℤ a
         itself a = grind arith
@@ -439,4 +369,16 @@ pub owed_in_time :
     → HasRisen p q side ⊎ (HasRisen p q (other side) ⊎ (IsHinderedAmong p side (events_of course) ⊎ IsHeldAmong p side (events_of course)))
 owed_in_time p q side course wait delay now r o s there owes c over =
     owed q side there wait delay p now course
-    (record { reached = r; a = begun p A r o.0; b = begun p B r o.1; steps = s; owes = owes; in_time = c }) over
+    (record {
+      on = record {
+        reached = r;
+        a = begun p A r o.0;
+        b = begun p B r o.1;
+        steps = s;
+        owes = owes;
+        in_time = timely wait delay now p side course c;
+      };
+      delivers = c.delivers;
+      stream = c.stream;
+    })
+    over

@@ -1,6 +1,6 @@
 -- A course in two parts, and the clock of a side in it.
 use Rattle.std.proofs.Common.{◌≡◌, ◌⊎◌, inl, inr, ℕ, ℤ, pos, ◌+ℤ◌, ◌≤ℤ◌, Bool, true, false, List, []}
-use Rattle.std.proofs.Common.{◌∷◌, ◌++◌, Result, Ok, Err, slice_get, refl, sym, ◌∙◌, subst, arith}
+use Rattle.std.proofs.Common.{◌∷◌, ◌++◌, Result, Ok, Err, slice_get, refl, sym, ◌∙◌, subst}
 use Rattle.tcp_rules.specs.RecvError.{RecvError}
 use Rattle.tcp_rules.specs.States.{is_closed}
 use Rattle.tcp_rules.proofs.OrderSteps.{clash}
@@ -13,15 +13,24 @@ use Rattle.tcp_tie.specs.declared.pair.event.PairEvent.{PairEvent}
 use Rattle.tcp_tie.specs.declared.pair.event.PairEvent.TheVariants.{Listen, Connect, Send, Recv, Close, Abort, TcpSetting, Clock, Offer, Deliver}
 use Rattle.tcp_tie.specs.declared.pair.event.SentSegment.{SentSegment}
 use Rattle.tcp_tie.specs.declared.pair.event.Side.{Side}
+use Rattle.tcp_tie.specs.declared.pair.event.Side.TheVariants.{A, B}
 use Rattle.tcp_progress.specs.Arrivals.{is_synchronized}
+use Rattle.tcp_progress.specs.BothWays.{AreThere}
 use Rattle.tcp_progress.specs.Course.{AreTaken, Asks, AsksWithin, DeliversWithin, IsAskedBy, IsAt, IsClocked, IsHeardBy, IsHeardWith, IsHinderedAmong}
 use Rattle.tcp_progress.specs.Course.{Wants, end_of, events_of}
+use Rattle.tcp_progress.specs.Exchange.{IsOpen}
 use Rattle.tcp_progress.specs.Pair.{left_in, socket_of}
+use Rattle.tcp_progress.specs.Reached.{IsReached}
+use Rattle.tcp_progress.specs.Readers.{IsReadBy, Reads, ReadsWithin}
 use Rattle.tcp_progress.specs.Rounds.{takes}
 use Rattle.tcp_progress.specs.Spans.{IsHeldAmong, IsHeldIn, IsThroughAmong}
 use Rattle.tcp_progress.proofs.CourseExchange.{by_put}
+use Rattle.tcp_progress.proofs.CourseMoments.{at_most, upto}
 use Rattle.tcp_progress.proofs.Moments.{handed_moment}
-use Rattle.tcp_progress.proofs.OnwardPairs.{IsBegun, MovesIn}
+use Rattle.tcp_progress.proofs.Kept.{reached_by}
+use Rattle.tcp_progress.proofs.LateText.{there_of}
+use Rattle.tcp_progress.proofs.OnwardPairs.{IsBegun, MovesIn, begun_after, by_steps}
+use Rattle.tcp_progress.proofs.Opened.{is_open}
 use Rattle.tcp_progress.proofs.Pair.{not_closed}
 use Rattle.tcp_progress.proofs.Turns.{late_on}
 
@@ -31,12 +40,6 @@ Course = List (ℤ × PairEvent)
 abbrev pub after_all : PairValue → Course → PairValue
 after_all p [] = p
 after_all p (x ∷ course) = after_all (takes p x.1) course
-
-upto : (a b c : ℤ) → a ≤ℤ b → b ≤ℤ c → a ≤ℤ c
-upto a b c e f = grind arith
-
-at_most : (moment now : ℤ) → moment ≡ now → moment ≤ℤ now
-at_most moment now e = grind arith
 
 -- no side's clock is ahead of the one of the course
 own_clock : (s : PairSide) (others : List SentSegment) (event : PairEvent) (now : ℤ) → s.moment ≤ℤ now → IsAt now event → (acts s others event).side.moment ≤ℤ now
@@ -145,6 +148,28 @@ pub asks_rest : (wait : ℕ) (now : ℤ) (p : PairValue) (first rest : Course) �
 asks_rest wait now p [] rest a = a
 asks_rest wait now p (x ∷ first) rest a = asks_rest wait x.0 (takes p x.1) first rest a.1
 
+read_first : (last : ℤ) (side : Side) (first rest : Course) → IsReadBy last side (first ++ rest) → IsReadBy last side first
+read_first last side [] rest r = tt
+read_first last side (x ∷ first) rest r = (r.0, by (λ more. read_first last side first rest more) r.1) where
+  by :
+      (IsReadBy last side (first ++ rest) → IsReadBy last side first) → Reads side x.1 ⊎ IsReadBy last side (first ++ rest)
+      → Reads side x.1 ⊎ IsReadBy last side first
+  by on (inl reads) = inl reads
+  by on (inr more) = inr (on more)
+
+pub reads_first :
+    (read : ℕ) (now : ℤ) (p : PairValue) (side : Side) (first rest : Course) → ReadsWithin read now p side (first ++ rest)
+    → ReadsWithin read now p side first
+reads_first read now p side [] rest r = tt
+reads_first read now p side (x ∷ first) rest r =
+    ((λ none. read_first (now +ℤ pos read) side (x ∷ first) rest (r.0 none)), reads_first read x.0 (takes p x.1) side first rest r.1)
+
+pub reads_rest :
+    (read : ℕ) (now : ℤ) (p : PairValue) (side : Side) (first rest : Course) → ReadsWithin read now p side (first ++ rest)
+    → ReadsWithin read (end_of now first) (after_all p first) side rest
+reads_rest read now p side [] rest r = r
+reads_rest read now p side (x ∷ first) rest r = reads_rest read x.0 (takes p x.1) side first rest r.1
+
 pub hindered_first : (p : PairValue) (side : Side) (first rest : Course) → IsHinderedAmong p side (events_of first) → IsHinderedAmong p side (events_of (first ++ rest))
 hindered_first p side [] rest never = absurd never
 hindered_first p side (x ∷ first) rest (inl it) = inl it
@@ -193,3 +218,34 @@ there_before p q side b m there =
     late_on (socket_of p side).block.state b.early
     (was_open (is_closed (socket_of p side).block.state) (is_closed (socket_of q side).block.state) m.closed
     (not_closed (socket_of q side).block.state there))
+
+-- events led from `p` to `m`, and lead from there to `q`
+pub record Midway (p m q : PairValue) : Type 0 where
+  pub reached : IsReached m
+  pub begun : (of : Side) → IsBegun m of
+  pub to : (of : Side) → MovesIn p m of
+  pub from : (of : Side) → MovesIn m q of
+  pub opened : (of : Side) → IsOpen (socket_of m of).block
+
+pub midway :
+    (p m q : PairValue) → IsReached p → ((of : Side) → IsBegun p of) → AreThere q → (before after : List PairEvent) → Steps p before m → Steps m after q
+    → Midway p m q
+midway p m q r begun there before after s t = record {
+  reached = rm;
+  begun = begun_m;
+  to = to;
+  from = from;
+  opened = λ of. is_open m of rm (there_before m q of (begun_m of) (from of) (there_of q of there)) (begun_m of).syn;
+}
+  where
+    rm : IsReached m
+    rm = reached_by p m before r s
+
+    to : (of : Side) → MovesIn p m of
+    to of = by_steps p before m r (begun A) (begun B) s of
+
+    begun_m : (of : Side) → IsBegun m of
+    begun_m of = begun_after p m of (to of) (begun of)
+
+    from : (of : Side) → MovesIn m q of
+    from of = by_steps m after q rm (begun_m A) (begun_m B) t of

@@ -1,5 +1,5 @@
 -- In a course a side is asked in time: so it begins at SND.UNA, or more is acknowledged.
-use Rattle.std.proofs.Common.{◌≡◌, ◌⊎◌, inl, inr, ℕ, ◌+◌, ◌*◌, ◌<◌, ◌≤◌, ◌==◌, nat_lt, max, ℤ, pos, ◌+ℤ◌, ◌≤ℤ◌, ◌<ℤ◌, int_le, int_lt, Bool, true, false}
+use Rattle.std.proofs.Common.{◌≡◌, ◌⊎◌, inl, inr, ℕ, ◌+◌, ◌*◌, ◌<◌, ◌≤◌, ◌==◌, nat_lt, max, ℤ, pos, ◌+ℤ◌, ◌≤ℤ◌, ◌<ℤ◌, int_lt, Bool, true, false}
 use Rattle.std.proofs.Common.{if◌then◌else◌, List, [], ◌∷◌, Option, Some, None, refl, sym, ap, ◌∙◌, subst, arith}
 use Rattle.std.proofs.lemmas.Bool.{ltb-false, ltb-true}
 use Rattle.std.proofs.lemmas.Int.{ints}
@@ -29,6 +29,7 @@ use Rattle.tcp_progress.specs.Pair.{context_of, mtu_of, socket_of}
 use Rattle.tcp_progress.specs.PutOff.{IsAskedBefore, IsRunning, RunsOutAmong, RunsOutAt, RunsOutIn}
 use Rattle.tcp_progress.specs.Reached.{IsReached}
 use Rattle.tcp_progress.specs.Rounds.{takes}
+use Rattle.tcp_progress.proofs.CourseMoments.{below, come, itself, later, not_below, not_both, upto}
 use Rattle.tcp_progress.proofs.LateText.{open_of}
 use Rattle.tcp_progress.proofs.Mending.{Few, few_first, mending_of}
 use Rattle.tcp_progress.proofs.MendingRuns.{Next, later_by, next_of, room_stays, when_before}
@@ -38,35 +39,6 @@ use Rattle.tcp_progress.proofs.Pair.{not_closed}
 use Rattle.tcp_progress.proofs.PairTimers.{timer_near}
 use Rattle.tcp_progress.proofs.PutOff.{is_running}
 use Rattle.tcp_progress.proofs.PutOffRuns.{Step, asked_then, step}
-
--- MOMENTS
-
-upto : (a b c : ℤ) → a ≤ℤ b → b ≤ℤ c → a ≤ℤ c
-upto a b c e f = grind arith
-
-same_moment : (a : ℤ) → a ≤ℤ a
-same_moment a = grind arith
-
-come : (when now : ℤ) → when ≤ℤ now → is_due now (Some when) ≡ true
-come when now e = by (int_le when now) refl where
-  never : int_le when now ≡ false → ⊥
-  never so = first_of (omega (arith, ints), grind (arith, ints))
-
-  by : (due : Bool) → int_le when now ≡ due → due ≡ true
-  by true so = refl
-  by false so = absurd (never so)
-
-not_both : (last end : ℤ) → end ≤ℤ last → last <ℤ end → ⊥
-not_both last end e f = first_of (omega (arith, ints), grind (arith, ints))
-
-waits_after : (due : ℤ) (wait : ℕ) → due ≤ℤ (due +ℤ pos wait)
-waits_after due wait = first_of (omega (arith, ints), grind (arith, ints))
-
-below : (due now : ℤ) → int_lt due now ≡ true → due ≤ℤ now
-below due now e = first_of (omega (arith, ints), grind (arith, ints))
-
-not_below : (due now : ℤ) → int_lt due now ≡ false → now ≤ℤ due
-not_below due now e = first_of (omega (arith, ints), grind (arith, ints))
 
 -- A SIDE WITH A TIMER WANTS TO BE ASKED
 
@@ -327,7 +299,7 @@ module _ (P : PairValue → List (ℤ × PairEvent) → Type 0)
             clocked = (below due x.0 e, h.clocked.1);
             has = h.has;
           })
-          (same_moment due) lasts asked over)
+          (itself due) lasts asked over)
       at false e more = by more (asked_then p side x.1 when h.runs) (not_below due x.0 e)
 
 -- WITHIN THE SPAN
@@ -364,7 +336,7 @@ runs_in_course P tail p q side course wait now r o s there_q it clock clocked as
   by false e =
       inr (
         ltb-false (acked_in p side) (acked_in q side) e,
-        waits_out P tail side q there_q due (due +ℤ pos wait) (waits_after due wait) (most_sent p side) (most_sent p side + 1) wait p course it.at now
+        waits_out P tail side q there_q due (due +ℤ pos wait) (later due wait) (most_sent p side) (most_sent p side + 1) wait p course it.at now
             (record {
               reached = r;
               a = begun p A r o.0;
@@ -379,7 +351,7 @@ runs_in_course P tail p q side course wait now r o s there_q it clock clocked as
               clocked = clocked;
               has = has;
             })
-            (waits_after now (put_off_in p side)) refl asks over,
+            (later now (put_off_in p side)) refl asks over,
       )
 
 -- from one with something in flight

@@ -1,161 +1,34 @@
 -- In each span of a course a position is reached.
-use Rattle.std.proofs.Common.{◌≡◌, ◌⊎◌, inl, inr, ℕ, zero, suc, ◌+◌, ◌-◌, ◌*◌, ◌<◌, ◌≤◌, ◌==◌, max, ℤ, pos, ◌+ℤ◌, ◌≤ℤ◌, ◌<ℤ◌, int_lt, Bool, true, false, []}
-use Rattle.std.proofs.Common.{◌∷◌, ◌++◌, length, Option, refl, sym, ap, ◌∙◌, subst, arith}
+use Rattle.std.proofs.Common.{◌≡◌, ◌⊎◌, inl, inr, ℕ, zero, suc, ◌+◌, ◌-◌, ◌*◌, ◌<◌, ◌≤◌, ◌==◌, max, ℤ, pos, ◌+ℤ◌, ◌≤ℤ◌, ◌<ℤ◌, Bool, true, false}
+use Rattle.std.proofs.Common.{◌++◌, length, refl, sym, ap, ◌∙◌, subst, arith}
 use Rattle.std.proofs.lemmas.Bool.{eqb-true}
 use Rattle.std.proofs.lemmas.Int.{ints}
-use Rattle.tcp_rules.proofs.OrderSteps.{clash}
 use Rattle.tcp_model.specs.Blocks.{one_if}
-use Rattle.tcp_tie.specs.Pair.Sides.{at, other}
+use Rattle.tcp_tie.specs.Pair.Sides.{other}
 use Rattle.tcp_tie.specs.Pair.Steps.{Steps}
 use Rattle.tcp_tie.specs.Pair.Values.{PairValue, past_at}
 use Rattle.tcp_tie.specs.declared.pair.event.Side.{Side}
 use Rattle.tcp_tie.specs.declared.pair.event.Side.TheVariants.{A, B}
 use Rattle.tcp_progress.specs.Anew.{most_sent}
-use Rattle.tcp_progress.specs.Arrivals.{is_synchronized}
 use Rattle.tcp_progress.specs.BothWays.{AreThere, total_in}
 use Rattle.tcp_progress.specs.Course.{AreTaken, AsksWithin, DeliversWithin, GoesInTime, IsClocked, IsHinderedAmong}
 use Rattle.tcp_progress.specs.Course.{end_of, events_of, span_of}
-use Rattle.tcp_progress.specs.Exchange.{IsOpen}
-use Rattle.tcp_progress.specs.Near.{IsNear}
 use Rattle.tcp_progress.specs.Onward.{AreOpen, HasRisen, acked_in}
 use Rattle.tcp_progress.specs.Pair.{HasStream, left_in, socket_of}
-use Rattle.tcp_progress.specs.PutOff.{IsRunning}
 use Rattle.tcp_progress.specs.Reached.{IsReached}
-use Rattle.tcp_progress.specs.Rounds.{takes}
 use Rattle.tcp_progress.specs.Sent.{sent_in, taken_in, unsent_in}
-use Rattle.tcp_progress.specs.Spans.{IsHeldAmong, IsHeldIn, IsThroughAmong, most_reached, reached_in}
-use Rattle.tcp_progress.proofs.CourseParts.{Course, after_all, asks_first, asks_rest, clock_all, clock_on, clocked_first, clocked_rest, delivers_first}
+use Rattle.tcp_progress.specs.Spans.{IsHeldAmong, IsThroughAmong, most_reached, reached_in}
+use Rattle.tcp_progress.proofs.CourseCuts.{Cut, cut_on}
+use Rattle.tcp_progress.proofs.CourseMoments.{later}
+use Rattle.tcp_progress.proofs.CourseParts.{Course, Midway, after_all, asks_first, asks_rest, clock_all, clocked_first, clocked_rest, delivers_first}
 use Rattle.tcp_progress.proofs.CourseParts.{delivers_rest, end_parts, held_first, held_rest, hindered_first, hindered_rest}
-use Rattle.tcp_progress.proofs.CourseParts.{steps_first, steps_rest, taken_first, taken_rest, there_before, through_now, through_rest}
-use Rattle.tcp_progress.proofs.CourseOwes.{IsWide, owed_in_time, wants_idle, wide_or_held}
-use Rattle.tcp_progress.proofs.CourseRuns.{wants}
+use Rattle.tcp_progress.proofs.CourseParts.{midway, steps_first, steps_rest, taken_first, taken_rest, through_now, through_rest}
+use Rattle.tcp_progress.proofs.CourseOwes.{owed_in_time}
 use Rattle.tcp_progress.proofs.Kept.{reached_by}
-use Rattle.tcp_progress.proofs.LateText.{left_within, open_of, there_of}
-use Rattle.tcp_progress.proofs.OnwardPairs.{IsBegun, MovesIn, begun, begun_after, by_steps}
-use Rattle.tcp_progress.proofs.Opened.{is_open}
-use Rattle.tcp_progress.proofs.PairTimers.{timer_near}
-use Rattle.tcp_progress.proofs.PutOff.{is_running}
+use Rattle.tcp_progress.proofs.LateText.{open_of, stream_since, there_of}
+use Rattle.tcp_progress.proofs.Onward.{positive}
+use Rattle.tcp_progress.proofs.OnwardPairs.{IsBegun, MovesIn, begun, by_steps}
 use Rattle.tcp_progress.proofs.SentPairs.{reached_taken}
-
--- MOMENTS
-
-upto : (a b c : ℤ) → a ≤ℤ b → b ≤ℤ c → a ≤ℤ c
-upto a b c e f = grind arith
-
-not_both : (last end : ℤ) → end ≤ℤ last → last <ℤ end → ⊥
-not_both last end e f = first_of (omega (arith, ints), grind (arith, ints))
-
-below : (limit now : ℤ) → int_lt limit now ≡ true → limit <ℤ now
-below limit now e = first_of (omega (arith, ints), grind (arith, ints))
-
-not_below : (limit now : ℤ) → int_lt limit now ≡ false → now ≤ℤ limit
-not_below limit now e = first_of (omega (arith, ints), grind (arith, ints))
-
-more_time : (a b : ℤ) (n : ℕ) → a ≤ℤ b → (a +ℤ pos n) ≤ℤ (b +ℤ pos n)
-more_time a b n e = first_of (omega (arith, ints), grind (arith, ints))
-
-after_now : (now : ℤ) (n : ℕ) → now ≤ℤ (now +ℤ pos n)
-after_now now n = first_of (omega (arith, ints), grind (arith, ints))
-
--- WHERE A SPAN ENDS
-
-pub record Cut (now limit : ℤ) (wait : ℕ) (course : Course) : Type 0 where
-  pub first : Course
-  pub rest : Course
-  pub is : course ≡ first ++ rest
-  pub over : limit <ℤ end_of now first
-  pub within : end_of now first ≤ℤ ((limit +ℤ pos 60_000_000) +ℤ pos wait)
-
-begun_of : (p : PairValue) (side : Side) → IsBegun p A → IsBegun p B → IsBegun p side
-begun_of p A a b = a
-begun_of p B a b = b
-
-positive : (n : ℕ) → (n == 0) ≡ false → 1 ≤ n
-positive zero e = clash e
-positive (suc n) e = one n where
-  one : (n : ℕ) → 1 ≤ suc n
-  one n = omega arith
-
-module _ (q : PairValue) (side : Side) (there : is_synchronized (socket_of q side).block.state ≡ true) (wait : ℕ) (limit : ℤ) where
-  -- windows hold a side back, or all that its user wrote is acknowledged
-  abbrev Ends : PairValue → Course → Type 0
-  Ends p course = IsHeldAmong p side (events_of course) ⊎ IsThroughAmong p side (events_of course)
-
-  cut_at :
-      (p : PairValue) (now : ℤ) (course : Course) → IsReached p → IsBegun p A → IsBegun p B → Steps p (events_of course) q
-      → (at p.sides side).moment ≤ℤ now → IsClocked now course → AsksWithin wait now p course → now ≤ℤ limit → limit <ℤ end_of now course
-      → Ends p course ⊎ Cut now limit wait course
-  cut_at p now [] r a b s clock clocked asks before over = absurd (not_both limit now before over)
-  cut_at p now (x ∷ course) r a b s clock clocked asks before over =
-      by (int_lt limit x.0) refl
-      (λ (early : x.0 ≤ℤ limit).
-      cut_at (takes p x.1) x.0 course rm (begun_after p (takes p x.1) A (first_moves A) a) (begun_after p (takes p x.1) B (first_moves B) b) s.1
-      (clock_on p side x.1 now x.0 clock clocked.0 clocked.1.0) clocked.1.1 asks.1 early over)
-    where
-      rm : IsReached (takes p x.1)
-      rm = reached_by p (takes p x.1) (x.1 ∷ []) r (s.0, refl)
-
-      first_moves : (of : Side) → MovesIn p (takes p x.1) of
-      first_moves of = by_steps p (x.1 ∷ []) (takes p x.1) r a b (s.0, refl) of
-
-      there_p : is_synchronized (socket_of p side).block.state ≡ true
-      there_p = there_before p q side (begun_of p side a b) (by_steps p (x.1 ∷ events_of course) q r a b s side) there
-
-      Found : Type 0
-      Found = Ends p (x ∷ course) ⊎ Cut now limit wait (x ∷ course)
-
-      further : Ends (takes p x.1) course ⊎ Cut x.0 limit wait course → Found
-      further (inl (inl held)) = inl (inl (inr held))
-      further (inl (inr through)) = inl (inr (inr through))
-      further (inr c) =
-          inr (record { first = x ∷ c.first; rest = c.rest; is = ap (λ (l : Course). x ∷ l) c.is; over = c.over; within = c.within })
-
-      -- a side with a timer is asked within a minute, and what it waits
-      soon : ((socket_of p side).block.sender.in_flight == 0) ≡ false → x.0 ≤ℤ ((limit +ℤ pos 60_000_000) +ℤ pos wait)
-      soon flight =
-          upto x.0 ((now +ℤ pos 60_000_000) +ℤ pos wait) ((limit +ℤ pos 60_000_000) +ℤ pos wait)
-          (asks.0 side (now +ℤ pos 60_000_000) (after_now now 60_000_000)
-          (wants p side it.at (now +ℤ pos 60_000_000) r there_p it.runs
-          (upto it.at ((at p.sides side).moment +ℤ pos 60_000_000) (now +ℤ pos 60_000_000) near
-          (more_time (at p.sides side).moment now 60_000_000 clock)))).0
-          (more_time (now +ℤ pos 60_000_000) (limit +ℤ pos 60_000_000) wait (more_time now limit 60_000_000 before))
-        where
-          it : IsRunning (socket_of p side)
-          it = is_running p side r flight
-
-          near : it.at ≤ℤ ((at p.sides side).moment +ℤ pos 60_000_000)
-          near = subst (λ (timer : Option ℤ). IsNear (at p.sides side).moment 60_000_000 timer) it.runs (timer_near p side r)
-
-      -- and one that has something to send is asked within what it waits
-      soon_idle : 1 ≤ left_in p side → (socket_of p side).block.sender.in_flight ≡ 0 → IsWide (socket_of p side)
-          → x.0 ≤ℤ ((limit +ℤ pos 60_000_000) +ℤ pos wait)
-      soon_idle owes none wide =
-          upto x.0 (now +ℤ pos wait) ((limit +ℤ pos 60_000_000) +ℤ pos wait)
-          (asks.0 side now (itself now)
-          (wants_idle p side now r (is_open p side r there_p (begun_of p side a b).syn) owes none wide)).0
-          (more_time now (limit +ℤ pos 60_000_000) wait (upto now limit (limit +ℤ pos 60_000_000) before (after_now limit 60_000_000)))
-        where
-          itself : (a : ℤ) → a ≤ℤ a
-          itself a = grind arith
-
-      cut : limit <ℤ x.0 → x.0 ≤ℤ ((limit +ℤ pos 60_000_000) +ℤ pos wait) → Found
-      cut e soon = inr (record { first = x ∷ []; rest = course; is = refl; over = e; within = soon })
-
-      idle : limit <ℤ x.0 → (socket_of p side).block.sender.in_flight ≡ 0 → (through : Bool) → (left_in p side == 0) ≡ through
-          → IsWide (socket_of p side) ⊎ IsHeldIn p side → Found
-      idle e none true through which = inl (inr (inl (eqb-true (left_in p side) 0 through)))
-      idle e none false owes (inl wide) = cut e (soon_idle (positive (left_in p side) owes) none wide)
-      idle e none false owes (inr held) = inl (inl (inl held))
-
-      here : limit <ℤ x.0 → (none : Bool) → ((socket_of p side).block.sender.in_flight == 0) ≡ none → Found
-      here e true empty =
-          let none = eqb-true (socket_of p side).block.sender.in_flight 0 empty in idle e none (left_in p side == 0) refl (wide_or_held p side none)
-      here e false some = cut e (soon some)
-
-      by : (passed : Bool) → int_lt limit x.0 ≡ passed →
-          (x.0 ≤ℤ limit → Ends (takes p x.1) course ⊎ Cut x.0 limit wait course) → Found
-      by true e more = here (below limit x.0 e) ((socket_of p side).block.sender.in_flight == 0) refl
-      by false e more = further (more (not_below limit x.0 e))
 
 -- WHAT IS REACHED
 
@@ -232,7 +105,7 @@ reached_in_spans zero p q side course wait delay now r o s there c over =
 reached_in_spans (suc n) p q side course wait delay now r o s there c over =
     by
     (λ (it : Cut now limit wait course) (wrote : HasStream (past_at (mid it) side)).
-    reached_in_spans n (mid it) q side it.rest wait delay (end_of now it.first) (rm it) (open_mid it A, open_mid it B) (on it) there
+    reached_in_spans n (mid it) q side it.rest wait delay (end_of now it.first) (at_mid it).reached ((at_mid it).opened A, (at_mid it).opened B) (on it) there
     (record {
       clock = clock_all p side now it.first c.clock (clocked_first now it.first it.rest (clocked it));
       clocked = clocked_rest now it.first it.rest (clocked it);
@@ -240,7 +113,7 @@ reached_in_spans (suc n) p q side course wait delay now r o s there c over =
       taken = taken_rest it.first it.rest (subst AreTaken it.is c.taken);
       delivers = delivers_rest delay p it.first it.rest (subst (DeliversWithin delay p) it.is c.delivers);
       stream = wrote;
-      room = subst (λ (k : ℕ). 1 ≤ k) (sym (to_mid it (other side)).room) c.room;
+      room = subst (λ (k : ℕ). 1 ≤ k) (sym ((at_mid it).to (other side)).room) c.room;
     })
     (subst (λ (end : ℤ). (end_of now it.first +ℤ pos (n * (2 * (wait + span_of wait delay (mid it) side)))) <ℤ end) (ends it)
     (subst (λ (k : ℕ). (end_of now it.first +ℤ pos (n * (2 * (wait + k)))) <ℤ end_of now course) (sym (same_span it))
@@ -259,9 +132,9 @@ reached_in_spans (suc n) p q side course wait delay now r o s there c over =
     begun_p : (of : Side) → IsBegun p of
     begun_p of = begun p of r (open_of p of o)
 
-    found : (IsHeldAmong p side (events_of course) ⊎ IsThroughAmong p side (events_of course)) ⊎ Cut now limit wait course
+    found : IsThroughAmong p side (events_of course) ⊎ Cut now limit wait course
     found =
-        cut_at q side (there_of q side there) wait limit p now course r (begun_p A) (begun_p B) s c.clock c.clocked c.asks (after_now now span)
+        cut_on q side (there_of q side there) wait limit p now course r (begun_p A) (begun_p B) s c.clock c.clocked c.asks (later now span)
         (first_span now (end_of now course) span (n * (2 * span)) over_all)
 
     mid : Cut now limit wait course → PairValue
@@ -282,27 +155,12 @@ reached_in_spans (suc n) p q side course wait delay now r o s there c over =
     ends : (it : Cut now limit wait course) → end_of now course ≡ end_of (end_of now it.first) it.rest
     ends it = ap (end_of now) it.is ∙ end_parts now it.first it.rest
 
-    rm : (it : Cut now limit wait course) → IsReached (mid it)
-    rm it = reached_by p (mid it) (events_of it.first) r (to it)
-
-    to_mid : (it : Cut now limit wait course) (of : Side) → MovesIn p (mid it) of
-    to_mid it of = by_steps p (events_of it.first) (mid it) r (begun_p A) (begun_p B) (to it) of
-
-    begun_mid : (it : Cut now limit wait course) (of : Side) → IsBegun (mid it) of
-    begun_mid it of = begun_after p (mid it) of (to_mid it of) (begun_p of)
-
-    from_mid : (it : Cut now limit wait course) (of : Side) → MovesIn (mid it) q of
-    from_mid it of = by_steps (mid it) (events_of it.rest) q (rm it) (begun_mid it A) (begun_mid it B) (on it) of
-
-    there_mid : (it : Cut now limit wait course) (of : Side) → is_synchronized (socket_of (mid it) of).block.state ≡ true
-    there_mid it of = there_before (mid it) q of (begun_mid it of) (from_mid it of) (there_of q of there)
-
-    open_mid : (it : Cut now limit wait course) (of : Side) → IsOpen (socket_of (mid it) of).block
-    open_mid it of = is_open (mid it) of (rm it) (there_mid it of) (begun_mid it of).syn
+    at_mid : (it : Cut now limit wait course) → Midway p (mid it) q
+    at_mid it = midway p (mid it) q r begun_p there (events_of it.first) (events_of it.rest) (to it) (on it)
 
     same_span : (it : Cut now limit wait course) → span_of wait delay (mid it) side ≡ span_of wait delay p side
     same_span it =
-        ap (λ (k : ℕ). (max 1 k + 2 + 2) * 60_000_000 + wait + delay + delay) (to_mid it (other side)).room
+        ap (λ (k : ℕ). (max 1 k + 2 + 2) * 60_000_000 + wait + delay + delay) ((at_mid it).to (other side)).room
 
     Ways : Type 0
     Ways =
@@ -320,22 +178,13 @@ reached_in_spans (suc n) p q side course wait delay now r o s there c over =
 
     -- what isn't acknowledged was written
     wrote : (it : Cut now limit wait course) → 1 ≤ left_in p side → HasStream (past_at (mid it) side)
-    wrote it owes = inr (more (length (past_at p side).written) (length (past_at (mid it) side).written) (first c.stream) (to_mid it side).written) where
-      more : (a b : ℕ) → 1 ≤ a → a ≤ b → 1 ≤ b
-      more a b e f = omega arith
-
-      some : (written : ℕ) {fin left : ℕ} → fin ≡ 0 → left ≤ written + fin → 1 ≤ left → 1 ≤ written
-      some written e f g = omega arith
-
-      first : HasStream (past_at p side) → 1 ≤ length (past_at p side).written
-      first (inl unclosed) = some (length (past_at p side).written) (ap one_if unclosed) (left_within p side r (open_of p side o)) owes
-      first (inr it) = it
+    wrote it owes = stream_since p (mid it) side r (open_of p side o) owes ((at_mid it).to side) c.stream
 
     one_span : (it : Cut now limit wait course) → 1 ≤ left_in p side
         → HasRisen p (mid it) side ⊎ (HasRisen p (mid it) (other side)
         ⊎ (IsHinderedAmong p side (events_of it.first) ⊎ IsHeldAmong p side (events_of it.first)))
     one_span it owes =
-        owed_in_time p (mid it) side it.first wait delay now r o (to it) (there_mid it A, there_mid it B) owes
+        owed_in_time p (mid it) side it.first wait delay now r o (to it) (((at_mid it).opened A).synchronized, ((at_mid it).opened B).synchronized) owes
         (record {
           clock = c.clock;
           clocked = clocked_first now it.first it.rest (clocked it);
@@ -365,13 +214,13 @@ reached_in_spans (suc n) p q side course wait delay now r o s there c over =
         (inr
         (inr (subst (λ (l : Course). IsThroughAmong p side (events_of l)) (sym it.is) (through_rest p side it.first it.rest through))))
 
-    by_cut : Rest → 1 ≤ left_in p side → (IsHeldAmong p side (events_of course) ⊎ IsThroughAmong p side (events_of course)) ⊎ Cut now limit wait course → Ways
-    by_cut rest owes (inl ends) = inr (inr ends)
+    by_cut : Rest → 1 ≤ left_in p side → IsThroughAmong p side (events_of course) ⊎ Cut now limit wait course → Ways
+    by_cut rest owes (inl through) = inr (inr (inr through))
     by_cut rest owes (inr it) = at (one_span it owes) where
       at : HasRisen p (mid it) side ⊎ (HasRisen p (mid it) (other side)
           ⊎ (IsHinderedAmong p side (events_of it.first) ⊎ IsHeldAmong p side (events_of it.first))) → Ways
-      at (inl risen) = then_on it (one_more p (mid it) (to_mid it) side risen) (rest it (wrote it owes))
-      at (inr (inl risen)) = then_on it (one_more p (mid it) (to_mid it) (other side) risen) (rest it (wrote it owes))
+      at (inl risen) = then_on it (one_more p (mid it) (at_mid it).to side risen) (rest it (wrote it owes))
+      at (inr (inl risen)) = then_on it (one_more p (mid it) (at_mid it).to (other side) risen) (rest it (wrote it owes))
       at (inr (inr (inl h))) = hindered it (hindered_first p side it.first it.rest h)
       at (inr (inr (inr h))) = held it (held_first p side it.first it.rest h)
 

@@ -1,592 +1,99 @@
 -- A side that owes something gets on, whatever its windows are, where the other's user reads.
-use Rattle.std.proofs.Common.{◌≡◌, ◌⊎◌, inl, inr, ℕ, zero, suc, ◌+◌, ◌-◌, ◌*◌, ◌<◌, ◌≤◌, ◌==◌, nat_lt, max, ℤ, pos, ◌+ℤ◌, ◌≤ℤ◌, ◌<ℤ◌, Bool, true, false}
-use Rattle.std.proofs.Common.{List, [], ◌∷◌, ◌++◌, length, Option, Some, None, refl, sym, ap, ◌∙◌, subst, arith}
-use Rattle.std.proofs.lemmas.Bool.{eqb-true, ltb-false, ltb-true}
+use Rattle.std.proofs.Common.{◌⊎◌, inl, inr, ℕ, ◌+◌, ◌≤◌, ℤ, pos, ◌+ℤ◌, ◌<ℤ◌, ◌∷◌, sym, subst, arith}
 use Rattle.std.proofs.lemmas.Int.{ints}
-use Rattle.std.proofs.lemmas.Option.{slice_get_within}
-use Rattle.tcp_rules.specs.Moments.{is_due}
-use Rattle.tcp_rules.specs.Timing.{carries}
-use Rattle.tcp_rules.proofs.OrderSteps.{clash}
-use Rattle.tcp_model.specs.Blocks.{one_if}
-use Rattle.tcp_model.specs.Offers.{offer_of}
-use Rattle.tcp_tie.specs.Pair.Sides.{at, other}
-use Rattle.tcp_tie.specs.Pair.Steps.{Steps, refusal}
-use Rattle.tcp_model.specs.Value.{free_in}
-use Rattle.tcp_tie.specs.Pair.Values.{PairValue, past_at}
-use Rattle.tcp_tie.specs.declared.pair.event.PairEvent.{PairEvent}
-use Rattle.tcp_tie.specs.declared.pair.event.PairEvent.TheVariants.{Listen, Connect, Send, Recv, Close, Abort, TcpSetting, Clock, Offer, Deliver}
+use Rattle.tcp_tie.specs.Pair.Sides.{other}
+use Rattle.tcp_tie.specs.Pair.Steps.{Steps}
+use Rattle.tcp_model.specs.Value.{room_of}
+use Rattle.tcp_tie.specs.Pair.Values.{PairValue}
 use Rattle.tcp_tie.specs.declared.pair.event.Side.{Side}
 use Rattle.tcp_tie.specs.declared.pair.event.Side.TheVariants.{A, B}
-use Rattle.tcp_progress.specs.Anew.{BeginsAnew, BeginsAnewIn, put_off_in}
-use Rattle.tcp_progress.specs.Arrivals.{is_synchronized}
-use Rattle.tcp_progress.specs.BothWays.{AreThere, total_in}
-use Rattle.tcp_progress.specs.Course.{AsksWithin, GoesInTime, IsAt, IsClocked, IsShutAmong, IsTaken, end_of, events_of}
-use Rattle.tcp_progress.specs.Exchange.{IsOpen}
-use Rattle.tcp_progress.specs.Onward.{AreOpen, HasRisen, acked_in}
-use Rattle.tcp_progress.specs.Pair.{HasStream, context_of, left_in, next_sent, socket_of}
-use Rattle.tcp_progress.specs.PutOff.{IsRunning, RunsOutIn}
+use Rattle.tcp_progress.specs.Anew.{put_off_in}
+use Rattle.tcp_progress.specs.BothWays.{AreThere}
+use Rattle.tcp_progress.specs.Course.{DeliversWithin, GoesInTime, IsClocked, IsShutAmong, end_of, events_of}
+use Rattle.tcp_progress.specs.Onward.{AreOpen, HasRisen}
+use Rattle.tcp_progress.specs.Pair.{left_in, next_sent, socket_of}
 use Rattle.tcp_progress.specs.Reached.{IsReached}
-use Rattle.tcp_progress.specs.Readers.{IsReadBy, Reads, ReadsWithin, whole_span}
+use Rattle.tcp_progress.specs.Readers.{ReadsWithin, whole_span}
 use Rattle.tcp_progress.specs.Rounds.{takes}
-use Rattle.tcp_progress.specs.Sent.{taken_in}
-use Rattle.tcp_progress.proofs.CourseGoes.{Goes, Lasts, begins_anew, lasts_on, sent_all}
-use Rattle.tcp_progress.proofs.CourseExchange.{exchange_in_time}
-use Rattle.tcp_progress.proofs.CourseIdle.{Gets, Open, idle_out}
-use Rattle.tcp_progress.proofs.CourseOwes.{State, acked_to_end, lifted as lifted_on, moves, open_at, still_owes, tail}
-use Rattle.tcp_progress.proofs.CourseParts.{Course, there_before}
-use Rattle.tcp_progress.proofs.CourseRuns.{Start, runs_in_course}
-use Rattle.tcp_progress.proofs.Frees.{frees_on, never_shut, reads_free}
-use Rattle.tcp_progress.proofs.Idles.{IsIdle}
-use Rattle.tcp_progress.proofs.Kept.{reached_by}
-use Rattle.tcp_progress.proofs.LateText.{left_within, there_of}
-use Rattle.tcp_progress.proofs.OnwardPairs.{IsBegun, MovesIn, begun, begun_after, by_steps, then_moves}
-use Rattle.tcp_progress.proofs.Opened.{is_open}
-use Rattle.tcp_progress.proofs.OrWaits.{IsBare, WaitsIn, goes_or_waits}
-use Rattle.tcp_progress.proofs.PutOff.{is_running}
-use Rattle.tcp_progress.proofs.PutOffRuns.{begun_of}
+use Rattle.tcp_progress.proofs.CourseBegins.{all_gets}
+use Rattle.tcp_progress.proofs.CourseGoes.{exchanges}
+use Rattle.tcp_progress.proofs.CourseParts.{Course, Midway, clocked_rest, delivers_rest, midway}
+use Rattle.tcp_progress.proofs.CourseStands.{Begins, Gets, Stands, stands_on, steps_from, steps_to, timely}
+use Rattle.tcp_progress.proofs.Frees.{never_shut}
+use Rattle.tcp_progress.proofs.LateText.{open_of, risen_since, stream_since}
+use Rattle.tcp_progress.proofs.OnwardPairs.{IsBegun, begun}
 
--- MOMENTS
+-- WHAT GOES, COMES
 
-itself : (a : ℤ) → a ≤ℤ a
-itself a = grind arith
+module _ (p q : PairValue) (side : Side) (course : Course) (wait delay : ℕ) (now : ℤ) (r : IsReached p) (o : AreOpen p) (s : Steps p (events_of course) q)
+    (there : AreThere q) (owes : 1 ≤ left_in p side) (c : GoesInTime wait delay now p side course) (it : Begins side (delay + delay) p course) where
+  abbrev after : PairValue
+  after = takes it.m it.x.1
 
-upto : (a b c : ℤ) → a ≤ℤ b → b ≤ℤ c → a ≤ℤ c
-upto a b c e f = grind arith
+  then : Stands p course after it.rest
+  then = stands_on p course it.m it.x it.rest it.stands
 
-not_both : (last end : ℤ) → end ≤ℤ last → last <ℤ end → ⊥
-not_both last end e f = first_of (omega (arith, ints), grind (arith, ints))
+  begun_p : (of : Side) → IsBegun p of
+  begun_p of = begun p of r (open_of p of o)
 
-later : (now : ℤ) (n : ℕ) → now ≤ℤ (now +ℤ pos n)
-later now n = first_of (omega (arith, ints), grind (arith, ints))
+  steps_on : Steps after (events_of it.rest) q
+  steps_on = steps_from p q after course it.rest then s
 
-less_time : (a end : ℤ) (n : ℕ) → (a +ℤ pos n) <ℤ end → a <ℤ end
-less_time a end n e = first_of (omega (arith, ints), grind (arith, ints))
+  at_after : Midway p after q
+  at_after = midway p after q r begun_p there (events_of then.first) (events_of it.rest) (steps_to p q after course it.rest then s) steps_on
 
-sooner : (a b end : ℤ) (n : ℕ) → a ≤ℤ b → (b +ℤ pos n) <ℤ end → (a +ℤ pos n) <ℤ end
-sooner a b end n e f = first_of (omega (arith, ints), grind (arith, ints))
+  room : 1 ≤ room_of (socket_of after (other side)).received
+  room = subst (λ (n : ℕ). 1 ≤ n) (sym (at_after.to (other side)).room) c.room
 
--- FREE SPACE, THROUGH EVENTS
+  clocked : IsClocked it.x.0 it.rest
+  clocked = (clocked_rest now it.stands.first (it.x ∷ it.rest) (subst (IsClocked now) it.stands.is c.clocked)).1.1
 
-free_through :
-    (p m : PairValue) (side : Side) (events : List PairEvent) → IsReached p → IsBegun p A → IsBegun p B → Steps p events m
-    → is_synchronized (socket_of m side).block.state ≡ true → 1 ≤ free_in (socket_of p side)
-    → (1 ≤ free_in (socket_of m side)) ⊎ (taken_in p side < taken_in m side)
-free_through p m side [] r a b s there free = inl (subst (λ (x : PairValue). 1 ≤ free_in (socket_of x side)) (sym s) free)
-free_through p m side (event ∷ events) r a b s there free =
-    by
-    (λ (e : 1 ≤ free_in (socket_of n side)).
-    free_through n m side events rn (begun_after p n A (first A) a) (begun_after p n B (first B) b) s.1 there e)
-    (frees_on p event side (there_before p m side (begun_of p side a b) (by_steps p (event ∷ events) m r a b s side) there))
-  where
-    n : PairValue
-    n = takes p event
+  delivers : DeliversWithin delay it.m (it.x ∷ it.rest)
+  delivers =
+      subst (λ (m : PairValue). DeliversWithin delay m (it.x ∷ it.rest)) it.stands.to
+      (delivers_rest delay p it.stands.first (it.x ∷ it.rest) (subst (DeliversWithin delay p) it.stands.is c.delivers))
 
-    rn : IsReached n
-    rn = reached_by p n (event ∷ []) r (s.0, refl)
+  two_segments : (a end : ℤ) → (a +ℤ pos (delay + delay)) <ℤ end → ((a +ℤ pos delay) +ℤ pos delay) <ℤ end
+  two_segments a end e = first_of (omega (arith, ints), grind (arith, ints))
 
-    first : (of : Side) → MovesIn p n of
-    first of = by_steps p (event ∷ []) n r a b (s.0, refl) of
-
-    then : MovesIn n m side
-    then = by_steps n events m rn (begun_after p n A (first A) a) (begun_after p n B (first B) b) s.1 side
-
-    more : (a b : ℕ) → 1 ≤ a → a ≤ b → 1 ≤ b
-    more a b e f = omega arith
-
-    less : (a b c : ℕ) → a < b → b ≤ c → a < c
-    less a b c e f = omega arith
-
-    last : (a b c : ℕ) → a ≤ b → b < c → a < c
-    last a b c e f = omega arith
-
-    further : (1 ≤ free_in (socket_of m side)) ⊎ (taken_in n side < taken_in m side) → (1 ≤ free_in (socket_of m side)) ⊎ (taken_in p side < taken_in m side)
-    further (inl e) = inl e
-    further (inr e) = inr (last (taken_in p side) (taken_in n side) (taken_in m side) (first side).taken e)
-
-    by :
-        (1 ≤ free_in (socket_of n side) → (1 ≤ free_in (socket_of m side)) ⊎ (taken_in n side < taken_in m side))
-        → (free_in (socket_of p side) ≤ free_in (socket_of n side)) ⊎ (taken_in p side < taken_in n side)
-        → (1 ≤ free_in (socket_of m side)) ⊎ (taken_in p side < taken_in m side)
-    by on (inl e) = further (on (more (free_in (socket_of p side)) (free_in (socket_of n side)) free e))
-    by on (inr e) = inr (less (taken_in p side) (taken_in n side) (taken_in m side) e then.taken)
-
--- WHERE ITS TIMER RUNS OUT
-
--- with this event a segment goes, or the side has nothing in flight then, and no timer
-abbrev GoesOrIdles : PairValue → Side → PairEvent → Type 0
-GoesOrIdles p side event = Goes p side event ⊎ IsIdle (socket_of (takes p event) side)
-
-record IsHere (p : PairValue) (side : Side) (event : PairEvent) : Type 0 where
-  reached : IsReached p
-  mine : IsOpen (socket_of p side).block
-  owes : 1 ≤ left_in p side
-  stays : is_synchronized (socket_of (takes p event) side).block.state ≡ true
-
-out_or_idles :
-    (p : PairValue) (side : Side) (moment : ℤ) → IsHere p side (Offer side moment true)
-    → is_due moment (socket_of p side).block.timers.retransmit_at ≡ true → GoesOrIdles p side (Offer side moment true)
-out_or_idles p side moment h due = by (goes_or_waits p side moment h.reached h.mine h.owes (inr due) h.stays) where
-  by : {X : Type 0} → Goes p side (Offer side moment true) ⊎ (WaitsIn p side moment × X) → GoesOrIdles p side (Offer side moment true)
-  by (inl it) = inl it
-  by (inr w) = inr (record { none = w.0.waits.none; timer = w.0.waits.timer_is ∙ w.0.out due })
-
-anew_goes :
-    (p : PairValue) (side : Side) (moment : ℤ) → IsHere p side (Offer side moment true)
-    → BeginsAnew (offer_of (context_of p side moment) (socket_of p side)).socket → Goes p side (Offer side moment true)
-anew_goes p side moment h it = by ((socket_of p side).block.sender.in_flight == 0) refl where
-  idle : Goes p side (Offer side moment true) ⊎ (WaitsIn p side moment × IsBare (offer_of (context_of p side moment) (socket_of p side)).socket.offered) →
-      Goes p side (Offer side moment true)
-  idle (inl goes) = goes
-  idle (inr w) = clash (sym (ap carries it.kind) ∙ w.1 it.o it.offered)
-
-  positive : (n : ℕ) → (n == 0) ≡ false → 1 ≤ n
-  positive zero e = clash e
-  positive (suc n) e = one n where
-    one : (n : ℕ) → 1 ≤ suc n
-    one n = omega arith
-
-  more : (a b : ℕ) → 1 ≤ a → a ≤ b → 1 ≤ b
-  more a b e f = omega arith
-
-  by : (none : Bool) → ((socket_of p side).block.sender.in_flight == 0) ≡ none → Goes p side (Offer side moment true)
-  by true e =
-      idle
-      (goes_or_waits p side moment h.reached h.mine h.owes (inl (eqb-true (socket_of p side).block.sender.in_flight 0 e)) h.stays)
-  by false e =
-      begins_anew p side moment
-      (record {
-        reached = h.reached;
-        mine = h.mine;
-        owes = h.owes;
-        top =
-            more (socket_of p side).block.sender.in_flight (socket_of p side).block.sender.top (positive (socket_of p side).block.sender.in_flight e)
-            (sent_all p side h.reached h.mine);
-        stays = h.stays;
-      })
-      it
-
-starts_or_idles : (p : PairValue) (side : Side) (event : PairEvent) → RunsOutIn p side event ⊎ BeginsAnewIn p side event → IsTaken event → IsHere p side event →
-    GoesOrIdles p side event
-starts_or_idles p A (Offer A moment true) (inl out) taken h = out_or_idles p A moment h out.1
-starts_or_idles p B (Offer B moment true) (inl out) taken h = out_or_idles p B moment h out.1
-starts_or_idles p A (Offer A moment true) (inr anew) taken h = inl (anew_goes p A moment h anew.1)
-starts_or_idles p B (Offer B moment true) (inr anew) taken h = inl (anew_goes p B moment h anew.1)
-starts_or_idles p A (Offer B moment true) (inl out) taken h = absurd (let no = out.0 in cc)
-starts_or_idles p B (Offer A moment true) (inl out) taken h = absurd (let no = out.0 in cc)
-starts_or_idles p A (Offer B moment true) (inr anew) taken h = absurd (let no = anew.0 in cc)
-starts_or_idles p B (Offer A moment true) (inr anew) taken h = absurd (let no = anew.0 in cc)
-starts_or_idles p side (Offer of moment false) starts taken h = clash (sym taken)
-starts_or_idles p side (Listen of endpoint) (inl never) taken h = absurd never
-starts_or_idles p side (Listen of endpoint) (inr never) taken h = absurd never
-starts_or_idles p side (Connect of remote local) (inl never) taken h = absurd never
-starts_or_idles p side (Connect of remote local) (inr never) taken h = absurd never
-starts_or_idles p side (Send of bytes) (inl never) taken h = absurd never
-starts_or_idles p side (Send of bytes) (inr never) taken h = absurd never
-starts_or_idles p side (Recv of count) (inl never) taken h = absurd never
-starts_or_idles p side (Recv of count) (inr never) taken h = absurd never
-starts_or_idles p side (Close of) (inl never) taken h = absurd never
-starts_or_idles p side (Close of) (inr never) taken h = absurd never
-starts_or_idles p side (Abort of) (inl never) taken h = absurd never
-starts_or_idles p side (Abort of) (inr never) taken h = absurd never
-starts_or_idles p side (TcpSetting of setting) (inl never) taken h = absurd never
-starts_or_idles p side (Clock of moment) (inl never) taken h = absurd never
-starts_or_idles p side (TcpSetting of setting) (inr never) taken h = absurd never
-starts_or_idles p side (Clock of moment) (inr never) taken h = absurd never
-starts_or_idles p side (Deliver from k) (inl never) taken h = absurd never
-starts_or_idles p side (Deliver from k) (inr never) taken h = absurd never
-
-equal : (a b : ℤ) → a ≡ b → a ≤ℤ b
-equal a b e = subst (λ (m : ℤ). a ≤ℤ m) e (itself a)
-
--- the clock of a side that starts so is the one of the course
-clock_at :
-    (p : PairValue) (now : ℤ) (side : Side) (event : PairEvent) → RunsOutIn p side event ⊎ BeginsAnewIn p side event → IsTaken event → IsAt now event
-    → (at (takes p event).sides side).moment ≤ℤ now
-clock_at p now A (Offer A moment true) starts taken is = equal moment now is
-clock_at p now B (Offer B moment true) starts taken is = equal moment now is
-clock_at p now A (Offer B moment true) (inl out) taken is = absurd (let no = out.0 in cc)
-clock_at p now B (Offer A moment true) (inl out) taken is = absurd (let no = out.0 in cc)
-clock_at p now A (Offer B moment true) (inr anew) taken is = absurd (let no = anew.0 in cc)
-clock_at p now B (Offer A moment true) (inr anew) taken is = absurd (let no = anew.0 in cc)
-clock_at p now side (Offer of moment false) starts taken is = clash (sym taken)
-clock_at p now side (Listen of endpoint) (inl never) taken is = absurd never
-clock_at p now side (Listen of endpoint) (inr never) taken is = absurd never
-clock_at p now side (Connect of remote local) (inl never) taken is = absurd never
-clock_at p now side (Connect of remote local) (inr never) taken is = absurd never
-clock_at p now side (Send of bytes) (inl never) taken is = absurd never
-clock_at p now side (Send of bytes) (inr never) taken is = absurd never
-clock_at p now side (Recv of count) (inl never) taken is = absurd never
-clock_at p now side (Recv of count) (inr never) taken is = absurd never
-clock_at p now side (Close of) (inl never) taken is = absurd never
-clock_at p now side (Close of) (inr never) taken is = absurd never
-clock_at p now side (Abort of) (inl never) taken is = absurd never
-clock_at p now side (Abort of) (inr never) taken is = absurd never
-clock_at p now side (TcpSetting of setting) (inl never) taken is = absurd never
-clock_at p now side (Clock of moment) (inl never) taken is = absurd never
-clock_at p now side (TcpSetting of setting) (inr never) taken is = absurd never
-clock_at p now side (Clock of moment) (inr never) taken is = absurd never
-clock_at p now side (Deliver from k) (inl never) taken is = absurd never
-clock_at p now side (Deliver from k) (inr never) taken is = absurd never
-
--- THE COURSE
-
--- what is so behind the first event of a course
-abbrev Behind : ℕ → PairValue → Course → Type 0
-Behind wait p [] = Unit {0}
-Behind wait p (x ∷ course) = IsAt x.0 x.1 × (IsClocked x.0 course × AsksWithin wait x.0 (takes p x.1) course)
-
-behind_on : (wait : ℕ) (p : PairValue) (x : ℤ × PairEvent) (course : Course) → Behind wait p (x ∷ course) → Behind wait (takes p x.1) course
-behind_on wait p x [] b = tt
-behind_on wait p x (y ∷ course) b = (b.1.0.1.0, (b.1.0.1.1, b.1.1.1))
-
-behind_of : (wait : ℕ) (now : ℤ) (p : PairValue) (course : Course) → IsClocked now course → AsksWithin wait now p course → Behind wait p course
-behind_of wait now p [] clocked asks = tt
-behind_of wait now p (x ∷ course) clocked asks = (clocked.1.0, (clocked.1.1, asks.1))
-
-module _ (q : PairValue) (side : Side) (there : AreThere q) (wait delay : ℕ) where
-  abbrev Lasts_ : PairValue → Course → Type 0
-  Lasts_ p course = Lasts delay p course × Behind wait p course
-
-  lasts_all : (p : PairValue) (x : ℤ × PairEvent) (course : Course) → Lasts_ p (x ∷ course) → Lasts_ (takes p x.1) course
-  lasts_all p x course l = (lasts_on delay p x course l.0, behind_on wait p x course l.1)
-
-  abbrev Gets_ : PairValue → Type 0
-  Gets_ p = Gets q side there wait delay p
-
-  abbrev Open_ : PairValue → ℤ → Course → Type 0
-  Open_ p now course = Open q side there wait delay p now course
-
-  idle_sum : (now end : ℤ) → (now +ℤ pos (wait + 60_000_000 + wait + (delay + delay))) <ℤ end →
-      ((((now +ℤ pos wait) +ℤ pos 60_000_000) +ℤ pos wait) +ℤ pos (delay + delay)) <ℤ end
-  idle_sum now end e = first_of (omega (arith, ints), grind (arith, ints))
-
-  idle_gets : (p : PairValue) (now : ℤ) (course : Course) → Open_ p now course → IsIdle (socket_of p side) →
-      (now +ℤ pos (wait + 60_000_000 + wait + (delay + delay))) <ℤ end_of now course → Gets_ p
-  idle_gets p now course o idle over = idle_out q side there wait delay p now course o idle (idle_sum now (end_of now course) over)
-
-  -- WITH A TIMER
-
-  module _ (p : PairValue) (now : ℤ) (course : Course) (o : Open_ p now course) (same : acked_in q side ≤ acked_in p side)
-      (st : Start Lasts_ p q side now ((now +ℤ pos (put_off_in p side)) +ℤ pos wait) course)
-      (over : (((now +ℤ pos (put_off_in p side)) +ℤ pos wait) +ℤ pos (wait + 60_000_000 + wait + (delay + delay))) <ℤ end_of now course) where
-    abbrev h : State q side there wait delay p now course
-    h = o.state
-
-    abbrev mid : PairValue
-    mid = st.mid
-
-    abbrev after : PairValue
-    after = takes mid st.x.1
-
-    mine_p : IsOpen (socket_of p side).block
-    mine_p = open_at q side there wait delay p now course side h
-
-    to_mid : (of : Side) → MovesIn p mid of
-    to_mid of = by_steps p st.before_it mid h.reached h.a h.b st.steps of
-
-    rm : IsReached mid
-    rm = reached_by p mid st.before_it h.reached st.steps
-
-    begun_mid : (of : Side) → IsBegun mid of
-    begun_mid of = begun_after p mid of (to_mid of) (begun_of p of h.a h.b)
-
-    allowed : refusal mid st.x.1 ≡ None
-    allowed = st.steps_on.0
-
-    to_after : (of : Side) → MovesIn mid after of
-    to_after of = by_steps mid (st.x.1 ∷ []) after rm (begun_mid A) (begun_mid B) (allowed, refl) of
-
-    ra : IsReached after
-    ra = reached_by mid after (st.x.1 ∷ []) rm (allowed, refl)
-
-    begun_then : (of : Side) → IsBegun after of
-    begun_then of = begun_after mid after of (to_after of) (begun_mid of)
-
-    from_after : (of : Side) → MovesIn after q of
-    from_after of = by_steps after (events_of st.rest) q ra (begun_then A) (begun_then B) st.steps_on.1 of
-
-    from_mid : (of : Side) → MovesIn mid q of
-    from_mid of = then_moves mid after q of (to_after of) (from_after of)
-
-    p_after : (of : Side) → MovesIn p after of
-    p_after of = then_moves p mid after of (to_mid of) (to_after of)
-
-    there_mid : (of : Side) → is_synchronized (socket_of mid of).block.state ≡ true
-    there_mid of = there_before mid q of (begun_mid of) (from_mid of) (there_of q of there)
-
-    there_after : (of : Side) → is_synchronized (socket_of after of).block.state ≡ true
-    there_after of = there_before after q of (begun_then of) (from_after of) (there_of q of there)
-
-    open_mid : IsOpen (socket_of mid side).block
-    open_mid = is_open mid side rm (there_mid side) (begun_mid side).syn
-
-    open_after : IsOpen (socket_of after side).block
-    open_after = is_open after side ra (there_after side) (begun_then side).syn
-
-    -- as long as no more is acknowledged, it owes something still
-    owes_then : (m : PairValue) → MovesIn p m side → MovesIn m q side → left_in m side ≤ total_in m side → 1 ≤ left_in m side
-    owes_then m to from within =
-        by (total_in p side) (left_in p side) (total_in m side) (left_in m side) (total_in q side) (left_in q side) h.owes
-        (left_within p side h.reached mine_p) within to.total from.acked same
-      where
-        by : (a b c d e f : ℕ) → 1 ≤ b → b ≤ a → d ≤ c → a ≤ c → c + f ≤ e + d → e - f ≤ a - b → 1 ≤ d
-        by a b c d e f g h i j k l = omega arith
-
-    stream : HasStream (past_at after side)
-    stream = inr (more (length (past_at p side).written) (length (past_at after side).written) (wrote h.in_time.stream) (p_after side).written) where
-      more : (a b : ℕ) → 1 ≤ a → a ≤ b → 1 ≤ b
-      more a b e f = omega arith
-
-      some : (written : ℕ) {fin left : ℕ} → fin ≡ 0 → left ≤ written + fin → 1 ≤ left → 1 ≤ written
-      some written e f g = omega arith
-
-      wrote : HasStream (past_at p side) → 1 ≤ length (past_at p side).written
-      wrote (inl unclosed) = some (length (past_at p side).written) (ap one_if unclosed) (left_within p side h.reached mine_p) h.owes
-      wrote (inr some) = some
-
-    lifted : (m : PairValue) → ((of : Side) → MovesIn p m of) → (of : Side) → HasRisen m q of → HasRisen p q of
-    lifted m to of (inl e) =
-        inl (more (total_in p of) (left_in p of) (total_in m of) (left_in m of) (acked_in q of) (to of).acked e) where
-          more : (a b c d e : ℕ) → a + d ≤ c + b → c - d < e → a - b < e
-          more a b c d e x y = omega arith
-    lifted m to of (inr e) = inr (more (taken_in p of) (taken_in m of) (taken_in q of) (to of).taken e) where
-      more : (a b c : ℕ) → a ≤ b → b < c → a < c
-      more a b c x y = omega arith
-
-    back : (m : PairValue) → ((of : Side) → MovesIn p m of) → Gets_ m → Gets_ p
-    back m to (inl risen) = inl (lifted m to side risen)
-    back m to (inr risen) = inr (lifted m to (other side) risen)
-
-    here : IsHere mid side st.x.1
-    here = record {
-      reached = rm;
-      mine = open_mid;
-      owes = owes_then mid (to_mid side) (from_mid side) (left_within mid side rm open_mid);
-      stays = there_after side;
-    }
-
-    -- the course as it is behind that event
-    after_open : 1 ≤ free_in (socket_of after (other side)) → Open_ after st.x.0 st.rest
-    after_open free = record {
-      state = record {
-        reached = ra;
-        a = begun_then A;
-        b = begun_then B;
-        steps = st.steps_on.1;
-        owes = owes_then after (p_after side) (from_after side) (left_within after side ra open_after);
-        in_time = record {
-          clock = clock_at mid st.x.0 side st.x.1 st.starts st.has.0.0.0 st.has.1.0;
-          clocked = st.clocked;
-          asks = st.has.1.1.1;
-          taken = st.has.0.0.1;
-          delivers = st.has.0.1.1;
-          stream = stream;
-          room = subst (λ (n : ℕ). 1 ≤ n) (sym (p_after (other side)).room) h.in_time.room;
-        };
-      };
-      free = free;
-    }
-
-    over_then : (st.x.0 +ℤ pos (wait + 60_000_000 + wait + (delay + delay))) <ℤ end_of st.x.0 st.rest
-    over_then =
-        subst (λ (end : ℤ). (st.x.0 +ℤ pos (wait + 60_000_000 + wait + (delay + delay))) <ℤ end) (sym st.same_end)
-        (sooner st.x.0 ((now +ℤ pos (put_off_in p side)) +ℤ pos wait) (end_of now course) (wait + 60_000_000 + wait + (delay + delay)) st.within over)
-
-    two : (a end : ℤ) (more delay : ℕ) → (a +ℤ pos (more + (delay + delay))) <ℤ end → ((a +ℤ pos delay) +ℤ pos delay) <ℤ end
-    two a end more delay e = first_of (omega (arith, ints), grind (arith, ints))
-
-    -- a segment went, and comes
-    gone : Goes mid side st.x.1 → 1 ≤ free_in (socket_of after (other side)) → Gets_ after
-    gone it free =
-        by
-        (exchange_in_time after q side (next_sent mid side) it.x st.rest delay st.x.0 ra
-        (is_open after A ra (there_after A) (begun_then A).syn, is_open after B ra (there_after B) (begun_then B).syn) st.steps_on.1 there stream
-        (subst (λ (n : ℕ). 1 ≤ n) (sym (p_after (other side)).room) h.in_time.room) it.goes it.sent
-        (st.has.0.1.0 side (next_sent mid side) (same_one (next_sent mid side))
-        (slice_get_within (at after.sides side).sent (next_sent mid side) it.x it.sent))
-        st.clocked st.has.0.1.1 (two st.x.0 (end_of st.x.0 st.rest) (wait + 60_000_000 + wait) delay over_then))
-      where
-        same_one : (n : ℕ) → n ≤ n
-        same_one n = omega arith
-
-        by : HasRisen after q side ⊎ (HasRisen after q (other side) ⊎ IsShutAmong after side (next_sent mid side) st.rest) → Gets_ after
-        by (inl risen) = inl risen
-        by (inr (inl risen)) = inr risen
-        by (inr (inr shut)) =
-            inr (inr (never_shut after q side (next_sent mid side) st.rest ra (begun_then A) (begun_then B) st.steps_on.1 there free shut))
-
-    started : Gets_ p
-    started =
-        by_free
-        (free_through p after (other side) (st.before_it ++ (st.x.1 ∷ [])) h.reached h.a h.b all_steps (there_after (other side))
-        o.free)
-      where
-        steps_to : (a b c : PairValue) (before : List PairEvent) (event : PairEvent) → Steps a before b → refusal b event ≡ None →
-            Steps a (before ++ (event ∷ [])) (takes b event)
-        steps_to a b c [] event s e = subst (λ (x : PairValue). Steps x (event ∷ []) (takes b event)) s (e, refl)
-        steps_to a b c (first ∷ before) event s e = (s.0, steps_to (takes a first) b c before event s.1 e)
-
-        all_steps : Steps p (st.before_it ++ (st.x.1 ∷ [])) after
-        all_steps = steps_to p mid after st.before_it st.x.1 st.steps allowed
-
-        open_then : 1 ≤ free_in (socket_of after (other side)) → GoesOrIdles mid side st.x.1 → Gets_ p
-        open_then free (inl it) = back after p_after (gone it free)
-        open_then free (inr idle) = back after p_after (idle_gets after st.x.0 st.rest (after_open free) idle over_then)
-
-        less : (a b c : ℕ) → a < b → b ≤ c → a < c
-        less a b c e f = omega arith
-
-        by_free : (1 ≤ free_in (socket_of after (other side))) ⊎ (taken_in p (other side) < taken_in after (other side)) → Gets_ p
-        by_free (inl free) = open_then free (starts_or_idles mid side st.x.1 st.starts st.has.0.0.0 here)
-        by_free (inr e) =
-            inr (inr (less (taken_in p (other side)) (taken_in after (other side)) (taken_in q (other side)) e (from_after (other side)).taken))
-
-  runs_sum : (now end : ℤ) (put : ℕ) → (now +ℤ pos (put + wait + (wait + 60_000_000 + wait + (delay + delay)))) <ℤ end →
-      (((now +ℤ pos put) +ℤ pos wait) +ℤ pos (wait + 60_000_000 + wait + (delay + delay))) <ℤ end
-  runs_sum now end put e = first_of (omega (arith, ints), grind (arith, ints))
-
-  -- a side with a timer, or with something in flight
-  runs_gets : (p : PairValue) (now : ℤ) (course : Course) → Open_ p now course → IsRunning (socket_of p side) →
-      (now +ℤ pos (put_off_in p side + wait + (wait + 60_000_000 + wait + (delay + delay)))) <ℤ end_of now course → Gets_ p
-  runs_gets p now course o it over =
+  comes : HasRisen p q side ⊎ HasRisen p q (other side)
+  comes =
       by
-      (runs_in_course Lasts_ lasts_all p q side course wait now h.reached (opened A, opened B) h.steps (there_of q side there) it h.in_time.clock
-      h.in_time.clocked h.in_time.asks
-      ((h.in_time.taken, h.in_time.delivers), behind_of wait now p course h.in_time.clocked h.in_time.asks)
-      (less_time ((now +ℤ pos (put_off_in p side)) +ℤ pos wait) (end_of now course) (wait + 60_000_000 + wait + (delay + delay)) over_all))
+      (exchanges it.m q side it.x it.rest delay it.goes at_after.reached (at_after.opened A, at_after.opened B) steps_on there
+      (stream_since p after side r (open_of p side o) owes (at_after.to side) c.stream) room delivers clocked (two_segments it.x.0 (end_of it.x.0 it.rest) it.over))
     where
-      h : State q side there wait delay p now course
-      h = o.state
-
-      opened : (of : Side) → IsOpen (socket_of p of).block
-      opened of = open_at q side there wait delay p now course of h
-
-      over_all : (((now +ℤ pos (put_off_in p side)) +ℤ pos wait) +ℤ pos (wait + 60_000_000 + wait + (delay + delay))) <ℤ end_of now course
-      over_all = runs_sum now (end_of now course) (put_off_in p side) over
-
       by :
-          (acked_in p side < acked_in q side)
-          ⊎ ((acked_in q side ≤ acked_in p side) × Start Lasts_ p q side now ((now +ℤ pos (put_off_in p side)) +ℤ pos wait) course)
-          → Gets_ p
-      by (inl risen) = inl (inl risen)
-      by (inr it) = started p now course o it.0 it.1 over_all
-
-  abbrev open_time : PairValue → ℕ
-  open_time p = put_off_in p side + wait + (wait + 60_000_000 + wait + (delay + delay))
-
-  idle_less : (now end : ℤ) (put : ℕ) → (now +ℤ pos (put + wait + (wait + 60_000_000 + wait + (delay + delay)))) <ℤ end →
-      (now +ℤ pos (wait + 60_000_000 + wait + (delay + delay))) <ℤ end
-  idle_less now end put e = first_of (omega (arith, ints), grind (arith, ints))
-
-  -- where the other's window is open
-  open_gets : (p : PairValue) (now : ℤ) (course : Course) → Open_ p now course → (now +ℤ pos (open_time p)) <ℤ end_of now course → Gets_ p
-  open_gets p now course o over = by (socket_of p side).block.timers.retransmit_at refl where
-    r : IsReached p
-    r = o.state.reached
-
-    none_out : (socket_of p side).block.timers.retransmit_at ≡ None → (none : Bool) → ((socket_of p side).block.sender.in_flight == 0) ≡ none →
-        (socket_of p side).block.sender.in_flight ≡ 0
-    none_out e true is = eqb-true (socket_of p side).block.sender.in_flight 0 is
-    none_out e false is = absurd (let it = is_running p side r is in let runs = it.runs in let never = sym e ∙ runs in cc)
-
-    by : (timer : Option ℤ) → (socket_of p side).block.timers.retransmit_at ≡ timer → Gets_ p
-    by (Some when) e = runs_gets p now course o (record { at = when; runs = e }) over
-    by None e =
-        idle_gets p now course o
-        (record { none = none_out e ((socket_of p side).block.sender.in_flight == 0) refl; timer = e })
-        (idle_less now (end_of now course) (put_off_in p side) over)
-
-  -- WHERE IT IS CLOSED
-
-  -- a user whose buffer is full is waited for
-  read_gets :
-      (p : PairValue) (now : ℤ) (course : Course) (last : ℤ) → State q side there wait delay p now course → now ≤ℤ last
-      → IsReadBy last (other side) course → (last +ℤ pos (open_time p)) <ℤ end_of now course → Gets_ p
-  read_gets p now [] last h before reads over = absurd (not_both last now before (less_time last now (open_time p) over))
-  read_gets p now (x ∷ course) last h before reads over =
-      by
-      (λ (state : State q side there wait delay (takes p x.1) x.0 course) (more : IsReadBy last (other side) course).
-      read_gets (takes p x.1) x.0 course last state reads.0 more over_on)
-      (nat_lt (acked_in p side) (acked_in (takes p x.1) side)) refl
-    where
-      first : (of : Side) → MovesIn p (takes p x.1) of
-      first of = moves q side there wait delay p now x course h of
-
-      same_time : open_time (takes p x.1) ≡ open_time p
-      same_time =
-          ap (λ (k : ℕ). (max 1 k + 2 + 2) * 60_000_000 + wait + (wait + 60_000_000 + wait + (delay + delay))) (first (other side)).room
-
-      over_on : (last +ℤ pos (open_time (takes p x.1))) <ℤ end_of x.0 course
-      over_on = subst (λ (n : ℕ). (last +ℤ pos n) <ℤ end_of x.0 course) (sym same_time) over
-
-      lift : Gets_ (takes p x.1) → Gets_ p
-      lift (inl risen) = inl (lifted_on q side there wait delay p now x course h side risen)
-      lift (inr risen) = inr (lifted_on q side there wait delay p now x course h (other side) risen)
-
-      Rest : Type 0
-      Rest = State q side there wait delay (takes p x.1) x.0 course → IsReadBy last (other side) course → Gets_ (takes p x.1)
-
-      read_now : State q side there wait delay (takes p x.1) x.0 course → Reads (other side) x.1 → Gets_ (takes p x.1)
-      read_now state reads_it =
-          open_gets (takes p x.1) x.0 course
-          (record { state = state; free = reads_free p x.1 (other side) reads_it h.in_time.room })
-          (sooner x.0 last (end_of x.0 course) (open_time (takes p x.1)) reads.0 over_on)
-
-      on : Rest → State q side there wait delay (takes p x.1) x.0 course → Reads (other side) x.1 ⊎ IsReadBy last (other side) course → Gets_ (takes p x.1)
-      on rest state (inl reads_it) = read_now state reads_it
-      on rest state (inr more) = rest state more
-
-      less : (a b c : ℕ) → a < b → b ≤ c → a < c
-      less a b c e f = omega arith
-
-      by : Rest → (risen : Bool) → nat_lt (acked_in p side) (acked_in (takes p x.1) side) ≡ risen → Gets_ p
-      by rest true e =
-          inl
-          (inl
-          (less (acked_in p side) (acked_in (takes p x.1) side) (acked_in q side) (ltb-true (acked_in p side) (acked_in (takes p x.1) side) e)
-          (acked_to_end q side there wait delay p now x course h)))
-      by rest false e =
-          lift
-          (on rest
-          (tail q side there wait delay p now x course h
-          (still_owes q side there wait delay p now x course h (ltb-false (acked_in p side) (acked_in (takes p x.1) side) e)))
-          reads.1)
-
-  whole_sum : (now end : ℤ) (read put : ℕ) → (now +ℤ pos (read + 60_000_000 + wait + wait + (put + wait + delay + delay))) <ℤ end →
-      ((now +ℤ pos read) +ℤ pos (put + wait + (wait + 60_000_000 + wait + (delay + delay)))) <ℤ end
-  whole_sum now end read put e = first_of (omega (arith, ints), grind (arith, ints))
-
-  all_gets :
-      (p : PairValue) (now : ℤ) (course : Course) (read : ℕ) → State q side there wait delay p now course
-      → ReadsWithin read now p (other side) course → (now +ℤ pos (whole_span read wait delay p side)) <ℤ end_of now course → Gets_ p
-  all_gets p now course read h reads over = by (nat_lt 0 (free_in (socket_of p (other side)))) refl where
-    over_all : ((now +ℤ pos read) +ℤ pos (open_time p)) <ℤ end_of now course
-    over_all = whole_sum now (end_of now course) read (put_off_in p side) over
-
-    closed : (n : ℕ) → n ≤ 0 → n ≡ 0
-    closed n e = omega arith
-
-    some : (n : ℕ) → 0 < n → 1 ≤ n
-    some n e = omega arith
-
-    shut :
-        (course : Course) → State q side there wait delay p now course → ReadsWithin read now p (other side) course
-        → ((now +ℤ pos read) +ℤ pos (open_time p)) <ℤ end_of now course → free_in (socket_of p (other side)) ≡ 0 → Gets_ p
-    shut [] h reads over none = absurd (not_both (now +ℤ pos read) now (later now read) (less_time (now +ℤ pos read) now (open_time p) over))
-    shut (x ∷ course) h reads over none =
-        read_gets p now (x ∷ course) (now +ℤ pos read) h (later now read) (reads.0 none) over
-
-    by : (test : Bool) → nat_lt 0 (free_in (socket_of p (other side))) ≡ test → Gets_ p
-    by true e =
-        open_gets p now course (record { state = h; free = some (free_in (socket_of p (other side))) (ltb-true 0 (free_in (socket_of p (other side))) e) })
-        (sooner now (now +ℤ pos read) (end_of now course) (open_time p) (later now read) over_all)
-    by false e =
-        shut course h reads over_all (closed (free_in (socket_of p (other side))) (ltb-false 0 (free_in (socket_of p (other side))) e))
+          HasRisen after q side ⊎ (HasRisen after q (other side) ⊎ IsShutAmong after side (next_sent it.m side) it.rest)
+          → HasRisen p q side ⊎ HasRisen p q (other side)
+      by (inl risen) = inl (risen_since p after q side (at_after.to side) risen)
+      by (inr (inl risen)) = inr (risen_since p after q (other side) (at_after.to (other side)) risen)
+      by (inr (inr shut)) =
+          inr
+          (risen_since p after q (other side) (at_after.to (other side))
+          (inr (never_shut after q side (next_sent it.m side) it.rest at_after.reached (at_after.begun A) (at_after.begun B) steps_on there it.free shut)))
 
 pub gets_on :
     (p q : PairValue) (side : Side) (course : Course) (read wait delay : ℕ) (now : ℤ) → IsReached p → AreOpen p → Steps p (events_of course) q → AreThere q
     → 1 ≤ left_in p side → GoesInTime wait delay now p side course → ReadsWithin read now p (other side) course
     → (now +ℤ pos (whole_span read wait delay p side)) <ℤ end_of now course → HasRisen p q side ⊎ HasRisen p q (other side)
 gets_on p q side course read wait delay now r o s there owes c reads over =
-    all_gets q side there wait delay p now course read
-    (record { reached = r; a = begun p A r o.0; b = begun p B r o.1; steps = s; owes = owes; in_time = c }) reads over
+    by
+    (all_gets q side there wait (delay + delay) p now course read
+    (record {
+      reached = r;
+      a = begun p A r o.0;
+      b = begun p B r o.1;
+      steps = s;
+      owes = owes;
+      in_time = timely wait delay now p side course c;
+    })
+    reads (whole now (end_of now course) (put_off_in p side) over))
+  where
+    whole : (now end : ℤ) (put : ℕ) → (now +ℤ pos (read + 60_000_000 + wait + wait + (put + wait + delay + delay))) <ℤ end →
+        (now +ℤ pos (read + 60_000_000 + wait + wait + (put + wait + (delay + delay)))) <ℤ end
+    whole now end put e = first_of (omega (arith, ints), grind (arith, ints))
+
+    by : Gets q side (delay + delay) p course → HasRisen p q side ⊎ HasRisen p q (other side)
+    by (inl risen) = inl risen
+    by (inr (inl risen)) = inr risen
+    by (inr (inr it)) = comes p q side course wait delay now r o s there owes c it

@@ -1,6 +1,6 @@
 -- On a link that keeps order each segment that comes in time is heard, within 24 days.
 use Rattle.std.proofs.Common.{◌≡◌, ◌⊎◌, inl, inr, ℕ, ◌≤◌, ℤ, pos, ◌+ℤ◌, ◌≤ℤ◌, true, false, List, [], ◌∷◌, Some, None, Result, Ok, Err}
-use Rattle.std.proofs.Common.{slice_get, refl, sym, ◌∙◌, subst, arith}
+use Rattle.std.proofs.Common.{slice_get, refl, sym, ◌∙◌, subst}
 use Rattle.std.proofs.lemmas.Option.{slice_get_within}
 use Rattle.tcp_law.specs.Side.{Opening}
 use Rattle.tcp_rules.specs.Moments.{stamp_end_from}
@@ -20,6 +20,7 @@ use Rattle.tcp_progress.specs.Pair.{next_sent, socket_of}
 use Rattle.tcp_progress.specs.Reached.{IsReached}
 use Rattle.tcp_progress.specs.Rounds.{takes}
 use Rattle.tcp_progress.proofs.CourseExchange.{by_put, sent_by}
+use Rattle.tcp_progress.proofs.CourseMoments.{itself, upto}
 use Rattle.tcp_progress.proofs.CourseParts.{Course}
 use Rattle.tcp_progress.proofs.Kept.{reached_by}
 use Rattle.tcp_progress.proofs.Moments.{GoesOn, goes_on, handed_moment}
@@ -28,12 +29,6 @@ use Rattle.tcp_progress.proofs.StampCases.{IsOwn}
 use Rattle.tcp_progress.proofs.StampPairs.{earlier, fresh_by, reached_way}
 
 -- MOMENTS
-
-itself : (a : ℤ) → a ≤ℤ a
-itself a = grind arith
-
-upto : (a b c : ℤ) → a ≤ℤ b → b ≤ℤ c → a ≤ℤ c
-upto a b c e f = grind arith
 
 later_act : (s : PairSide) (others : List SentSegment) (event : PairEvent) → GoesOn s event → s.moment ≤ℤ (acts s others event).side.moment
 later_act s others (Listen of endpoint) on = itself s.moment

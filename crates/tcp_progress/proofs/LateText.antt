@@ -30,7 +30,7 @@ use Rattle.tcp_progress.specs.Arrivals.{Counts, EndsLastAck, IsAnswered, IsShutO
 use Rattle.tcp_progress.specs.BothWays.{AreThere, total_in}
 use Rattle.tcp_progress.specs.Exchange.{IsOpen, left_of}
 use Rattle.tcp_progress.specs.Late.{CountsIn, EndsIn, GoesFrom, IsAnsweredIn, IsTakenIn, MayCome, come_in}
-use Rattle.tcp_progress.specs.Onward.{AreOpen, HasRisen, Lasts}
+use Rattle.tcp_progress.specs.Onward.{AreOpen, HasRisen, Lasts, acked_in}
 use Rattle.tcp_progress.specs.Pair.{HasStream, left_in, socket_of}
 use Rattle.tcp_progress.specs.Positions.{LiesWithin}
 use Rattle.tcp_progress.specs.Reached.{IsReached}
@@ -80,6 +80,32 @@ left_within p side r opened =
         (iss una left written closed : ℕ) {fin : ℕ} → 0 ≡ suc iss - una → una + left ≡ suc iss + written + closed → closed ≡ fin
         → left ≤ written + fin
     by iss una left written closed d e g = omega arith
+
+-- what has risen since some events has risen since before them
+pub risen_since : (p m q : PairValue) (of : Side) → MovesIn p m of → HasRisen m q of → HasRisen p q of
+risen_since p m q of to (inl e) = inl (more (total_in p of) (left_in p of) (total_in m of) (left_in m of) (acked_in q of) to.acked e) where
+  more : (a b c d e : ℕ) → a + d ≤ c + b → c - d < e → a - b < e
+  more a b c d e x y = omega arith
+risen_since p m q of to (inr e) = inr (more (taken_in p of) (taken_in m of) (taken_in q of) to.taken e) where
+  more : (a b c : ℕ) → a ≤ b → b < c → a < c
+  more a b c x y = omega arith
+
+-- a side that owes something keeps its stream: what isn't acknowledged was written
+pub stream_since :
+    (p m : PairValue) (side : Side) → IsReached p → IsOpen (socket_of p side).block → 1 ≤ left_in p side → MovesIn p m side
+    → HasStream (past_at p side) → HasStream (past_at m side)
+stream_since p m side r opened owes to stream =
+    inr (more (length (past_at p side).written) (length (past_at m side).written) (wrote stream) to.written)
+  where
+    more : (a b : ℕ) → 1 ≤ a → a ≤ b → 1 ≤ b
+    more a b e f = omega arith
+
+    some : (written : ℕ) {fin left : ℕ} → fin ≡ 0 → left ≤ written + fin → 1 ≤ left → 1 ≤ written
+    some written e f g = omega arith
+
+    wrote : HasStream (past_at p side) → 1 ≤ length (past_at p side).written
+    wrote (inl unclosed) = some (length (past_at p side).written) (ap one_if unclosed) (left_within p side r opened) owes
+    wrote (inr some) = some
 
 -- a connection that takes no text took the FIN
 finished_in : (state : State) → is_synchronized state ≡ true → takes_text state ≡ false → is_finished_in state ≡ true

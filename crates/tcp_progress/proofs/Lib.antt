@@ -82,6 +82,7 @@ pub mod PutOffProbes
 pub mod Mending
 pub mod MendingEvents
 pub mod MendingRuns
+pub mod CourseMoments
 pub mod CourseRuns
 pub mod Inside
 pub mod CourseExchange
@@ -91,12 +92,15 @@ pub mod ProbeGoes
 pub mod AgainGoes
 pub mod CourseGoes
 pub mod CourseParts
+pub mod CourseStands
 pub mod CourseOwes
 pub mod CourseSpans
 pub mod Frees
 pub mod Idles
 pub mod OrWaits
 pub mod CourseIdle
+pub mod CourseBegins
+pub mod CourseCuts
 pub mod CourseWindows
 pub mod CourseThrough
 pub mod Accepted

@@ -1,6 +1,5 @@
 -- A pair in a course in which each segment comes in time, and the segments that come.
 use Rattle.std.proofs.Common.{◌≡◌, ◌⊎◌, inl, inr, ℕ, ◌+◌, ◌-◌, ◌<◌, ◌≤◌, ℤ, ◌≤ℤ◌, ◌<ℤ◌, false, true, [], ◌∷◌, ◌++◌, Some, slice_get, refl, sym, subst, arith}
-use Rattle.std.proofs.lemmas.Int.{ints}
 use Rattle.tcp_tie.specs.Pair.Sides.{at, other}
 use Rattle.tcp_tie.specs.Pair.Steps.{Steps}
 use Rattle.tcp_tie.specs.Pair.Values.{PairValue, past_at}
@@ -20,18 +19,16 @@ use Rattle.tcp_progress.specs.Reached.{IsReached}
 use Rattle.tcp_progress.specs.Rounds.{takes}
 use Rattle.tcp_progress.specs.Sent.{taken_in}
 use Rattle.tcp_progress.proofs.CourseExchange.{sent_by}
-use Rattle.tcp_progress.proofs.CourseParts.{Course, after_all, clock_on, steps_first, there_before}
+use Rattle.tcp_progress.proofs.CourseMoments.{not_both}
+use Rattle.tcp_progress.proofs.CourseParts.{Course, after_all, clock_on, there_before}
+use Rattle.tcp_progress.proofs.CourseStands.{Stands, stands_on, steps_to}
 use Rattle.tcp_progress.proofs.Kept.{reached_by}
 use Rattle.tcp_progress.proofs.LateText.{there_of}
 use Rattle.tcp_progress.proofs.OnwardPairs.{IsBegun, MovesIn, begun_after, by_steps, then_moves}
 use Rattle.tcp_progress.proofs.Opened.{is_open}
 use Rattle.stack_laws.specs.Progress.Edges.{ArrivesBy, ArrivesInTime, ArrivesWith, KeepsStream}
-use Rattle.stack_laws.proofs.AtEdges.Owing.{Stands, stands_on}
 
 -- A SEGMENT COMES
-
-not_both : (last end : ℤ) → end ≤ℤ last → last <ℤ end → ⊥
-not_both last end e f = first_of (omega (arith, ints), grind (arith, ints))
 
 -- where the segment `x` of a side, its number `k`, comes in a course
 pub record Comes (p : PairValue) (course : Course) (last : ℤ) (side : Side) (k : ℕ) (x : SentSegment) : Type 0 where
@@ -131,9 +128,7 @@ module _ (p q : PairValue) (there : AreThere q) (read wait delay : ℕ) (end : �
       (walk s.first tail m now (subst (λ (c : Course). Here m now c) s.is h))
 
   pub steps_between : (m n : PairValue) (now : ℤ) (rest tail : Course) → Here m now rest → (s : Stands m rest n tail) → Steps m (events_of s.first) n
-  steps_between m n now rest tail h s =
-      subst (λ (n : PairValue). Steps m (events_of s.first) n) s.to
-      (steps_first m q s.first tail (subst (λ (c : Course). Steps m (events_of c) q) s.is h.steps))
+  steps_between m n now rest tail h s = steps_to m q n rest tail s h.steps
 
   pub moves_between : (m n : PairValue) (now : ℤ) (rest tail : Course) → Here m now rest → Stands m rest n tail → (of : Side) → MovesIn m n of
   moves_between m n now rest tail h s of =

@@ -34,7 +34,10 @@ use Rattle.tcp_progress.specs.Pair.{left_in, next_sent, socket_of}
 use Rattle.tcp_progress.specs.Readers.{whole_span}
 use Rattle.tcp_progress.specs.Rounds.{takes}
 use Rattle.tcp_progress.specs.Sent.{taken_in}
+use Rattle.tcp_progress.proofs.CourseBegins.{all_gets, free_through}
+use Rattle.tcp_progress.proofs.CourseMoments.{later, more_time, sooner, upto}
 use Rattle.tcp_progress.proofs.CourseParts.{Course}
+use Rattle.tcp_progress.proofs.CourseStands.{Begins, Gets, stands_first, stands_on}
 use Rattle.tcp_progress.proofs.Exchange.{last_of}
 use Rattle.tcp_progress.proofs.Inside.{in_window, top_ahead}
 use Rattle.tcp_progress.proofs.Kept.{reached_keeps}
@@ -48,27 +51,10 @@ use Rattle.tcp_progress.proofs.SentPairs.{reached_took}
 use Rattle.tcp_progress.proofs.Taken.{again_lies_before}
 use Rattle.tcp_progress.proofs.WindowPairs.{near_in}
 use Rattle.stack_laws.specs.Progress.Edges.{ArrivesBy, HasMoreSent, LiesAtEdge, edge_span}
-use Rattle.stack_laws.proofs.AtEdges.Begins.{all_gets, free_through}
 use Rattle.stack_laws.proofs.AtEdges.Comes.{Comes, Here, Risen, clock_at, comes_in, from_here, here_at, lasts_between, moves_between, open_here, raised, step_on, steps_between, stream_here, there_here}
-use Rattle.stack_laws.proofs.AtEdges.Owing.{Begins, Gets, stands_first, stands_on}
 use Rattle.stack_laws.proofs.AtEdges.Sent.{follows_more}
 
 -- MOMENTS
-
-later : (now : ℤ) (n : ℕ) → now ≤ℤ (now +ℤ pos n)
-later now n = first_of (omega (arith, ints), grind (arith, ints))
-
-sooner : (a b end : ℤ) (n : ℕ) → a ≤ℤ b → (b +ℤ pos n) <ℤ end → (a +ℤ pos n) <ℤ end
-sooner a b end n e f = first_of (omega (arith, ints), grind (arith, ints))
-
-two_later : (a b c : ℤ) (n : ℕ) → a ≤ℤ b → b ≤ℤ (c +ℤ pos n) → a ≤ℤ (c +ℤ pos n)
-two_later a b c n e f = grind arith
-
-more_time : (a b : ℤ) (n : ℕ) → a ≤ℤ b → (a +ℤ pos n) ≤ℤ (b +ℤ pos n)
-more_time a b n e = first_of (omega (arith, ints), grind (arith, ints))
-
-upto : (a b c : ℤ) → a ≤ℤ b → b ≤ℤ c → a ≤ℤ c
-upto a b c e f = grind arith
 
 itself : (n : ℕ) → n ≤ n
 itself n = omega arith
@@ -164,7 +150,7 @@ module _ (p q : PairValue) (there : AreThere q) (read wait delay : ℕ) (end : �
   begins :
       (side : Side) (reserve : ℕ) (m : PairValue) (now : ℤ) (rest : Course) → Here_ m now rest → 1 ≤ left_in m side
       → (now +ℤ pos (read + 60_000_000 + wait + wait + (put_off_in m side + wait + reserve))) <ℤ end
-      → Risen_ ⊎ Begins q side there wait reserve m rest
+      → Risen_ ⊎ Begins side reserve m rest
   begins side reserve m now rest h owes over =
       by
       (all_gets q side there wait reserve m now rest read
@@ -185,14 +171,14 @@ module _ (p q : PairValue) (there : AreThere q) (read wait delay : ℕ) (end : �
       (h.in_time.reads (other side))
       (subst (λ (e : ℤ). (now +ℤ pos (read + 60_000_000 + wait + wait + (put_off_in m side + wait + reserve))) <ℤ e) (sym h.same_end) over))
     where
-      by : Gets q side there wait reserve m rest → Risen_ ⊎ Begins q side there wait reserve m rest
+      by : Gets q side reserve m rest → Risen_ ⊎ Begins side reserve m rest
       by (inl risen) = inl (raised p q there read wait delay end m q side (h.to side) risen (stays _ _))
       by (inr (inl risen)) = inl (raised p q there read wait delay end m q (other side) (h.to (other side)) risen (stays _ _))
       by (inr (inr it)) = inr it
 
   -- ITS SEGMENT COMES
 
-  module _ (side : Side) (reserve : ℕ) (m : PairValue) (now : ℤ) (rest : Course) (h : Here_ m now rest) (b : Begins q side there wait reserve m rest)
+  module _ (side : Side) (reserve : ℕ) (m : PairValue) (now : ℤ) (rest : Course) (h : Here_ m now rest) (b : Begins side reserve m rest)
       (fits : (b.x.0 +ℤ pos delay) <ℤ end) where
     abbrev k : ℕ
     k = next_sent b.m side
@@ -566,11 +552,11 @@ module _ (p q : PairValue) (there : AreThere q) (read wait delay : ℕ) (end : �
       → distance_of (socket_of m side).block.sender.una (socket_of m (other side)).block.receiver.next ≡ 0
       → (now +ℤ pos (read + 60_000_000 + wait + wait + (put_off_in m side + wait + delay))) <ℤ end → Risen_
   one_span side m now rest h owes none over = by (begins side delay m now rest h owes over) where
-    moves : (b : Begins q side there wait delay m rest) (of : Side) → MovesIn m (takes b.m b.x.1) of
+    moves : (b : Begins side delay m rest) (of : Side) → MovesIn m (takes b.m b.x.1) of
     moves b of =
         moves_between p q there read wait delay end m (takes b.m b.x.1) now rest b.rest h (stands_on m rest b.m b.x b.rest b.stands) of
 
-    by : Risen_ ⊎ Begins q side there wait delay m rest → Risen_
+    by : Risen_ ⊎ Begins side delay m rest → Risen_
     by (inl risen) = risen
     by (inr b) =
         new_rises side delay m now rest h b
@@ -602,7 +588,7 @@ module _ (p q : PairValue) (there : AreThere q) (read wait delay : ℕ) (end : �
         → (now +ℤ pos (read + 60_000_000 + wait + wait + (theirs + wait + delay))) <ℤ end
     then_fits a now end theirs e f = first_of (omega (arith, ints), grind (arith, ints))
 
-    by : Risen_ ⊎ Begins q side there wait reserve m rest → Risen_
+    by : Risen_ ⊎ Begins side reserve m rest → Risen_
     by (inl risen) = risen
     by (inr b) = told (exchanged side reserve m now rest h b fits) where
       over_then : (b.x.0 +ℤ pos reserve) <ℤ end

@@ -1,82 +1,35 @@
 -- Spans of a course, one after the other, wherever acknowledgements come.
-use Rattle.std.proofs.Common.{◌≡◌, ◌⊎◌, inl, inr, ℕ, zero, suc, ◌+◌, ◌-◌, ◌*◌, ◌≤◌, ◌==◌, max, ℤ, pos, ◌+ℤ◌, ◌≤ℤ◌, ◌<ℤ◌, int_lt, Bool, true, false}
-use Rattle.std.proofs.Common.{List, [], ◌∷◌, ◌++◌, Option, Some, None, refl, sym, ap, ◌∙◌, subst, arith}
+use Rattle.std.proofs.Common.{◌≡◌, ◌⊎◌, inl, inr, ℕ, zero, suc, ◌+◌, ◌-◌, ◌*◌, ◌≤◌, ◌==◌, max, ℤ, pos, ◌+ℤ◌, ◌≤ℤ◌, ◌<ℤ◌, Bool, true, false}
+use Rattle.std.proofs.Common.{List, [], ◌∷◌, ◌++◌, refl, sym, ap, ◌∙◌, subst, arith}
 use Rattle.std.proofs.lemmas.Bool.{eqb-true}
-use Rattle.std.proofs.lemmas.Int.{ints}
-use Rattle.tcp_rules.proofs.OrderSteps.{clash}
-use Rattle.tcp_tie.specs.Pair.Sides.{at, other}
+use Rattle.tcp_tie.specs.Pair.Sides.{other}
 use Rattle.tcp_tie.specs.Pair.Steps.{Steps}
 use Rattle.tcp_tie.specs.Pair.Values.{PairValue}
 use Rattle.tcp_tie.specs.declared.pair.event.PairEvent.{PairEvent}
 use Rattle.tcp_tie.specs.declared.pair.event.Side.{Side}
 use Rattle.tcp_tie.specs.declared.pair.event.Side.TheVariants.{A, B}
 use Rattle.tcp_progress.specs.BothWays.{AreThere}
-use Rattle.tcp_progress.specs.Course.{Wants, end_of, events_of}
-use Rattle.tcp_progress.specs.Exchange.{IsOpen}
-use Rattle.tcp_progress.specs.Near.{IsNear}
+use Rattle.tcp_progress.specs.Course.{end_of, events_of}
 use Rattle.tcp_progress.specs.Onward.{AreOpen, HasRisen}
-use Rattle.tcp_progress.specs.Pair.{left_in, socket_of}
+use Rattle.tcp_progress.specs.Pair.{left_in}
 use Rattle.tcp_progress.specs.Reached.{IsReached}
-use Rattle.tcp_progress.specs.Readers.{IsReadBy, Reads, ReadsWithin, whole_span}
+use Rattle.tcp_progress.specs.Readers.{whole_span}
 use Rattle.tcp_progress.specs.Rounds.{takes}
 use Rattle.tcp_progress.specs.Spans.{IsThroughAmong, most_reached, reached_in}
-use Rattle.tcp_progress.proofs.CourseIdle.{wants_soon}
-use Rattle.tcp_progress.proofs.CourseParts.{Course, after_all, asks_first, clocked_first, end_parts, steps_first, taken_first, through_now, through_rest}
-use Rattle.tcp_progress.proofs.CourseRuns.{wants}
-use Rattle.tcp_progress.proofs.CourseSpans.{Cut, all_reached, first_span, no_less, one_more, other_spans, times_suc}
+use Rattle.tcp_progress.proofs.CourseCuts.{Cut, cut_on}
+use Rattle.tcp_progress.proofs.CourseMoments.{later}
+use Rattle.tcp_progress.proofs.CourseParts.{Course, after_all, asks_first, clocked_first, end_parts, reads_first, steps_first, taken_first, through_now, through_rest}
+use Rattle.tcp_progress.proofs.CourseSpans.{all_reached, first_span, no_less, one_more, other_spans, times_suc}
+use Rattle.tcp_progress.proofs.CourseStands.{Stands}
 use Rattle.tcp_progress.proofs.Kept.{reached_by}
-use Rattle.tcp_progress.proofs.LateText.{open_of}
+use Rattle.tcp_progress.proofs.LateText.{open_of, there_of}
+use Rattle.tcp_progress.proofs.Onward.{positive}
 use Rattle.tcp_progress.proofs.OnwardPairs.{MovesIn, begun, stays}
-use Rattle.tcp_progress.proofs.PairTimers.{timer_near}
-use Rattle.tcp_progress.proofs.PutOff.{is_running}
 use Rattle.stack_laws.specs.Progress.Edges.{ArrivesBy, ArrivesInTime, ArrivesWith, ArrivesWithin, KeepsStream, edge_span}
-use Rattle.stack_laws.proofs.AtEdges.Comes.{Here, from_here, here_at, moves_between, open_here, step_on, stream_now, there_here}
-use Rattle.stack_laws.proofs.AtEdges.Owing.{Stands}
+use Rattle.stack_laws.proofs.AtEdges.Comes.{Here, from_here, here_at, moves_between, open_here, stream_now, there_here}
 use Rattle.stack_laws.proofs.AtEdges.Whole.{goes_on}
 
--- MOMENTS
-
-upto : (a b c : ℤ) → a ≤ℤ b → b ≤ℤ c → a ≤ℤ c
-upto a b c e f = grind arith
-
-not_both : (last end : ℤ) → end ≤ℤ last → last <ℤ end → ⊥
-not_both last end e f = first_of (omega (arith, ints), grind (arith, ints))
-
-below : (limit now : ℤ) → int_lt limit now ≡ true → limit <ℤ now
-below limit now e = first_of (omega (arith, ints), grind (arith, ints))
-
-not_below : (limit now : ℤ) → int_lt limit now ≡ false → now ≤ℤ limit
-not_below limit now e = first_of (omega (arith, ints), grind (arith, ints))
-
-more_time : (a b : ℤ) (n : ℕ) → a ≤ℤ b → (a +ℤ pos n) ≤ℤ (b +ℤ pos n)
-more_time a b n e = first_of (omega (arith, ints), grind (arith, ints))
-
-after_now : (now : ℤ) (n : ℕ) → now ≤ℤ (now +ℤ pos n)
-after_now now n = first_of (omega (arith, ints), grind (arith, ints))
-
-positive : (n : ℕ) → (n == 0) ≡ false → 1 ≤ n
-positive zero e = clash e
-positive (suc n) e = one n where
-  one : (n : ℕ) → 1 ≤ suc n
-  one n = omega arith
-
 -- THE FIRST PART OF A COURSE
-
-read_first : (last : ℤ) (side : Side) (first rest : Course) → IsReadBy last side (first ++ rest) → IsReadBy last side first
-read_first last side [] rest r = tt
-read_first last side (x ∷ first) rest r = (r.0, by (λ more. read_first last side first rest more) r.1) where
-  by :
-      (IsReadBy last side (first ++ rest) → IsReadBy last side first) → Reads side x.1 ⊎ IsReadBy last side (first ++ rest)
-      → Reads side x.1 ⊎ IsReadBy last side first
-  by on (inl reads) = inl reads
-  by on (inr more) = inr (on more)
-
-reads_first :
-    (read : ℕ) (now : ℤ) (p : PairValue) (side : Side) (first rest : Course) → ReadsWithin read now p side (first ++ rest)
-    → ReadsWithin read now p side first
-reads_first read now p side [] rest r = tt
-reads_first read now p side (x ∷ first) rest r =
-    ((λ none. read_first (now +ℤ pos read) side (x ∷ first) rest (r.0 none)), reads_first read x.0 (takes p x.1) side first rest r.1)
 
 comes_first :
     (last : ℤ) (side : Side) (k : ℕ) (p : PairValue) (first rest : Course) → ArrivesBy last side k p (first ++ rest) → ArrivesBy last side k p first
@@ -114,25 +67,6 @@ first_in_time read wait delay now p first rest c = record {
 
 -- WHERE A SPAN ENDS
 
--- a side that owes something wants to be asked within a minute
-wants_then :
-    (p : PairValue) (side : Side) (now : ℤ) → IsReached p → IsOpen (socket_of p side).block → 1 ≤ left_in p side → (at p.sides side).moment ≤ℤ now
-    → Wants (now +ℤ pos 60_000_000) p side
-wants_then p side now r mine owes clock = by (socket_of p side).block.timers.retransmit_at refl where
-  none_out : (socket_of p side).block.timers.retransmit_at ≡ None → (none : Bool) → ((socket_of p side).block.sender.in_flight == 0) ≡ none →
-      (socket_of p side).block.sender.in_flight ≡ 0
-  none_out e true is = eqb-true (socket_of p side).block.sender.in_flight 0 is
-  none_out e false is = absurd (let it = is_running p side r is in let runs = it.runs in let never = sym e ∙ runs in cc)
-
-  by : (timer : Option ℤ) → (socket_of p side).block.timers.retransmit_at ≡ timer → Wants (now +ℤ pos 60_000_000) p side
-  by (Some when) e =
-      wants p side when (now +ℤ pos 60_000_000) r mine.synchronized e
-      (upto when ((at p.sides side).moment +ℤ pos 60_000_000) (now +ℤ pos 60_000_000)
-      (subst (λ (timer : Option ℤ). IsNear (at p.sides side).moment 60_000_000 timer) e (timer_near p side r))
-      (more_time (at p.sides side).moment now 60_000_000 clock))
-  by None e =
-      wants_soon p side now r mine owes (record { none = none_out e ((socket_of p side).block.sender.in_flight == 0) refl; timer = e }) clock
-
 module _ (p q : PairValue) (there : AreThere q) (read wait delay : ℕ) (end : ℤ) (side : Side) where
   abbrev Here_ : PairValue → ℤ → Course → Type 0
   Here_ m now rest = Here p q there read wait delay end m now rest
@@ -140,35 +74,9 @@ module _ (p q : PairValue) (there : AreThere q) (read wait delay : ℕ) (end : �
   -- all that the side's user wrote is acknowledged, or the course goes on past a moment, and has an event soon behind it
   cut : (limit : ℤ) (m : PairValue) (now : ℤ) (course : Course) → Here_ m now course → now ≤ℤ limit → limit <ℤ end_of now course
       → IsThroughAmong m side (events_of course) ⊎ Cut now limit wait course
-  cut limit m now [] h before over = absurd (not_both limit now before over)
-  cut limit m now (x ∷ course) h before over =
-      by (int_lt limit x.0) refl
-      (λ (early : x.0 ≤ℤ limit). cut limit (takes m x.1) x.0 course (step_on p q there read wait delay end m now x course h) early over)
-    where
-      Found : Type 0
-      Found = IsThroughAmong m side (events_of (x ∷ course)) ⊎ Cut now limit wait (x ∷ course)
-
-      further : IsThroughAmong (takes m x.1) side (events_of course) ⊎ Cut x.0 limit wait course → Found
-      further (inl through) = inl (inr through)
-      further (inr c) =
-          inr (record { first = x ∷ c.first; rest = c.rest; is = ap (λ (l : Course). x ∷ l) c.is; over = c.over; within = c.within })
-
-      soon : 1 ≤ left_in m side → x.0 ≤ℤ ((limit +ℤ pos 60_000_000) +ℤ pos wait)
-      soon owes =
-          upto x.0 ((now +ℤ pos 60_000_000) +ℤ pos wait) ((limit +ℤ pos 60_000_000) +ℤ pos wait)
-          (h.in_time.asks.0 side (now +ℤ pos 60_000_000) (after_now now 60_000_000)
-          (wants_then m side now h.reached (open_here p q there read wait delay end m now (x ∷ course) h side) owes (h.in_time.clocks side))).0
-          (more_time (now +ℤ pos 60_000_000) (limit +ℤ pos 60_000_000) wait (more_time now limit 60_000_000 before))
-
-      here : limit <ℤ x.0 → (none : Bool) → (left_in m side == 0) ≡ none → Found
-      here e true through = inl (inl (eqb-true (left_in m side) 0 through))
-      here e false owes =
-          inr (record { first = x ∷ []; rest = course; is = refl; over = e; within = soon (positive (left_in m side) owes) })
-
-      by : (passed : Bool) → int_lt limit x.0 ≡ passed →
-          (x.0 ≤ℤ limit → IsThroughAmong (takes m x.1) side (events_of course) ⊎ Cut x.0 limit wait course) → Found
-      by true e more = here (below limit x.0 e) (left_in m side == 0) refl
-      by false e more = further (more (not_below limit x.0 e))
+  cut limit m now course h before over =
+      cut_on q side (there_of q side there) wait limit m now course h.reached (h.begun A) (h.begun B) h.steps (h.in_time.clocks side) h.in_time.clocked
+      h.in_time.asks before over
 
   -- SO MANY SPANS
 
@@ -266,7 +174,7 @@ module _ (p q : PairValue) (there : AreThere q) (read wait delay : ℕ) (end : �
       by rest true e = inr (through_now m side course (eqb-true (left_in m side) 0 e))
       by rest false e =
           by_cut rest (positive (left_in m side) e)
-          (cut limit m now course h (after_now now span) (first_span now (end_of now course) span (n * (2 * span)) over_all))
+          (cut limit m now course h (later now span) (first_span now (end_of now course) span (n * (2 * span)) over_all))
 
 module _ (p q : PairValue) (side : Side) (course : List (ℤ × PairEvent)) (read wait delay : ℕ) (now : ℤ) (r : IsReached p) (o : AreOpen p)
     (s : Steps p (events_of course) q) (there : AreThere q) (c : ArrivesInTime read wait delay now p course) where

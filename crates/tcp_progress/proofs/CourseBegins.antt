@@ -28,39 +28,19 @@ use Rattle.tcp_progress.specs.Readers.{IsReadBy, Reads, ReadsWithin}
 use Rattle.tcp_progress.specs.Rounds.{takes}
 use Rattle.tcp_progress.specs.Sent.{taken_in}
 use Rattle.tcp_progress.proofs.CourseGoes.{Goes, begins_anew, sent_all}
-use Rattle.stack_laws.proofs.AtEdges.Idle.{Open, idle_out}
-use Rattle.stack_laws.proofs.AtEdges.Owing.{Gets, Stands, State, acked_to_end, back, lift, moves, open_at, stands_first, stands_on, still_owes, tail}
-use Rattle.tcp_progress.proofs.CourseParts.{Course, there_before}
+use Rattle.tcp_progress.proofs.CourseIdle.{Open, idle_out}
+use Rattle.tcp_progress.proofs.CourseMoments.{at_most, later, less_time, not_both, sooner}
+use Rattle.tcp_progress.proofs.CourseStands.{Gets, Stands, State, acked_to_end, back, lift, moves, open_at, stands_first, stands_on, still_owes, tail}
+use Rattle.tcp_progress.proofs.CourseParts.{Course, Midway, midway, there_before}
 use Rattle.tcp_progress.proofs.CourseRuns.{Start, runs_in_course}
 use Rattle.tcp_progress.proofs.Frees.{frees_on, reads_free}
 use Rattle.tcp_progress.proofs.Idles.{IsIdle}
 use Rattle.tcp_progress.proofs.Kept.{reached_by}
 use Rattle.tcp_progress.proofs.LateText.{left_within, there_of}
 use Rattle.tcp_progress.proofs.OnwardPairs.{IsBegun, MovesIn, begun_after, by_steps, then_moves}
-use Rattle.tcp_progress.proofs.Opened.{is_open}
 use Rattle.tcp_progress.proofs.OrWaits.{IsBare, WaitsIn, goes_or_waits}
 use Rattle.tcp_progress.proofs.PutOff.{is_running}
 use Rattle.tcp_progress.proofs.PutOffRuns.{begun_of}
-
--- MOMENTS
-
-itself : (a : ℤ) → a ≤ℤ a
-itself a = grind arith
-
-upto : (a b c : ℤ) → a ≤ℤ b → b ≤ℤ c → a ≤ℤ c
-upto a b c e f = grind arith
-
-not_both : (last end : ℤ) → end ≤ℤ last → last <ℤ end → ⊥
-not_both last end e f = first_of (omega (arith, ints), grind (arith, ints))
-
-later : (now : ℤ) (n : ℕ) → now ≤ℤ (now +ℤ pos n)
-later now n = first_of (omega (arith, ints), grind (arith, ints))
-
-less_time : (a end : ℤ) (n : ℕ) → (a +ℤ pos n) <ℤ end → a <ℤ end
-less_time a end n e = first_of (omega (arith, ints), grind (arith, ints))
-
-sooner : (a b end : ℤ) (n : ℕ) → a ≤ℤ b → (b +ℤ pos n) <ℤ end → (a +ℤ pos n) <ℤ end
-sooner a b end n e f = first_of (omega (arith, ints), grind (arith, ints))
 
 -- FREE SPACE, THROUGH EVENTS
 
@@ -192,15 +172,12 @@ starts_or_idles p side (Clock of moment) (inr never) taken h = absurd never
 starts_or_idles p side (Deliver from k) (inl never) taken h = absurd never
 starts_or_idles p side (Deliver from k) (inr never) taken h = absurd never
 
-equal : (a b : ℤ) → a ≡ b → a ≤ℤ b
-equal a b e = subst (λ (m : ℤ). a ≤ℤ m) e (itself a)
-
 -- the clock of a side that starts so is the one of the course
 clock_at :
     (p : PairValue) (now : ℤ) (side : Side) (event : PairEvent) → RunsOutIn p side event ⊎ BeginsAnewIn p side event → IsTaken event → IsAt now event
     → (at (takes p event).sides side).moment ≤ℤ now
-clock_at p now A (Offer A moment true) starts taken is = equal moment now is
-clock_at p now B (Offer B moment true) starts taken is = equal moment now is
+clock_at p now A (Offer A moment true) starts taken is = at_most moment now is
+clock_at p now B (Offer B moment true) starts taken is = at_most moment now is
 clock_at p now A (Offer B moment true) (inl out) taken is = absurd (let no = out.0 in cc)
 clock_at p now B (Offer A moment true) (inl out) taken is = absurd (let no = out.0 in cc)
 clock_at p now A (Offer B moment true) (inr anew) taken is = absurd (let no = anew.0 in cc)
@@ -250,7 +227,7 @@ module _ (q : PairValue) (side : Side) (there : AreThere q) (wait reserve : ℕ)
   lasts_all p course m x rest l = (l.0.1, (behind_on wait m x rest l.1.0, stands_on p course m x rest l.1.1))
 
   abbrev Gets_ : PairValue → Course → Type 0
-  Gets_ p course = Gets q side there wait reserve p course
+  Gets_ p course = Gets q side reserve p course
 
   abbrev Open_ : PairValue → ℤ → Course → Type 0
   Open_ p now course = Open q side there wait reserve p now course
@@ -268,7 +245,7 @@ module _ (q : PairValue) (side : Side) (there : AreThere q) (wait reserve : ℕ)
   module _ (p : PairValue) (now : ℤ) (course : Course) (o : Open_ p now course) (same : acked_in q side ≤ acked_in p side)
       (st : Start (Lasts_ p course) p q side now ((now +ℤ pos (put_off_in p side)) +ℤ pos wait) course)
       (over : (((now +ℤ pos (put_off_in p side)) +ℤ pos wait) +ℤ pos (wait + 60_000_000 + wait + reserve)) <ℤ end_of now course) where
-    abbrev h : State q side there wait reserve p now course
+    abbrev h : State q side there wait p now course
     h = o.state
 
     abbrev mid : PairValue
@@ -278,49 +255,16 @@ module _ (q : PairValue) (side : Side) (there : AreThere q) (wait reserve : ℕ)
     after = takes mid st.x.1
 
     mine_p : IsOpen (socket_of p side).block
-    mine_p = open_at q side there wait reserve p now course side h
+    mine_p = open_at q side there wait p now course side h
 
-    to_mid : (of : Side) → MovesIn p mid of
-    to_mid of = by_steps p st.before_it mid h.reached h.a h.b st.steps of
+    at_mid : Midway p mid q
+    at_mid = midway p mid q h.reached (λ of. begun_of p of h.a h.b) there st.before_it (st.x.1 ∷ events_of st.rest) st.steps st.steps_on
 
-    rm : IsReached mid
-    rm = reached_by p mid st.before_it h.reached st.steps
-
-    begun_mid : (of : Side) → IsBegun mid of
-    begun_mid of = begun_after p mid of (to_mid of) (begun_of p of h.a h.b)
-
-    allowed : refusal mid st.x.1 ≡ None
-    allowed = st.steps_on.0
-
-    to_after : (of : Side) → MovesIn mid after of
-    to_after of = by_steps mid (st.x.1 ∷ []) after rm (begun_mid A) (begun_mid B) (allowed, refl) of
-
-    ra : IsReached after
-    ra = reached_by mid after (st.x.1 ∷ []) rm (allowed, refl)
-
-    begun_then : (of : Side) → IsBegun after of
-    begun_then of = begun_after mid after of (to_after of) (begun_mid of)
-
-    from_after : (of : Side) → MovesIn after q of
-    from_after of = by_steps after (events_of st.rest) q ra (begun_then A) (begun_then B) st.steps_on.1 of
-
-    from_mid : (of : Side) → MovesIn mid q of
-    from_mid of = then_moves mid after q of (to_after of) (from_after of)
+    at_after : Midway mid after q
+    at_after = midway mid after q at_mid.reached at_mid.begun there (st.x.1 ∷ []) (events_of st.rest) (st.steps_on.0, refl) st.steps_on.1
 
     p_after : (of : Side) → MovesIn p after of
-    p_after of = then_moves p mid after of (to_mid of) (to_after of)
-
-    there_mid : (of : Side) → is_synchronized (socket_of mid of).block.state ≡ true
-    there_mid of = there_before mid q of (begun_mid of) (from_mid of) (there_of q of there)
-
-    there_after : (of : Side) → is_synchronized (socket_of after of).block.state ≡ true
-    there_after of = there_before after q of (begun_then of) (from_after of) (there_of q of there)
-
-    open_mid : IsOpen (socket_of mid side).block
-    open_mid = is_open mid side rm (there_mid side) (begun_mid side).syn
-
-    open_after : IsOpen (socket_of after side).block
-    open_after = is_open after side ra (there_after side) (begun_then side).syn
+    p_after of = then_moves p mid after of (at_mid.to of) (at_after.to of)
 
     -- as long as no more is acknowledged, it owes something still
     owes_then : (m : PairValue) → MovesIn p m side → MovesIn m q side → left_in m side ≤ total_in m side → 1 ≤ left_in m side
@@ -336,25 +280,25 @@ module _ (q : PairValue) (side : Side) (there : AreThere q) (wait reserve : ℕ)
     stands_then = stands_on p course mid st.x st.rest st.has.1.1
 
     behind : Gets_ after st.rest → Gets_ p course
-    behind gets = back q side there wait reserve p after course st.rest stands_then p_after gets
+    behind gets = back q side reserve p after course st.rest stands_then p_after gets
 
     here : IsHere mid side st.x.1
     here = record {
-      reached = rm;
-      mine = open_mid;
-      owes = owes_then mid (to_mid side) (from_mid side) (left_within mid side rm open_mid);
-      stays = there_after side;
+      reached = at_mid.reached;
+      mine = at_mid.opened side;
+      owes = owes_then mid (at_mid.to side) (at_mid.from side) (left_within mid side at_mid.reached (at_mid.opened side));
+      stays = (at_after.opened side).synchronized;
     }
 
     -- the course as it is behind that event
     after_open : 1 ≤ free_in (socket_of after (other side)) → Open_ after st.x.0 st.rest
     after_open free = record {
       state = record {
-        reached = ra;
-        a = begun_then A;
-        b = begun_then B;
+        reached = at_after.reached;
+        a = at_after.begun A;
+        b = at_after.begun B;
         steps = st.steps_on.1;
-        owes = owes_then after (p_after side) (from_after side) (left_within after side ra open_after);
+        owes = owes_then after (p_after side) (at_after.from side) (left_within after side at_after.reached (at_after.opened side));
         in_time = record {
           clock = clock_at mid st.x.0 side st.x.1 st.starts st.has.0.0 st.has.1.0.0;
           clocked = st.clocked;
@@ -392,7 +336,7 @@ module _ (q : PairValue) (side : Side) (there : AreThere q) (wait reserve : ℕ)
     started : Gets_ p course
     started =
         by_free
-        (free_through p after (other side) (st.before_it ++ (st.x.1 ∷ [])) h.reached h.a h.b all_steps (there_after (other side))
+        (free_through p after (other side) (st.before_it ++ (st.x.1 ∷ [])) h.reached h.a h.b all_steps (at_after.opened (other side)).synchronized
         o.free)
       where
         steps_to : (a b c : PairValue) (before : List PairEvent) (event : PairEvent) → Steps a before b → refusal b event ≡ None →
@@ -401,7 +345,7 @@ module _ (q : PairValue) (side : Side) (there : AreThere q) (wait reserve : ℕ)
         steps_to a b c (first ∷ before) event s e = (s.0, steps_to (takes a first) b c before event s.1 e)
 
         all_steps : Steps p (st.before_it ++ (st.x.1 ∷ [])) after
-        all_steps = steps_to p mid after st.before_it st.x.1 st.steps allowed
+        all_steps = steps_to p mid after st.before_it st.x.1 st.steps st.steps_on.0
 
         open_then : 1 ≤ free_in (socket_of after (other side)) → GoesOrIdles mid side st.x.1 → Gets_ p course
         open_then free (inl it) = gone it free
@@ -413,7 +357,7 @@ module _ (q : PairValue) (side : Side) (there : AreThere q) (wait reserve : ℕ)
         by_free : (1 ≤ free_in (socket_of after (other side))) ⊎ (taken_in p (other side) < taken_in after (other side)) → Gets_ p course
         by_free (inl free) = open_then free (starts_or_idles mid side st.x.1 st.starts st.has.0.0 here)
         by_free (inr e) =
-            inr (inl (inr (less (taken_in p (other side)) (taken_in after (other side)) (taken_in q (other side)) e (from_after (other side)).taken)))
+            inr (inl (inr (less (taken_in p (other side)) (taken_in after (other side)) (taken_in q (other side)) e (at_after.from (other side)).taken)))
 
   runs_sum : (now end : ℤ) (put : ℕ) → (now +ℤ pos (put + wait + (wait + 60_000_000 + wait + reserve))) <ℤ end →
       (((now +ℤ pos put) +ℤ pos wait) +ℤ pos (wait + 60_000_000 + wait + reserve)) <ℤ end
@@ -429,11 +373,11 @@ module _ (q : PairValue) (side : Side) (there : AreThere q) (wait reserve : ℕ)
       (h.in_time.taken, (behind_of wait now p course h.in_time.clocked h.in_time.asks, stands_first p course))
       (less_time ((now +ℤ pos (put_off_in p side)) +ℤ pos wait) (end_of now course) (wait + 60_000_000 + wait + reserve) over_all))
     where
-      h : State q side there wait reserve p now course
+      h : State q side there wait p now course
       h = o.state
 
       opened : (of : Side) → IsOpen (socket_of p of).block
-      opened of = open_at q side there wait reserve p now course of h
+      opened of = open_at q side there wait p now course of h
 
       over_all : (((now +ℤ pos (put_off_in p side)) +ℤ pos wait) +ℤ pos (wait + 60_000_000 + wait + reserve)) <ℤ end_of now course
       over_all = runs_sum now (end_of now course) (put_off_in p side) over
@@ -474,17 +418,17 @@ module _ (q : PairValue) (side : Side) (there : AreThere q) (wait reserve : ℕ)
 
   -- a user whose buffer is full is waited for
   read_gets :
-      (p : PairValue) (now : ℤ) (course : Course) (last : ℤ) → State q side there wait reserve p now course → now ≤ℤ last
+      (p : PairValue) (now : ℤ) (course : Course) (last : ℤ) → State q side there wait p now course → now ≤ℤ last
       → IsReadBy last (other side) course → (last +ℤ pos (open_time p)) <ℤ end_of now course → Gets_ p course
   read_gets p now [] last h before reads over = absurd (not_both last now before (less_time last now (open_time p) over))
   read_gets p now (x ∷ course) last h before reads over =
       by
-      (λ (state : State q side there wait reserve (takes p x.1) x.0 course) (more : IsReadBy last (other side) course).
+      (λ (state : State q side there wait (takes p x.1) x.0 course) (more : IsReadBy last (other side) course).
       read_gets (takes p x.1) x.0 course last state reads.0 more over_on)
       (nat_lt (acked_in p side) (acked_in (takes p x.1) side)) refl
     where
       first : (of : Side) → MovesIn p (takes p x.1) of
-      first of = moves q side there wait reserve p now x course h of
+      first of = moves q side there wait p now x course h of
 
       same_time : open_time (takes p x.1) ≡ open_time p
       same_time =
@@ -494,18 +438,18 @@ module _ (q : PairValue) (side : Side) (there : AreThere q) (wait reserve : ℕ)
       over_on = subst (λ (n : ℕ). (last +ℤ pos n) <ℤ end_of x.0 course) (sym same_time) over
 
       lifted : Gets_ (takes p x.1) course → Gets_ p (x ∷ course)
-      lifted gets = lift q side there wait reserve p now x course h gets
+      lifted gets = lift q side there wait p now x course h reserve gets
 
       Rest : Type 0
-      Rest = State q side there wait reserve (takes p x.1) x.0 course → IsReadBy last (other side) course → Gets_ (takes p x.1) course
+      Rest = State q side there wait (takes p x.1) x.0 course → IsReadBy last (other side) course → Gets_ (takes p x.1) course
 
-      read_now : State q side there wait reserve (takes p x.1) x.0 course → Reads (other side) x.1 → Gets_ (takes p x.1) course
+      read_now : State q side there wait (takes p x.1) x.0 course → Reads (other side) x.1 → Gets_ (takes p x.1) course
       read_now state reads_it =
           open_gets (takes p x.1) x.0 course
           (record { state = state; free = reads_free p x.1 (other side) reads_it h.in_time.room })
           (sooner x.0 last (end_of x.0 course) (open_time (takes p x.1)) reads.0 over_on)
 
-      on : Rest → State q side there wait reserve (takes p x.1) x.0 course → Reads (other side) x.1 ⊎ IsReadBy last (other side) course → Gets_ (takes p x.1) course
+      on : Rest → State q side there wait (takes p x.1) x.0 course → Reads (other side) x.1 ⊎ IsReadBy last (other side) course → Gets_ (takes p x.1) course
       on rest state (inl reads_it) = read_now state reads_it
       on rest state (inr more) = rest state more
 
@@ -517,12 +461,12 @@ module _ (q : PairValue) (side : Side) (there : AreThere q) (wait reserve : ℕ)
           inl
           (inl
           (less (acked_in p side) (acked_in (takes p x.1) side) (acked_in q side) (ltb-true (acked_in p side) (acked_in (takes p x.1) side) e)
-          (acked_to_end q side there wait reserve p now x course h)))
+          (acked_to_end q side there wait p now x course h)))
       by rest false e =
           lifted
           (on rest
-          (tail q side there wait reserve p now x course h
-          (still_owes q side there wait reserve p now x course h (ltb-false (acked_in p side) (acked_in (takes p x.1) side) e)))
+          (tail q side there wait p now x course h
+          (still_owes q side there wait p now x course h (ltb-false (acked_in p side) (acked_in (takes p x.1) side) e)))
           reads.1)
 
   whole_sum : (now end : ℤ) (read put : ℕ) → (now +ℤ pos (read + 60_000_000 + wait + wait + (put + wait + reserve))) <ℤ end →
@@ -530,7 +474,7 @@ module _ (q : PairValue) (side : Side) (there : AreThere q) (wait reserve : ℕ)
   whole_sum now end read put e = first_of (omega (arith, ints), grind (arith, ints))
 
   pub all_gets :
-      (p : PairValue) (now : ℤ) (course : Course) (read : ℕ) → State q side there wait reserve p now course
+      (p : PairValue) (now : ℤ) (course : Course) (read : ℕ) → State q side there wait p now course
       → ReadsWithin read now p (other side) course → (now +ℤ pos (read + 60_000_000 + wait + wait + (put_off_in p side + wait + reserve))) <ℤ end_of now course → Gets_ p course
   all_gets p now course read h reads over = by (nat_lt 0 (free_in (socket_of p (other side)))) refl where
     over_all : ((now +ℤ pos read) +ℤ pos (open_time p)) <ℤ end_of now course
@@ -543,7 +487,7 @@ module _ (q : PairValue) (side : Side) (there : AreThere q) (wait reserve : ℕ)
     some n e = omega arith
 
     shut :
-        (course : Course) → State q side there wait reserve p now course → ReadsWithin read now p (other side) course
+        (course : Course) → State q side there wait p now course → ReadsWithin read now p (other side) course
         → ((now +ℤ pos read) +ℤ pos (open_time p)) <ℤ end_of now course → free_in (socket_of p (other side)) ≡ 0 → Gets_ p course
     shut [] h reads over none = absurd (not_both (now +ℤ pos read) now (later now read) (less_time (now +ℤ pos read) now (open_time p) over))
     shut (x ∷ course) h reads over none =

@@ -1,5 +1,5 @@
 -- A side that owes something, in a course in which it is asked in time: what is left of the course with each event.
-use Rattle.std.proofs.Common.{◌≡◌, ◌⊎◌, inl, inr, ℕ, ◌+◌, ◌-◌, ◌<◌, ◌≤◌, ℤ, pos, ◌+ℤ◌, ◌≤ℤ◌, ◌<ℤ◌, [], ◌∷◌, ◌++◌, refl, sym, ap, ◌∙◌, subst, arith}
+use Rattle.std.proofs.Common.{◌≡◌, ◌⊎◌, inl, inr, ℕ, ◌+◌, ◌-◌, ◌≤◌, ℤ, pos, ◌+ℤ◌, ◌≤ℤ◌, ◌<ℤ◌, [], ◌∷◌, ◌++◌, refl, sym, ap, ◌∙◌, subst, arith}
 use Rattle.std.proofs.Common.{true, append_assoc}
 use Rattle.tcp_model.specs.Value.{free_in, room_of}
 use Rattle.tcp_tie.specs.Pair.Sides.{at, other}
@@ -10,19 +10,19 @@ use Rattle.tcp_tie.specs.declared.pair.event.Side.{Side}
 use Rattle.tcp_tie.specs.declared.pair.event.Side.TheVariants.{A, B}
 use Rattle.tcp_progress.specs.Arrivals.{is_synchronized}
 use Rattle.tcp_progress.specs.BothWays.{AreThere, total_in}
-use Rattle.tcp_progress.specs.Course.{AreTaken, AsksWithin, IsClocked, end_of, events_of}
+use Rattle.tcp_progress.specs.Course.{AreTaken, AsksWithin, GoesInTime, IsClocked, end_of, events_of}
 use Rattle.tcp_progress.specs.Exchange.{IsOpen}
 use Rattle.tcp_progress.specs.Onward.{HasRisen, acked_in}
 use Rattle.tcp_progress.specs.Pair.{left_in, socket_of}
 use Rattle.tcp_progress.specs.Reached.{IsReached}
 use Rattle.tcp_progress.specs.Rounds.{takes}
-use Rattle.tcp_progress.specs.Sent.{taken_in}
 use Rattle.tcp_progress.proofs.CourseGoes.{Goes}
-use Rattle.tcp_progress.proofs.CourseParts.{Course, after_all, clock_on, there_before}
+use Rattle.tcp_progress.proofs.CourseParts.{Course, after_all, clock_on, steps_first, steps_rest, there_before}
 use Rattle.tcp_progress.proofs.Kept.{reached_by}
-use Rattle.tcp_progress.proofs.LateText.{left_within, there_of}
+use Rattle.tcp_progress.proofs.LateText.{left_within, risen_since, there_of}
 use Rattle.tcp_progress.proofs.OnwardPairs.{IsBegun, MovesIn, begun_after, by_steps}
 use Rattle.tcp_progress.proofs.Opened.{is_open}
+use Rattle.tcp_progress.proofs.PutOffRuns.{begun_of}
 
 -- A PART OF A COURSE
 
@@ -47,6 +47,17 @@ stands_on p course m x rest s = record {
   is = s.is ∙ sym (append_assoc s.first (x ∷ []) rest);
 }
 
+-- the events that lead there, and those that follow
+pub steps_to : (p q m : PairValue) (course rest : Course) (s : Stands p course m rest) → Steps p (events_of course) q → Steps p (events_of s.first) m
+steps_to p q m course rest s steps =
+    subst (λ (m : PairValue). Steps p (events_of s.first) m) s.to
+    (steps_first p q s.first rest (subst (λ (c : Course). Steps p (events_of c) q) s.is steps))
+
+pub steps_from : (p q m : PairValue) (course rest : Course) → Stands p course m rest → Steps p (events_of course) q → Steps m (events_of rest) q
+steps_from p q m course rest s steps =
+    subst (λ (m : PairValue). Steps m (events_of rest) q) s.to
+    (steps_rest p q s.first rest (subst (λ (c : Course). Steps p (events_of c) q) s.is steps))
+
 -- what is asked of a course, but that segments come: the side is asked in time, and the other has a receive buffer
 pub record IsTimely (wait : ℕ) (now : ℤ) (p : PairValue) (side : Side) (course : Course) : Type 0 where
   pub clock : (at p.sides side).moment ≤ℤ now
@@ -55,7 +66,56 @@ pub record IsTimely (wait : ℕ) (now : ℤ) (p : PairValue) (side : Side) (cour
   pub taken : AreTaken course
   pub room : 1 ≤ room_of (socket_of p (other side)).received
 
-module _ (q : PairValue) (side : Side) (there : AreThere q) (wait reserve : ℕ) where
+-- a course in which segments come too
+pub timely : (wait delay : ℕ) (now : ℤ) (p : PairValue) (side : Side) (course : Course) → GoesInTime wait delay now p side course → IsTimely wait now p side course
+timely wait delay now p side course c = record { clock = c.clock; clocked = c.clocked; asks = c.asks; taken = c.taken; room = c.room }
+
+-- With one of the events a segment goes from SND.UNA on, while the other's window is open, and so much time is left.
+pub record Begins (side : Side) (reserve : ℕ) (p : PairValue) (course : Course) : Type 0 where
+  pub m : PairValue
+  pub x : ℤ × PairEvent
+  pub rest : Course
+  pub stands : Stands p course m (x ∷ rest)
+  pub goes : Goes m side x.1
+  pub free : 1 ≤ free_in (socket_of (takes m x.1) (other side))
+  pub over : (x.0 +ℤ pos reserve) <ℤ end_of x.0 rest
+
+-- SND.UNA or RCV.NXT rises, or a segment goes
+abbrev pub Gets : PairValue → Side → ℕ → PairValue → Course → Type 0
+Gets q side reserve p course = HasRisen p q side ⊎ (HasRisen p q (other side) ⊎ Begins side reserve p course)
+
+begins_behind :
+    (side : Side) (reserve : ℕ) (p m : PairValue) (course rest : Course) → Stands p course m rest → Begins side reserve m rest
+    → Begins side reserve p course
+begins_behind side reserve p m course rest s it = record {
+  m = it.m;
+  x = it.x;
+  rest = it.rest;
+  stands = record {
+    first = s.first ++ it.stands.first;
+    to = after_both p s.first it.stands.first ∙ (ap (λ (n : PairValue). after_all n it.stands.first) s.to ∙ it.stands.to);
+    is = s.is ∙ (ap (λ (c : Course). s.first ++ c) it.stands.is ∙ sym (append_assoc s.first it.stands.first (it.x ∷ it.rest)));
+  };
+  goes = it.goes;
+  free = it.free;
+  over = it.over;
+}
+  where
+    after_both : (p : PairValue) (a b : Course) → after_all p (a ++ b) ≡ after_all (after_all p a) b
+    after_both p [] b = refl
+    after_both p (x ∷ a) b = after_both (takes p x.1) a b
+
+-- what is so behind some events
+pub back :
+    (q : PairValue) (side : Side) (reserve : ℕ) (p m : PairValue) (course rest : Course) → Stands p course m rest → ((of : Side) → MovesIn p m of)
+    → Gets q side reserve m rest → Gets q side reserve p course
+back q side reserve p m course rest s to (inl risen) = inl (risen_since p m q side (to side) risen)
+back q side reserve p m course rest s to (inr (inl risen)) = inr (inl (risen_since p m q (other side) (to (other side)) risen))
+back q side reserve p m course rest s to (inr (inr it)) = inr (inr (begins_behind side reserve p m course rest s it))
+
+-- A SIDE IN A COURSE
+
+module _ (q : PairValue) (side : Side) (there : AreThere q) (wait : ℕ) where
   pub record State (p : PairValue) (now : ℤ) (course : Course) : Type 0 where
     pub reached : IsReached p
     pub a : IsBegun p A
@@ -63,58 +123,6 @@ module _ (q : PairValue) (side : Side) (there : AreThere q) (wait reserve : ℕ)
     pub steps : Steps p (events_of course) q
     pub owes : 1 ≤ left_in p side
     pub in_time : IsTimely wait now p side course
-
-  -- With one of the events a segment goes from SND.UNA on, while the other's window is open, and so much time is left.
-  pub record Begins (p : PairValue) (course : Course) : Type 0 where
-    pub m : PairValue
-    pub x : ℤ × PairEvent
-    pub rest : Course
-    pub stands : Stands p course m (x ∷ rest)
-    pub goes : Goes m side x.1
-    pub free : 1 ≤ free_in (socket_of (takes m x.1) (other side))
-    pub over : (x.0 +ℤ pos reserve) <ℤ end_of x.0 rest
-
-  -- SND.UNA or RCV.NXT rises, or a segment goes
-  abbrev pub Gets : PairValue → Course → Type 0
-  Gets p course = HasRisen p q side ⊎ (HasRisen p q (other side) ⊎ Begins p course)
-
-  begins_behind : (p m : PairValue) (course rest : Course) → Stands p course m rest → Begins m rest → Begins p course
-  begins_behind p m course rest s it = record {
-    m = it.m;
-    x = it.x;
-    rest = it.rest;
-    stands = record {
-      first = s.first ++ it.stands.first;
-      to = after_both p s.first it.stands.first ∙ (ap (λ (n : PairValue). after_all n it.stands.first) s.to ∙ it.stands.to);
-      is = s.is ∙ (ap (λ (c : Course). s.first ++ c) it.stands.is ∙ sym (append_assoc s.first it.stands.first (it.x ∷ it.rest)));
-    };
-    goes = it.goes;
-    free = it.free;
-    over = it.over;
-  }
-    where
-      after_both : (p : PairValue) (a b : Course) → after_all p (a ++ b) ≡ after_all (after_all p a) b
-      after_both p [] b = refl
-      after_both p (x ∷ a) b = after_both (takes p x.1) a b
-
-  lifts : (p m : PairValue) (of : Side) → MovesIn p m of → HasRisen m q of → HasRisen p q of
-  lifts p m of to (inl e) =
-      inl (more (total_in p of) (left_in p of) (total_in m of) (left_in m of) (acked_in q of) to.acked e) where
-        more : (a b c d e : ℕ) → a + d ≤ c + b → c - d < e → a - b < e
-        more a b c d e x y = omega arith
-  lifts p m of to (inr e) = inr (more (taken_in p of) (taken_in m of) (taken_in q of) to.taken e) where
-    more : (a b c : ℕ) → a ≤ b → b < c → a < c
-    more a b c x y = omega arith
-
-  -- what is so behind some events
-  pub back : (p m : PairValue) (course rest : Course) → Stands p course m rest → ((of : Side) → MovesIn p m of) → Gets m rest → Gets p course
-  back p m course rest s to (inl risen) = inl (lifts p m side (to side) risen)
-  back p m course rest s to (inr (inl risen)) = inr (inl (lifts p m (other side) (to (other side)) risen))
-  back p m course rest s to (inr (inr it)) = inr (inr (begins_behind p m course rest s it))
-
-  begun_of : (p : PairValue) (of : Side) → IsBegun p A → IsBegun p B → IsBegun p of
-  begun_of p A a b = a
-  begun_of p B a b = b
 
   pub open_at : (p : PairValue) (now : ℤ) (course : Course) (of : Side) → State p now course → IsOpen (socket_of p of).block
   open_at p now course of h =
@@ -147,8 +155,9 @@ module _ (q : PairValue) (side : Side) (there : AreThere q) (wait reserve : ℕ)
     mine : IsOpen (socket_of p side).block
     mine = open_at p now (x ∷ course) side h
 
-    pub lift : Gets m course → Gets p (x ∷ course)
-    lift gets = back p m (x ∷ course) course (stands_on p (x ∷ course) p x course (stands_first p (x ∷ course))) moves gets
+    pub lift : (reserve : ℕ) → Gets q side reserve m course → Gets q side reserve p (x ∷ course)
+    lift reserve gets =
+        back q side reserve p m (x ∷ course) course (stands_on p (x ∷ course) p x course (stands_first p (x ∷ course))) moves gets
 
     pub tail : 1 ≤ left_in m side → State m x.0 course
     tail owes = record {
