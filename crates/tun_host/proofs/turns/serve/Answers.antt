@@ -1,4 +1,4 @@
-use Rattle.std.proofs.Common.{◌≡◌, ℤ, List, ℕ, Option, Result, Err, IfSome, option_map, ap, sym, ◌∙◌, subst}
+use Rattle.std.proofs.Common.{arith, ◌≡◌, ℤ, List, ℕ, Option, Result, Err, IfSome, option_map, ap, sym, ◌∙◌, subst}
 use Rattle.std.specs.Io.KnownBytes.{Appends}
 use Rattle.std.proofs.lemmas.Result.{err_from_is_err_and}
 use Rattle.net_base.specs.Time.{IsMoment}
@@ -6,7 +6,7 @@ use Rattle.tun_host.specs.Link.Turn.{Next}
 use Rattle.tun_host.specs.Turns.{state_of, IsServed}
 use Rattle.tun_host.specs.declared.error.ServeError.{ServeError}
 use Rattle.tun_host.specs.declared.turns.TheConstants.{LONGEST}
-use Rattle.tun_host.proofs.Running.{ended, unread_at, refused_at, running_more}
+use Rattle.tun_host.proofs.Running.{counted_out, ended, unread_at, refused_at, running_more}
 use Rattle.tun_host.proofs.turns.serve.Goals as goal
 
 -- a turn that can't be read
@@ -66,3 +66,7 @@ loop-preserved g c =
           (state_of c.in_ok-current.current) (state_of c.answer_turn.new.self)
           c.loop.invariant.2 comes c.in_ok-current.ensures.arrives said.1 said.2,
     )
+
+-- as many turns as can be counted
+pub returns : goal.returns
+returns g c = record { served = λ not. counted_out _ _ _ _ _ _ _ c.loop.invariant.2 (omega (arith, c.loop-test.false, c.loop.auto.counter-end)) }
