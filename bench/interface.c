@@ -11,6 +11,7 @@
 uint32_t bench_idle(uint16_t sockets, uint32_t polls);
 uint32_t bench_trips(const uint8_t *payload, size_t len, uint8_t *out, size_t out_len, size_t mtu, uint32_t trips, bool polls);
 uint32_t bench_trips_at_once(const uint8_t *payload, size_t len, uint8_t *out, size_t out_len, size_t mtu, uint32_t trips);
+uint32_t bench_tables(const uint8_t *payload, size_t len, uint8_t *out, size_t out_len, uint8_t neighbors, uint8_t routes, uint32_t trips);
 uint64_t bench_stream(const uint8_t *text, size_t len, uint8_t *out, size_t out_len, size_t mtu, size_t room, uint64_t total, bool check,
                       bool calm, uint16_t idle, bool client);
 uint64_t bench_frames(const uint8_t *text, size_t len, uint8_t *out, size_t out_len, size_t mtu, size_t room, uint64_t total, bool calm, bool back);
@@ -60,6 +61,16 @@ static double trips(size_t len, size_t mtu, uint32_t count, enum way way) {
     if (came != count) fail("a datagram didn't come back");
     double took = now() - start;
     if (memcmp(out, text, len)) fail("other bytes came back");
+    return count / took;
+}
+
+// Round trips a second on Ethernet between hosts that know so many other neighbours and have so many other routes.
+static double tables(uint8_t neighbors, uint8_t routes, uint32_t count) {
+    memset(out, 0, 64);
+    double start = now();
+    if (bench_tables(text, 64, out, READ, neighbors, routes, count) != count) fail("a datagram didn't come back");
+    double took = now() - start;
+    if (memcmp(out, text, 64)) fail("other bytes came back");
     return count / took;
 }
 
@@ -158,6 +169,12 @@ static void show_trips(size_t len, size_t mtu, enum way way) {
     printf("%5zu bytes, MTU %5zu, %s: %9.0f round trips a second, %7.1f ns each\n", len, mtu, ways[way], best, 1e9 / best);
 }
 
+static void show_tables(uint8_t neighbors, uint8_t routes) {
+    double best = 0;
+    for (int r = 0; r < ROUNDS; r++) keep_best(&best, tables(neighbors, routes, 200000));
+    printf("   64 bytes on Ethernet, %3u other neighbours, %2u other routes: %9.0f round trips a second, %7.1f ns each\n", neighbors, routes, best, 1e9 / best);
+}
+
 static void show_stream(size_t mtu, size_t room, bool calm) {
     double best = 0;
     stream(mtu, room, 16 * MIB, true, calm, 0);
@@ -219,13 +236,15 @@ static void one(char **word, int count) {
         printf("%.0f\n", trips(n[0], n[1], (uint32_t)n[2], AT_ONCE));
     } else if (count == 5 && !strcmp(word[0], "limit") && n[0] >= 16 && n[0] <= READ && n[1] >= n[0] && n[1] <= BUFFER && (n[2] == 3 || n[2] == 4)) {
         printf("%.1f\n", limit(n[0], n[1], n[2], n[3] * MIB) / 1e6);
+    } else if (count == 4 && !strcmp(word[0], "tables") && n[0] < 253 && n[1] < 255) {
+        printf("%.0f\n", tables((uint8_t)n[0], (uint8_t)n[1], (uint32_t)n[2]));
     } else if (count == 3 && !strcmp(word[0], "idle")) {
         printf("%.1f\n", idle((uint16_t)n[0], (uint32_t)n[1]));
     } else if (count == 1 && !strcmp(word[0], "allocations")) {
         show_allocations();
     } else {
         fail("interface [stream MTU ROOM MIB | calm MTU ROOM MIB | acks MTU ROOM MIB | calm_acks MTU ROOM MIB | among SOCKETS MIB"
-             " | behind SOCKETS MIB | trips LENGTH MTU COUNT | polled LENGTH MTU COUNT | at_once LENGTH MTU COUNT | idle SOCKETS POLLS | limit LENGTH ROOM COPIES MIB | allocations]");
+             " | behind SOCKETS MIB | trips LENGTH MTU COUNT | polled LENGTH MTU COUNT | at_once LENGTH MTU COUNT | tables NEIGHBORS ROUTES COUNT | idle SOCKETS POLLS | limit LENGTH ROOM COPIES MIB | allocations]");
     }
 }
 
@@ -244,6 +263,8 @@ int main(int argc, char **argv) {
     show_trips(64, 1500, AT_ONCE);
     show_trips(1472, 1500, STEPS);
     show_trips(1472, 1500, AT_ONCE);
+    static const uint8_t tables_of[][2] = {{0, 0}, {3, 0}, {63, 0}, {252, 0}, {0, 3}, {0, 15}, {0, 63}};
+    for (size_t i = 0; i < 7; i++) show_tables(tables_of[i][0], tables_of[i][1]);
     puts("TCP, one way");
     show_stream(1500, 65536, false);
     show_stream(1500, 65536, true);

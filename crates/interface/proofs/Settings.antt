@@ -67,6 +67,19 @@ keeps_in i i' same =
       any_ip = i.any_ip;
       routes =
           i.routes;
+      route_room = x;
+    }) same.route_room
+    ∙ ap (λ x. record i' {
+      moment = i.moment;
+      hardware = i.hardware;
+      mtu = i.mtu;
+      checksums = i.checksums;
+      isn_key = i.isn_key;
+      addresses = i.addresses;
+      any_ip = i.any_ip;
+      routes =
+          i.routes;
+      route_room = i.route_room;
       fresh = x;
     }) same.fresh
 

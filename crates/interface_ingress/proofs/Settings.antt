@@ -37,6 +37,7 @@ same_itself i = record {
   isn_key = refl;
   any_ip = refl;
   routes = refl;
+  route_room = refl;
   silent = refl;
   ident =
       refl;
@@ -53,6 +54,7 @@ same_then i j k first second = record {
   isn_key = second.isn_key ∙ first.isn_key;
   any_ip = second.any_ip ∙ first.any_ip;
   routes = second.routes ∙ first.routes;
+  route_room = second.route_room ∙ first.route_room;
   silent = second.silent ∙ first.silent;
   ident = second.ident ∙ first.ident;
   fresh = second.fresh ∙ first.fresh;
@@ -73,6 +75,7 @@ same_renewed_by i (Some link) sender =
       isn_key = refl;
       any_ip = refl;
       routes = refl;
+      route_room = refl;
       silent = refl;
       ident =
           refl;
@@ -96,6 +99,7 @@ same_drawn true i = record {
   isn_key = refl;
   any_ip = refl;
   routes = refl;
+  route_room = refl;
   silent =
       refl;
   ident = refl;
@@ -123,6 +127,7 @@ same_heard i header message =
       isn_key = refl;
       any_ip = refl;
       routes = refl;
+      route_room = refl;
       silent = refl;
       ident =
           refl;
@@ -139,6 +144,7 @@ same_told i address told = record {
   isn_key = refl;
   any_ip = refl;
   routes = refl;
+  route_room = refl;
   silent =
       refl;
   ident = refl;
@@ -187,6 +193,7 @@ same_error i = record {
   isn_key = refl;
   any_ip = refl;
   routes = refl;
+  route_room = refl;
   silent =
       refl;
   ident = refl;
@@ -229,6 +236,7 @@ same_learned i (Arps.EthernetIpv4 operation source_hardware source target_hardwa
       isn_key = refl;
       any_ip = refl;
       routes = refl;
+      route_room = refl;
       silent = refl;
       ident =
           refl;

@@ -84,6 +84,7 @@ pub record HasSameSettings (i i' : InnerValue) : Type 0 where
   pub isn_key : i'.isn_key ≡ i.isn_key
   pub any_ip : i'.any_ip ≡ i.any_ip
   pub routes : i'.routes ≡ i.routes
+  pub route_room : i'.route_room ≡ i.route_room
   pub silent : i'.neighbors.silent ≡ i.neighbors.silent
   pub ident : i'.ident ≡ i.ident
   pub fresh : i'.fresh ≡ i.fresh

@@ -1,5 +1,5 @@
 -- Where each link gives leave behind each poll, what the sockets offer in the moves of events goes.
-use Rattle.std.proofs.Common.{◌≡◌, ℕ, ℤ, true, List, [], ◌∷◌, ◌++◌, refl, sym, ap, ◌∙◌, subst}
+use Rattle.std.proofs.Common.{◌≡◌, ℕ, ℤ, List, [], ◌∷◌, ◌++◌, refl, sym, ap, ◌∙◌, subst}
 use Rattle.std.specs.List.{AllByRecursion}
 use Rattle.lan_base.specs.DeviceCapabilities.{DeviceCapabilities}
 use Rattle.lan.specs.declared.at_link.history.event.Side.{Side}
@@ -16,13 +16,13 @@ use Rattle.lan.specs.Worlds.AtLink.Moves.Move.{Invokes, Passes, Offers, Gives, T
 use Rattle.lan.specs.Worlds.AtLink.Origins.{medium_of}
 use Rattle.lan.specs.Worlds.AtLink.Paired.{Seat}
 use Rattle.lan.specs.Worlds.AtLink.Parties.{Net}
-use Rattle.lan.specs.Worlds.AtLink.Runs.{Leads, Starts, start, unused_both}
-use Rattle.lan.specs.Worlds.AtLink.Station.{StationValue, Stations, station}
+use Rattle.lan.specs.Worlds.AtLink.Runs.{Starts, start, unused_both}
+use Rattle.lan.specs.Worlds.AtLink.Station.{Stations, station}
 use Rattle.lan.specs.Worlds.Still.{StillRun}
 use Rattle.lan.proofs.Worlds.AtLink.Growing.{happens_stays}
 use Rattle.lan_base.specs.Medium.TheVariants as Medium
 use Rattle.stack_laws.proofs.EventMoves.{untimed_append}
-use Rattle.stack_laws.specs.Progress.Events.{AreOfEvent, AreSentOff, IsOfCall, IsSentOff, MoveBy, all_at, clock_in, shown_in, untimed}
+use Rattle.stack_laws.specs.Progress.Events.{AreOfEvent, AreSentOff, IsOfCall, IsSentOff, MoveBy, clock_in, shown_in, untimed}
 use Rattle.stack_laws.specs.Progress.Moving.{AreLetGo, IsLetGo}
 use Rattle.stack_laws.specs.Progress.OneClock.{timed}
 use Rattle.stack_laws.specs.Progress.Serving.{GiveLeave, GivesLeave}

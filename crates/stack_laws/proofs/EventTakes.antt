@@ -89,7 +89,6 @@ abbrev pub IsForPlaceThroughout : Side → ℕ → IpRepr → TcpHeader → Net 
 IsForPlaceThroughout side place ip header net steps =
     (before behind : List Step) → steps ≡ before ++ behind → IsForPlace (party (run net before) side) place ip header
 
-
 module _ (ip : IpRepr) (header : TcpHeader) where
   abbrev Ours : SocketStorage Socket → Bool
   Ours = passes (Has ip header)

@@ -1,5 +1,5 @@
 -- What a TCP socket offers is no longer than the longest IP packet that it is shown.
-use Rattle.std.proofs.Common.{◌≡◌, ℕ, ◌+◌, ◌-◌, ◌==◌, ◌&&◌, ◌||◌, not, ◌≤◌, min, ℤ, Bool, true, false, if◌then◌else◌, length, Option, Some, None, is_some, refl, sym, ap}
+use Rattle.std.proofs.Common.{◌≡◌, ℕ, ◌+◌, ◌-◌, ◌&&◌, ◌||◌, not, ◌≤◌, min, ℤ, Bool, true, false, if◌then◌else◌, length, Option, Some, None, is_some, refl, sym, ap}
 use Rattle.std.proofs.Common.{subst, arith}
 use Rattle.std.specs.Prelude.{IfSome}
 use Rattle.interface_egress.specs.Plan.{total_len}
@@ -19,10 +19,9 @@ use Rattle.tcp_control.specs.declared.offer.OpenOffer.{OpenOffer}
 use Rattle.sockets.specs.Context.{ContextValue}
 use Rattle.tcp_model.specs.BaseOffers.{Offered}
 use Rattle.tcp_model.specs.Blocks.{own_scale}
-use Rattle.tcp_model.specs.LossRecovery.{again_place, hole_len, loss_probed}
+use Rattle.tcp_model.specs.LossRecovery.{loss_probed}
 use Rattle.tcp_model.specs.Offers.{number_at, offer_ack, offer_choice, offer_of, offer_reset, offer_segment, offer_syn}
-use Rattle.tcp_model.specs.Rules.{Choice, backed_off_now, control_for, next_place, probe_choice, resend_choice, sent_places, size_limit, stamp_len, text_choice}
-use Rattle.tcp_model.specs.Rules.{window_limit}
+use Rattle.tcp_model.specs.Rules.{Choice, backed_off_now, control_for, next_place, probe_choice, resend_choice, size_limit, stamp_len, text_choice}
 use Rattle.tcp_model.specs.Segments.{ack_segment, hops_of, keep_alive_segment, reset_segment, segment, stamp_by, syn_segment}
 use Rattle.tcp_model.specs.Timestamps.{generator_of, uses_stamps}
 use Rattle.tcp_model.specs.Value.{TcpValue, free_in, queued_in, room_of, unoffered, window_of, with_block}

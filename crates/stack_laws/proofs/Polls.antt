@@ -40,6 +40,7 @@ pub mod Stays
 pub mod Connected
 pub mod SegmentSteps
 pub mod SegmentPolls
+pub mod SegmentSizes
 pub mod Rooms
 pub mod Lengths
 pub mod OneMore

@@ -10,8 +10,7 @@ use Rattle.ip_wire.specs.IpRepr.{IpRepr}
 use Rattle.ip_wire.specs.IpRepr.TheVariants as Ip
 use Rattle.ip_wire.specs.Ip.{destination_of, source_of}
 use Rattle.interface.specs.Turn.{with_source}
-use Rattle.interface_egress.specs.Plan.{comes_from_here, long_plan, plan_by, plan_of, plan_to, stays, total_len}
-use Rattle.interface_egress.specs.declared.plan.Plan.{Plan}
+use Rattle.interface_egress.specs.Plan.{comes_from_here, long_plan, plan_by, plan_of, stays, total_len}
 use Rattle.interface_egress.specs.declared.plan.Plan.TheVariants as Way
 use Rattle.interface_tables.specs.Inner.{InnerValue, link_address, link_on, may_come_from, mtu_to}
 use Rattle.interface_tables.specs.PathMtu.{mtu_towards}
@@ -28,7 +27,6 @@ use Rattle.lan.specs.Worlds.Link.Frames.{medium_on}
 use Rattle.lan.specs.declared.at_link.history.event.Side.{Side}
 use Rattle.lan.proofs.Worlds.Moves.Held.{AreHeld, IsHeld, whole_path}
 use Rattle.lan.proofs.Worlds.Moves.Leave.{AreLet, IsHindered, IsHindrance, IsLet, leaving_by}
-use Rattle.lan_base.specs.Medium.{Medium}
 use Rattle.lan_base.specs.Medium.TheVariants as Media
 use Rattle.sockets.specs.Context.{ContextValue}
 use Rattle.tcp_control.specs.declared.offer.OpenOffer.{OpenOffer}

@@ -1,5 +1,5 @@
 -- What each move of a device keeps of it is kept by each step of a poll.
-use Rattle.std.proofs.Common.{◌≡◌, ℕ, zero, suc, ℤ, Bool, inl, inr, List, [], ◌∷◌, ◌++◌, refl, ap, subst}
+use Rattle.std.proofs.Common.{ℕ, zero, suc, ℤ, Bool, inl, inr, List, [], ◌∷◌, ◌++◌, refl, ap, subst}
 use Rattle.net_base.specs.Device.{Move}
 use Rattle.interface.proofs.Keep.{polls_keep}
 use Rattle.interface.proofs.Kept.{IsKept}

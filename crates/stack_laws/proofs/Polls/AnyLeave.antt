@@ -1,5 +1,5 @@
 -- The turn of a socket of any kind that offers a packet which may leave.
-use Rattle.std.proofs.Common.{◌≡◌, Bool, true, false, not, ◌||◌, Option, Some, refl, sym}
+use Rattle.std.proofs.Common.{◌≡◌, Bool, true, false, not, ◌||◌, Option, Some, refl}
 use Rattle.std.proofs.Common.{None, ap, ◌∙◌, subst}
 use Rattle.std.proofs.lemmas.Bool.{or_parts, or_right}
 use Rattle.net_base.specs.Device.{Move}

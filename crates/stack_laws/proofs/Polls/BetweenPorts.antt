@@ -112,8 +112,8 @@ pub segment_between : (t u : ℤ) (budget count steps : ℕ) (s s' r r' : State 
     → BringsWhatWent s.device s'.device r.device count → count ≤ steps → CanRead (at_moment t s.host.inner) to (reader_of r.host.inner)
     → IsAwaitedThroughout (at_moment u r.host.inner) r.places to ip header m meta w → Polls PortMove u steps r changed' r' → IsTrue (leave r'.device)
     → HasConnection r'.places m → ComesAmong PortMove u r r' ip header bytes m w
-segment_between t u budget count steps s s' r r' changed changed' n m meta v w ip header bytes to wide turn offers can none polls same_count given brings within reads is
-    polled leaves ends =
+segment_between t u budget count steps s s' r r' changed changed' n m meta v w ip header bytes to wide turn offers can none polls same_count given brings
+    within reads is polled leaves ends =
     arrives_in_a_poll PortMove PortMove leave waiting t u budget count steps s s' r r' changed changed' n m meta v w ip header bytes to ports leaves wide turn offers
     can (ports_are_bare t s.device none) polls (refuse_nothing s.device s'.device same_count given)
     (brought (at_moment t s.host.inner) to (packet_of ip (Segment header bytes)) s.device s'.device r.device count brings) within reads is polled ends

@@ -1,36 +1,30 @@
 -- A socket with its connection, and those before it, as the frames of a poll are read: its segments stay for it.
-use Rattle.std.proofs.Common.{◌≡◌, ℕ, zero, suc, ◌<◌, ◌==◌, ◌&&◌, Bool, true, false, if◌then◌else◌, not, ◌⊎◌, inl, inr, ℤ, List, [], ◌∷◌, length, get_or, Option, Some, None}
+use Rattle.std.proofs.Common.{◌≡◌, ℕ, ◌<◌, ◌&&◌, Bool, true, false, if◌then◌else◌, not, ◌⊎◌, inl, inr, ℤ, List, [], ◌∷◌, get_or, Option, Some, None}
 use Rattle.std.proofs.Common.{refl, sym, ap, ◌∙◌, subst, arith}
-use Rattle.std.specs.Prelude.{slice_get, slice_set}
-use Rattle.std.proofs.lemmas.Bool.{and_parts, cond_both}
+use Rattle.std.proofs.lemmas.Bool.{cond_both}
 use Rattle.std.proofs.lemmas.List.Quantifiers.{position-Some}
-use Rattle.std.proofs.lemmas.Option.{get_or_from_slice_get}
 use Rattle.net_base.specs.ChecksumCapabilities.{ChecksumCapabilities}
 use Rattle.net_base.specs.Device.{Move}
 use Rattle.interface_ingress.specs.Icmpv4Header.{Icmpv4Header}
 use Rattle.interface_ingress.specs.Icmpv6.{MessageValue}
-use Rattle.ip_packet.specs.Ip.{destination_of, source_of}
 use Rattle.ip_packet.specs.declared.ip.repr.IpRepr.{IpRepr}
 use Rattle.ip_packet.specs.declared.ipv4.repr.Ipv4Repr.{Ipv4Repr}
 use Rattle.ip_packet.specs.declared.ipv6.repr.Ipv6Repr.{Ipv6Repr}
 use Rattle.ip_packet.specs.declared.udp.repr.UdpRepr.{UdpRepr}
 use Rattle.ip_wire.specs.TcpHeader.{TcpHeader}
-use Rattle.sockets.specs.Socket.{accepts_segment}
 use Rattle.tcp_control.specs.Endpoints.{is_between, is_connected_by, pair_in}
-use Rattle.tcp_control.specs.States.{is_answering, is_closed, is_listening}
+use Rattle.tcp_control.specs.States.{is_closed, is_listening}
 use Rattle.tcp_control.specs.declared.endpoints.EndpointPair.{EndpointPair}
 use Rattle.tcp_control.specs.declared.state.State.{State as TcpState}
 use Rattle.tcp_control.specs.declared.state.State.TheVariants as In
 use Rattle.tcp_model.specs.Arrival.{arrives, arrives_in, is_void_syn}
-use Rattle.tcp_model.specs.Answers.{drawn}
 use Rattle.tcp_model.specs.Names.{accepts, accepts_in}
 use Rattle.tcp_model.specs.Offers.{offer_of}
 use Rattle.tcp_model.specs.Opening.{is_first_syn, opens}
 use Rattle.tcp_model.specs.Settled.{settled}
 use Rattle.tcp_model.specs.Value.{Arrived as TcpArrived, TcpValue, dropped, unoffered}
 use Rattle.tcp_model.specs.declared.block.Block.{Block}
-use Rattle.tcp_tie.specs.Endpoints.{CameBetween, IsLeftBy, IsRenamed}
-use Rattle.tcp_tie.specs.Run as two
+use Rattle.tcp_tie.specs.Endpoints.{IsLeftBy, IsRenamed}
 use Rattle.tcp_tie.specs.Run.Event.{Offers}
 use Rattle.tcp_tie.proofs.NameLaws.{arrival_names, sent_names, withheld_names}
 use Rattle.tcp_progress.specs.Arrivals.{is_synchronized}
@@ -39,7 +33,7 @@ use Rattle.tcp_progress.proofs.Calm.{arrival_calm, offer_calm, refused_calm}
 use Rattle.tcp_progress.proofs.Comes.{closed_stays, early_answering}
 use Rattle.interface_ingress.specs.Context.{ContextValue}
 use Rattle.interface_ingress.specs.Datagrams.{TakesDatagram}
-use Rattle.interface_ingress.specs.Delivered.{Places, first_place, is_connected, is_listener, passes, passes_in, with_icmpv4, with_icmpv6, with_packet}
+use Rattle.interface_ingress.specs.Delivered.{Places, first_place, is_connected, passes, passes_in, with_icmpv4, with_icmpv6, with_packet}
 use Rattle.interface_ingress.specs.Delivered.{with_segment}
 use Rattle.interface_ingress.specs.Socket.{Socket}
 use Rattle.interface_ingress.specs.Socket.TheVariants as Kind
@@ -47,7 +41,6 @@ use Rattle.interface_ingress.specs.Carried.{IsSegment}
 use Rattle.interface_ingress.specs.Upper.{upper_header, upper_payload}
 use Rattle.interface_egress.specs.Set.{free}
 use Rattle.interface_egress.specs.declared.socket_set.Item.{Item}
-use Rattle.interface_egress.specs.declared.socket_set.SocketStorage.{SocketStorage}
 use Rattle.interface.specs.State.{State}
 use Rattle.stack_laws.specs.PeerHost.Beside.{Event}
 use Rattle.stack_laws.specs.PeerHost.Beside.Event.{Comes, Connects, Does, Listens, Sends}

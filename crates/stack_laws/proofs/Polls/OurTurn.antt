@@ -1,5 +1,5 @@
 -- The turn of a socket that offers a packet which can go.
-use Rattle.std.proofs.Common.{◌≡◌, ℕ, Bool, true, false, ◌⊎◌, inl, inr, List, [], ◌∷◌, Option, Some, None, is_some, refl, sym}
+use Rattle.std.proofs.Common.{◌≡◌, Bool, true, false, ◌⊎◌, inl, inr, List, [], ◌∷◌, Option, Some, None, is_some, refl, sym}
 use Rattle.std.proofs.Common.{ap, subst}
 use Rattle.std.specs.List.{list_any}
 use Rattle.net_base.specs.Device.{Move, Allowed, Emitted, Denied}

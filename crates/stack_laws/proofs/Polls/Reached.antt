@@ -243,7 +243,6 @@ hands_over {D} moves t s s' frame link ip payload x carries only content whole l
 
 -- A DATAGRAM
 
-
 module _ (i : InnerValue) (places : Places) (link : Option EthernetRepr) (ip : IpRepr) (payload : List ℕ) (udp : UdpRepr) (bytes : List ℕ) (m : ℕ) (meta : Meta)
     (w : UdpValue) (is : IsFor i places link ip payload udp bytes m meta w) where
   abbrev queued : SocketStorage Socket

@@ -1,6 +1,6 @@
 -- A poll that comes to a frame which waits among others, and in which a segment comes to the socket of its connection.
-use Rattle.std.proofs.Common.{◌≡◌, ℕ, zero, suc, ◌<◌, ◌≤◌, ◌&&◌, Bool, true, false, not, ◌⊎◌, inl, inr, ℤ, List, [], ◌∷◌, ◌++◌, length, get_or, Option, Some, None, IsTrue}
-use Rattle.std.proofs.Common.{refl, sym, ap, ◌∙◌, subst, arith}
+use Rattle.std.proofs.Common.{◌≡◌, ℕ, zero, suc, ◌+◌, ◌<◌, ◌≤◌, ◌&&◌, Bool, true, false, not, ◌⊎◌, inl, inr, ℤ, List, [], ◌∷◌, ◌++◌, length, get_or, Option, Some}
+use Rattle.std.proofs.Common.{None, IsTrue, refl, sym, ap, ◌∙◌, subst, arith}
 use Rattle.std.specs.List.{list_any}
 use Rattle.std.proofs.lemmas.List.Quantifiers.{position-Some}
 use Rattle.std.proofs.lemmas.Option.{get_or_from_slice_get}
@@ -15,7 +15,7 @@ use Rattle.tcp_model.specs.Arrival.{arrives}
 use Rattle.tcp_model.specs.Value.{TcpValue}
 use Rattle.tcp_progress.specs.Sent.{is_early}
 use Rattle.interface_ingress.specs.Delivered.{Places, first_place, is_listener, passes, passes_in}
-use Rattle.interface_ingress.specs.Packet.{PacketValue, Segment, packet_of}
+use Rattle.interface_ingress.specs.Packet.{Segment, packet_of}
 use Rattle.interface_ingress.specs.Socket.{Socket}
 use Rattle.interface_ingress.specs.Socket.TheVariants as Kind
 use Rattle.interface_ingress.specs.WellFormed.{IsWellFormed}
@@ -41,8 +41,8 @@ use Rattle.stack_laws.specs.Progress.Inbox.{BringsAmong, WaitsAmong}
 use Rattle.stack_laws.specs.Progress.Leave.{IsInboxWhile, LiesAmong}
 use Rattle.stack_laws.specs.Progress.Moves.{is_refused}
 use Rattle.stack_laws.specs.Progress.Queued.{GoesInTurn, WentOut, frame_under, with_ident}
-use Rattle.stack_laws.specs.Progress.Segments.{CanLeave, ComesAmong, HasComeTo, HasConnection, IsAwaited, IsAwaitedThroughout, IsItsTurn, OffersSegment}
-use Rattle.stack_laws.specs.Progress.Segments.{asked_by, tcp_place}
+use Rattle.stack_laws.specs.Progress.Segments.{CanLeave, ComesAmong, HasComeTo, HasConnection, HasRead, IsAwaited, IsAwaitedAt, IsAwaitedThroughout}
+use Rattle.stack_laws.specs.Progress.Segments.{IsAwaitedWhenNext, IsItsTurn, OffersSegment, asked_by, tcp_place}
 use Rattle.stack_laws.proofs.Peers.Place.{Found, HoldsAt, found_holds, holds_found}
 use Rattle.stack_laws.proofs.Peers.Taken.{kept}
 use Rattle.stack_laws.proofs.Peers.Tcp.{LedTo, led_law}
@@ -98,9 +98,6 @@ at_place_is places m v here =
 
 same_here : (places : Places) (m : ℕ) (a b : TcpValue) → HoldsAt (λ x. x ≡ Kind.Tcp a) places m → IsTcpAt places m b → a ≡ b
 same_here places m a b here there = same_socket a b (sym (at_place_is places m a here) ∙ there)
-
-same_here' : (places : Places) (m : ℕ) (a b : TcpValue) → HoldsAt (λ x. x ≡ Kind.Tcp a) places m → HoldsAt (λ x. x ≡ Kind.Tcp b) places m → a ≡ b
-same_here' places m a b here there = same_here places m a b here (at_place_is places m b there)
 
 reaches_itself : {E : Type 0} (moves : E → Move → E → Type 0) (u : ℤ) (s : State E) → Reaches moves u s s
 reaches_itself moves u s = record { count = zero; steps = refl }
@@ -195,16 +192,20 @@ module _ (i : InnerValue) (places : Places) (to : HardwareAddress) (ip : IpRepr)
 -- THE SEGMENT COMES
 
 module _ {E : Type 0} (moves : E → Move → E → Type 0) (gives_leave : E → Bool) (frames_at : E → List (List ℕ))
-    (inbox : IsInboxWhile moves gives_leave frames_at) (u : ℤ) (steps : ℕ)
-    (r r' : State E) (changed : Bool) (m : ℕ) (meta : Meta) (w : TcpValue) (polls : Polls moves u steps r changed r')
-    (leave : IsTrue (gives_leave r'.device)) (ends : HasConnection r'.places m) (i : InnerValue) (v : TcpValue) (ip : IpRepr) (header : TcpHeader) (bytes : List ℕ) (offers : OffersSegment i v ip header bytes) (to : HardwareAddress)
-    (can : CanLeave i to (packet_of ip (Segment header bytes))) (formed : IsWellFormed (packet_of ip (Segment header bytes)))
-    (reads : CanRead i to (reader_of r.host.inner)) (is : IsAwaitedThroughout (at_moment u r.host.inner) r.places to ip header m meta w) where
-  abbrev p : PacketValue
-  p = packet_of ip (Segment header bytes)
-
+    (inbox : IsInboxWhile moves gives_leave frames_at) (u : ℤ) (steps : ℕ) (r r' : State E) (changed : Bool) (m : ℕ) (w : TcpValue)
+    (is_tcp : IsTcpAt r.places m w) (polls : Polls moves u steps r changed r') (leave : IsTrue (gives_leave r'.device)) where
   order : IsInOrder moves frames_at
   order = record { first = inbox.first; out = inbox.out }
+
+  begins : Led moves u r w m (begun u r) × RunsAt u (begun u r).host.inner
+  begins = (
+    (led_kept moves u r w m).maintenance r
+        (led_here moves u r w m r (reaches_itself moves u r) (found_holds (λ x. x ≡ Kind.Tcp w) r.places m (Kind.Tcp w) is_tcp refl)),
+    (refl, refl),
+  )
+
+  runs_mid : RunsAt u polls.0.host.inner
+  runs_mid = (ins moves u (Led moves u r w m) (led_kept moves u r w m) steps (begun u r) polls.0 false polls.1 begins polls.2).1
 
   -- no move gives leave, so there is leave where the way out begins
   denied : (old new : E) (move : Move) → moves old move new → gives_leave old ≡ false → gives_leave new ≡ false
@@ -212,16 +213,6 @@ module _ {E : Type 0} (moves : E → Move → E → Type 0) (gives_leave : E →
     by : (given : Bool) → gives_leave new ≡ given → given ≡ false
     by false is = refl
     by true is = clash (sym (inbox.had old new move goes is) ∙ none)
-
-  begins : Led moves u r w m (begun u r) × RunsAt u (begun u r).host.inner
-  begins = (
-    (led_kept moves u r w m).maintenance r
-    (led_here moves u r w m r (reaches_itself moves u r) (here_first (at_moment u r.host.inner) r.places to ip header m meta w is)),
-    (refl, refl),
-  )
-
-  runs_mid : RunsAt u polls.0.host.inner
-  runs_mid = (ins moves u (Led moves u r w m) (led_kept moves u r w m) steps (begun u r) polls.0 false polls.1 begins polls.2).1
 
   leave_mid : gives_leave polls.0.device ≡ true
   leave_mid = by (gives_leave polls.0.device) refl where
@@ -236,8 +227,8 @@ module _ {E : Type 0} (moves : E → Move → E → Type 0) (gives_leave : E →
   goes_on s frame more waiting step =
       inbox.found s.device polls.0.device u frame more (inbox.had s.device polls.0.device (Empty u) step.0 leave_mid) waiting step.0
 
-  -- a socket behind the poll that is led on from where the frame was read
-  module _ (x x' : State E) (left : ℕ) (c c' : Bool) (rest : Repeats (IngressStep moves u) left x' c polls.0 c') (runs : RunsAt u x'.host.inner)
+  -- a socket behind the poll that is led on from where a frame was read
+  module _ (x' : State E) (left : ℕ) (c c' : Bool) (rest : Repeats (IngressStep moves u) left x' c polls.0 c') (runs : RunsAt u x'.host.inner)
       (from : State E) (new : TcpValue) (led : Led moves u from new m x') where
     to_end : IsLed moves u from new m r'
     to_end =
@@ -245,110 +236,166 @@ module _ {E : Type 0} (moves : E → Move → E → Type 0) (gives_leave : E →
         (outs moves u (Led moves u from new m) (led_kept moves u from new m) steps polls.0 r' polls.1 changed
         (ins moves u (Led moves u from new m) (led_kept moves u from new m) left x' polls.0 c c' (led, runs) rest) polls.3).0
 
-  module _ (ident : ℕ) (wide : HasWidths (with_ident i ident)) (padding : List ℕ) (before behind : List (List ℕ))
-      (short : is_read (frame_under i ident to p ++ padding) ≡ true)
-      (wait : Waits frames_at r.device (before ++ (frame_under i ident to p ++ padding) ∷ behind)) (few : length before < steps) where
+  module _ (i : InnerValue) (v : TcpValue) (ip : IpRepr) (header : TcpHeader) (bytes : List ℕ) (offers : OffersSegment i v ip header bytes)
+      (to : HardwareAddress) (can : CanLeave i to (packet_of ip (Segment header bytes))) (formed : IsWellFormed (packet_of ip (Segment header bytes)))
+      (ident : ℕ) (wide : HasWidths (with_ident i ident)) (padding : List ℕ) (before behind : List (List ℕ))
+      (short : is_read (frame_under i ident to (packet_of ip (Segment header bytes)) ++ padding) ≡ true)
+      (wait : Waits frames_at r.device (before ++ (frame_under i ident to (packet_of ip (Segment header bytes)) ++ padding) ∷ behind))
+      (few : length before < steps) where
     abbrev frame : List ℕ
-    frame = frame_under i ident to p ++ padding
+    frame = frame_under i ident to (packet_of ip (Segment header bytes)) ++ padding
 
-    abbrev Kept : List (List ℕ) → State E → Type 0
-    Kept waits s = Holds m ip header s
+    -- What holds of a state and of the frames that wait before this one is kept as one of them is read.
+    module _ (Kept : List (List ℕ) → State E → Type 0)
+        (keeps : (f : List ℕ) (front : List (List ℕ)) (s s' : State E) (b : Bool) → Kept (f ∷ front) s → IngressStep moves u s (Some b) s' → Kept front s') where
+      keeps_so : (f : List ℕ) (front more : List (List ℕ)) (s s' : State E) (b : Bool) → Waits frames_at s.device (f ∷ more) → Kept (f ∷ front) s
+          → IngressStep moves u s (Some b) s' → Kept front s'
+      keeps_so f front more s s' b waits holds step = keeps f front s s' b holds step
 
-    keeps : (f : List ℕ) (front more : List (List ℕ)) (s s' : State E) (b : Bool) → Waits frames_at s.device (f ∷ more) → Kept (f ∷ front) s
-        → IngressStep moves u s (Some b) s' → Kept front s'
-    keeps f front more s s' b waits holds step = step_holds moves u m ip header s s' (Some b) holds step
+      abbrev Coming : Type 0
+      Coming = Comes moves frames_at order u (Led moves u r w m) (led_kept moves u r w m) Kept keeps_so frame behind polls.0
 
-    coming : Comes moves frames_at order u (Led moves u r w m) (led_kept moves u r w m) Kept keeps frame behind polls.0
-    coming =
-        comes moves frames_at order u (Led moves u r w m) (led_kept moves u r w m) Kept keeps steps before (begun u r) polls.0 false polls.1 frame behind
-        short goes_on wait few begins
-        (begins_so (at_moment u r.host.inner) r.places to ip header m meta w is (begun u r) refl) polls.2
+      coming_so : Kept before (begun u r) → Coming
+      coming_so holds =
+          comes moves frames_at order u (Led moves u r w m) (led_kept moves u r w m) Kept keeps_so steps before (begun u r) polls.0 false polls.1 frame behind
+          short goes_on wait few begins holds polls.2
 
-    behind_it : Led moves u r w m coming.x' × RunsAt u coming.x'.host.inner
-    behind_it = one_in moves u (Led moves u r w m) (led_kept moves u r w m) coming.x coming.x' (Some true) coming.runs coming.reads
+      module _ (coming : Coming) where
+        behind_it : Led moves u r w m coming.x' × RunsAt u coming.x'.host.inner
+        behind_it = one_in moves u (Led moves u r w m) (led_kept moves u r w m) coming.x coming.x' (Some true) coming.runs coming.reads
 
-    -- its connection isn't over yet, as it is there behind the poll
-    not_yet : is_closed coming.holds.value.block.state ≡ true → ⊥
-    not_yet over =
-        let one : IsLed moves u coming.x coming.holds.value m coming.x' =
-        step_led moves u m coming.x coming.x' (Some true) coming.holds.value coming.holds.here coming.reads in
-        let first : StaysLate coming.holds.value (after_all coming.holds.value one.events) =
-        events_late moves u coming.x coming.holds.value one.events one.are coming.holds.late in
-        let end : IsLed moves u coming.x' (after_all coming.holds.value one.events) m r' =
-        to_end coming.x coming.x' coming.left coming.c coming.c' coming.rest behind_it.1 coming.x' (after_all coming.holds.value one.events)
-        (led_here moves u coming.x' (after_all coming.holds.value one.events) m coming.x' (reaches_itself moves u coming.x') one.here) in
-        let last : StaysLate (after_all coming.holds.value one.events) (after_all (after_all coming.holds.value one.events) end.events) =
-        events_late moves u coming.x' (after_all coming.holds.value one.events) end.events end.are first.late in
-        let same : after_all (after_all coming.holds.value one.events) end.events ≡ ends.value = same_here r'.places m _ ends.value end.here ends.stands in
-        let over_then : is_closed ends.value.block.state ≡ true =
-        subst (λ (y : TcpValue). is_closed y.block.state ≡ true) same (last.closed (first.closed over)) in
-        clash (sym over_then ∙ not_over ends.value.block.state ends.state)
+        led_there : IsLed moves u r w m coming.x
+        led_there = is_led moves u r w m coming.x coming.runs.0
 
-    led_there : IsLed moves u r w m coming.x
-    led_there = is_led moves u r w m coming.x coming.runs.0
+        abbrev then_value : TcpValue
+        then_value = after_all w led_there.events
 
-    abbrev then_value : TcpValue
-    then_value = after_all w led_there.events
+        abbrev then_host : InnerValue
+        then_host = at_moment u coming.x.host.inner
 
-    same_value : coming.holds.value ≡ then_value
-    same_value = same_here' coming.x.places m coming.holds.value then_value coming.holds.here led_there.here
+        -- the socket awaits the segment when its frame is next
+        module _ (at : IsAwaitedAt u coming.x i to ip header m) where
+          same_then : at.value ≡ then_value
+          same_then =
+              sym (same_here coming.x.places m then_value at.value led_there.here (ap socket_in at.awaited.stands))
 
-    has_then : (Has ip header (Kind.Tcp then_value) ≡ true) × NoneBefore ip header m coming.x.places
-    has_then = by coming.holds.what where
-      by : (is_closed coming.holds.value.block.state ≡ true)
-          ⊎ ((Has ip header (Kind.Tcp coming.holds.value) ≡ true) × NoneBefore ip header m coming.x.places)
-          → (Has ip header (Kind.Tcp then_value) ≡ true) × NoneBefore ip header m coming.x.places
-      by (inl over) = absurd (not_yet over)
-      by (inr has) = (subst (λ (y : TcpValue). Has ip header (Kind.Tcp y) ≡ true) same_value has.0, has.1)
+          came : HasComeTo then_host coming.x'.places ip header bytes m at.meta then_value
+          came =
+              it_comes moves i u coming.x coming.x' m then_value at.meta v ip header bytes offers to can formed at.reads ident wide padding
+              (λ other new took. (inbox.first coming.x.device new u frame other behind coming.wait took).0) coming.reads
+              (subst (λ (y : TcpValue). IsAwaited then_host coming.x.places to ip header m at.meta y) same_then at.awaited)
 
-    stands_there : Stands coming.x.places m (Kind.Tcp then_value)
-    stands_there = stands_at coming.x.places m (Kind.Tcp then_value) led_there.here
+          abbrev new_value : TcpValue
+          new_value = (arrives (context_of then_host) then_value came.read header bytes).socket
 
-    abbrev then_host : InnerValue
-    then_host = at_moment u coming.x.host.inner
+          led_on : IsLed moves u r new_value m r'
+          led_on =
+              to_end coming.x' coming.left coming.c coming.c' coming.rest behind_it.1 r new_value
+              (led_here moves u r new_value m coming.x' behind_it.0.0
+              (found_holds (λ y. y ≡ Kind.Tcp new_value) coming.x'.places m (Kind.Tcp new_value) (ap socket_in came.stands) refl))
 
-    awaited_then : IsAwaited then_host coming.x.places to ip header m stands_there.meta then_value
-    awaited_then =
-        let same : HasSettingsOf (at_moment u r.host.inner) then_host = reached_same moves u r coming.x coming.runs.0.0 in
-        record {
-          heard = heard (at_moment u r.host.inner) then_host same to ∙ is.awaited.heard;
-          sender = sender (at_moment u r.host.inner) then_host same (source_of ip) ∙ is.awaited.sender;
-          here = astray (at_moment u r.host.inner) then_host same (source_of ip) (destination_of ip) ∙ is.awaited.here;
-          ours = for_us (at_moment u r.host.inner) then_host same (destination_of ip) ∙ is.awaited.ours;
-          named = nobody (at_moment u r.host.inner) then_host same ip ∙ is.awaited.named;
+          comes_among : ComesAmong moves u r r' ip header bytes m w
+          comes_among = record {
+            before = led_there.events;
+            led = led_there.are;
+            cx = context_of then_host;
+            now = refl;
+            read = came.read;
+            source = came.source;
+            destination = came.destination;
+            later = led_on.events;
+            leads = led_on.are;
+            stands = at_place_is r'.places m (after_all new_value led_on.events) led_on.here;
+          }
+
+    -- WHEREVER IT IS AWAITED
+
+    -- of the frames before as many were read as don't wait any more
+    abbrev HaveRead : List (List ℕ) → State E → Type 0
+    HaveRead front s = (n : ℕ) × (n + length front ≡ length before) × HasRead moves u r n s
+
+    one_read : (f : List ℕ) (front : List (List ℕ)) (s s' : State E) (b : Bool) → HaveRead (f ∷ front) s → IngressStep moves u s (Some b) s' → HaveRead front s'
+    one_read f front s s' b so step = (suc so.0, (let all = so.1 in omega (arith, all)), (s, b, so.2, step))
+
+    comes_awaited : (count : ℕ) → length before < count → IsAwaitedWhenNext moves frames_at u r count i to ip header bytes m
+        → ComesAmong moves u r r' ip header bytes m w
+    comes_awaited count less awaits =
+        let none : (k : ℕ) → 0 + k ≡ k = λ k. omega arith in
+        let coming : Coming HaveRead one_read = coming_so HaveRead one_read (0, none (length before), refl) in
+        let all = coming.holds.1 in
+        comes_among HaveRead one_read coming
+        (awaits coming.holds.0 coming.x ident padding behind (omega (arith, all, less)) coming.holds.2 coming.wait)
+
+    -- WITH ITS CONNECTION
+
+    module _ (meta : Meta) (reads : CanRead i to (reader_of r.host.inner))
+        (is : IsAwaitedThroughout (at_moment u r.host.inner) r.places to ip header m meta w) (ends : HasConnection r'.places m) where
+      abbrev Has_it : List (List ℕ) → State E → Type 0
+      Has_it front s = Holds m ip header s
+
+      keeps_it : (f : List ℕ) (front : List (List ℕ)) (s s' : State E) (b : Bool) → Has_it (f ∷ front) s → IngressStep moves u s (Some b) s' → Has_it front s'
+      keeps_it f front s s' b holds step = step_holds moves u m ip header s s' (Some b) holds step
+
+      coming : Coming Has_it keeps_it
+      coming = coming_so Has_it keeps_it (begins_so (at_moment u r.host.inner) r.places to ip header m meta w is (begun u r) refl)
+
+      -- its connection isn't over yet, as it is there behind the poll
+      not_yet : is_closed coming.holds.value.block.state ≡ true → ⊥
+      not_yet over =
+          let one : IsLed moves u coming.x coming.holds.value m coming.x' =
+          step_led moves u m coming.x coming.x' (Some true) coming.holds.value coming.holds.here coming.reads in
+          let first : StaysLate coming.holds.value (after_all coming.holds.value one.events) =
+          events_late moves u coming.x coming.holds.value one.events one.are coming.holds.late in
+          let end : IsLed moves u coming.x' (after_all coming.holds.value one.events) m r' =
+          to_end coming.x' coming.left coming.c coming.c' coming.rest (behind_it Has_it keeps_it coming).1 coming.x'
+          (after_all coming.holds.value one.events)
+          (led_here moves u coming.x' (after_all coming.holds.value one.events) m coming.x' (reaches_itself moves u coming.x') one.here) in
+          over_at_end (after_all coming.holds.value one.events) end (events_late moves u coming.x' (after_all coming.holds.value one.events) end.events end.are
+          first.late) (first.closed over)
+        where
+          over_at_end : (v' : TcpValue) (end : IsLed moves u coming.x' v' m r') → StaysLate v' (after_all v' end.events) → is_closed v'.block.state ≡ true → ⊥
+          over_at_end v' end last over_then =
+              let same : after_all v' end.events ≡ ends.value = same_here r'.places m (after_all v' end.events) ends.value end.here ends.stands in
+              let over_now : is_closed ends.value.block.state ≡ true =
+              subst (λ (y : TcpValue). is_closed y.block.state ≡ true) same (last.closed over_then) in
+              clash (sym over_now ∙ not_over ends.value.block.state ends.state)
+
+      has_it : (Has ip header (Kind.Tcp coming.holds.value) ≡ true) × NoneBefore ip header m coming.x.places
+      has_it = by coming.holds.what where
+        by : (is_closed coming.holds.value.block.state ≡ true)
+            ⊎ ((Has ip header (Kind.Tcp coming.holds.value) ≡ true) × NoneBefore ip header m coming.x.places)
+            → (Has ip header (Kind.Tcp coming.holds.value) ≡ true) × NoneBefore ip header m coming.x.places
+        by (inl over) = absurd (not_yet over)
+        by (inr has) = has
+
+      stands_there : Stands coming.x.places m (Kind.Tcp coming.holds.value)
+      stands_there = stands_at coming.x.places m (Kind.Tcp coming.holds.value) coming.holds.here
+
+      abbrev its_host : InnerValue
+      its_host = at_moment u coming.x.host.inner
+
+      same_settings : HasSettingsOf (at_moment u r.host.inner) its_host
+      same_settings = reached_same moves u r coming.x coming.runs.0.0
+
+      awaited_then : IsAwaitedAt u coming.x i to ip header m
+      awaited_then = record {
+        meta = stands_there.meta;
+        value = coming.holds.value;
+        awaited = record {
+          heard = heard (at_moment u r.host.inner) its_host same_settings to ∙ is.awaited.heard;
+          sender = sender (at_moment u r.host.inner) its_host same_settings (source_of ip) ∙ is.awaited.sender;
+          here = astray (at_moment u r.host.inner) its_host same_settings (source_of ip) (destination_of ip) ∙ is.awaited.here;
+          ours = for_us (at_moment u r.host.inner) its_host same_settings (destination_of ip) ∙ is.awaited.ours;
+          named = nobody (at_moment u r.host.inner) its_host same_settings ip ∙ is.awaited.named;
           place = ap (λ (o : Option ℕ). or_else o (first_place (λ s. accepts_segment s ip header) coming.x.places))
-              (is_first ip header coming.x.places m then_value led_there.here has_then.0 has_then.1);
+              (is_first ip header coming.x.places m coming.holds.value coming.holds.here has_it.0 has_it.1);
           stands = stands_there.stands;
-        }
+        };
+        reads = reads_then moves u r coming.x coming.runs.0.0 i to reads;
+      }
 
-    came : HasComeTo then_host coming.x'.places ip header bytes m stands_there.meta then_value
-    came =
-        it_comes moves i u coming.x coming.x' m then_value stands_there.meta v ip header bytes offers to can formed
-        (reads_then moves u r coming.x coming.runs.0.0 i to reads) ident wide padding
-        (λ other new took. (inbox.first coming.x.device new u frame other behind coming.wait took).0) coming.reads awaited_then
-
-    abbrev new_value : TcpValue
-    new_value = (arrives (context_of then_host) then_value came.read header bytes).socket
-
-    led_on : IsLed moves u r new_value m r'
-    led_on =
-        to_end coming.x coming.x' coming.left coming.c coming.c' coming.rest behind_it.1 r new_value
-        (led_here moves u r new_value m coming.x' behind_it.0.0
-        (found_holds (λ y. y ≡ Kind.Tcp new_value) coming.x'.places m (Kind.Tcp new_value) (ap socket_in came.stands) refl))
-
-    pub comes_among : ComesAmong moves u r r' ip header bytes m w
-    comes_among = record {
-      before = led_there.events;
-      led = led_there.are;
-      cx = context_of then_host;
-      now = refl;
-      read = came.read;
-      source = came.source;
-      destination = came.destination;
-      later = led_on.events;
-      leads = led_on.are;
-      stands = at_place_is r'.places m (after_all new_value led_on.events) led_on.here;
-    }
+      comes_connected : ComesAmong moves u r r' ip header bytes m w
+      comes_connected = comes_among Has_it keeps_it coming awaited_then
 
 -- where its frame waits
 pub comes_where_it_waits : {E : Type 0} (moves : E → Move → E → Type 0) (gives_leave : E → Bool) (frames_at : E → List (List ℕ)) (u : ℤ) (count steps : ℕ)
@@ -360,14 +407,26 @@ pub comes_where_it_waits : {E : Type 0} (moves : E → Move → E → Type 0) (g
     → Polls moves u steps r changed r' → HasConnection r'.places m → ComesAmong moves u r r' ip header bytes m w
 comes_where_it_waits moves gives_leave frames_at u count steps i ident r r' changed m meta v w ip header bytes to inbox leave wide offers can formed lies within
     reads is polled ends =
-    comes_among moves gives_leave frames_at inbox u steps r r' changed m meta w polled leave ends i v ip header bytes offers to can formed reads is ident wide
-    lies.padding lies.before lies.behind lies.short lies.frames (omega (arith, lies.few, within))
+    comes_connected moves gives_leave frames_at inbox u steps r r' changed m w (ap socket_in is.awaited.stands) polled leave i v ip header bytes offers to can formed
+    ident wide lies.padding lies.before lies.behind lies.short lies.frames (omega (arith, lies.few, within)) meta reads is ends
+
+-- and where its socket awaits it whenever it is next
+pub comes_when_next : {E : Type 0} (moves : E → Move → E → Type 0) (gives_leave : E → Bool) (frames_at : E → List (List ℕ)) (u : ℤ) (count steps : ℕ)
+    (i : InnerValue) (ident : ℕ) (r r' : State E) (changed : Bool) (m : ℕ) (v w : TcpValue) (ip : IpRepr) (header : TcpHeader) (bytes : List ℕ)
+    (to : HardwareAddress) → IsInboxWhile moves gives_leave frames_at → IsTrue (gives_leave r'.device) → HasWidths (with_ident i ident)
+    → OffersSegment i v ip header bytes → CanLeave i to (packet_of ip (Segment header bytes)) → IsWellFormed (packet_of ip (Segment header bytes))
+    → LiesAmong (frames_at r.device) count (frame_under i ident to (packet_of ip (Segment header bytes))) → count ≤ steps → IsTcpAt r.places m w
+    → IsAwaitedWhenNext moves frames_at u r count i to ip header bytes m → Polls moves u steps r changed r' → ComesAmong moves u r r' ip header bytes m w
+comes_when_next moves gives_leave frames_at u count steps i ident r r' changed m v w ip header bytes to inbox leave wide offers can formed lies within is_tcp awaits
+    polled =
+    comes_awaited moves gives_leave frames_at inbox u steps r r' changed m w is_tcp polled leave i v ip header bytes offers to can formed ident wide lies.padding
+    lies.before lies.behind lies.short lies.frames (omega (arith, lies.few, within)) count lies.few awaits
 
 -- ONE POLL SENDS IT, AND ANOTHER READS IT
 
 pub arrives_in_a_poll : {D E : Type 0} (out : D → Move → D → Type 0) (moves : E → Move → E → Type 0) (gives_leave : E → Bool)
-    (frames_at : E → List (List ℕ)) (t u : ℤ) (budget count steps : ℕ) (s s' : State D) (r r' : State E) (changed changed' : Bool) (n m : ℕ) (meta : Meta) (v w : TcpValue) (ip : IpRepr)
-    (header : TcpHeader) (bytes : List ℕ) (to : HardwareAddress) → IsInboxWhile moves gives_leave frames_at → IsTrue (gives_leave r'.device)
+    (frames_at : E → List (List ℕ)) (t u : ℤ) (budget count steps : ℕ) (s s' : State D) (r r' : State E) (changed changed' : Bool) (n m : ℕ) (meta : Meta)
+    (v w : TcpValue) (ip : IpRepr) (header : TcpHeader) (bytes : List ℕ) (to : HardwareAddress) → IsInboxWhile moves gives_leave frames_at → IsTrue (gives_leave r'.device)
     → HasWidths (at_moment t s.host.inner)
     → IsItsTurn (at_moment t s.host.inner) s.places n (Kind.Tcp v) → OffersSegment (at_moment t s.host.inner) v ip header bytes
     → CanLeave (at_moment t s.host.inner) to (packet_of ip (Segment header bytes)) → HasNoFrame out t s.device → Polls out t (suc budget) s changed s'
@@ -394,5 +453,6 @@ arrives_in_a_poll {D} {E} out moves gives_leave frames_at t u budget count steps
     by (inr went) =
         let it : WaitsAmong frames_at r.device count (at_moment t s.host.inner) to (packet_of ip (Segment header bytes)) goes.all =
         brings goes.all goes.are (went_as (at_moment t s.host.inner) to (packet_of ip (Segment header bytes)) goes.all wide went) in
-        comes_among moves gives_leave frames_at inbox u steps r r' changed' m meta w polled leave ends (at_moment t s.host.inner) v ip header bytes offers to can went.formed reads is
-        it.went.ident (record { mtu = wide.mtu; ident = it.went.wide }) it.padding it.before it.behind it.short it.frames (omega (arith, it.few, within))
+        comes_connected moves gives_leave frames_at inbox u steps r r' changed' m w (ap socket_in is.awaited.stands) polled leave (at_moment t s.host.inner) v ip
+        header bytes offers to can went.formed it.went.ident (record { mtu = wide.mtu; ident = it.went.wide }) it.padding it.before it.behind it.short it.frames
+        (omega (arith, it.few, within)) meta reads is ends

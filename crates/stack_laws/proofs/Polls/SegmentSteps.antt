@@ -1,35 +1,24 @@
 -- As a host reads a frame, no socket before that of a connection comes to have the connection, too.
-use Rattle.std.proofs.Common.{◌≡◌, ℕ, zero, suc, ◌<◌, ◌==◌, ◌&&◌, Bool, true, false, if◌then◌else◌, not, inl, inr, ℤ, List, [], ◌∷◌, Option, Some, None, refl, sym, ap, ◌∙◌, subst, arith}
+use Rattle.std.proofs.Common.{◌≡◌, ℕ, zero, suc, ◌<◌, Bool, true, false, if◌then◌else◌, ℤ, List, [], ◌∷◌, Option, Some, None, refl, sym, ap, ◌∙◌, subst, arith}
 use Rattle.std.specs.Prelude.{slice_set}
-use Rattle.net_base.specs.ChecksumCapabilities.{ChecksumCapabilities}
 use Rattle.net_base.specs.Device.{Move}
 use Rattle.ip_address.specs.declared.ip.IpAddress.TheVariants as Address
-use Rattle.ip_packet.specs.Ip.{destination_of, source_of}
 use Rattle.ip_packet.specs.declared.ip.repr.IpRepr.{IpRepr}
 use Rattle.ip_packet.specs.declared.ip.repr.IpRepr.TheVariants as Ip
-use Rattle.ip_wire.specs.AddressTests.{is_same_address}
 use Rattle.ip_wire.specs.TcpHeader.{TcpHeader}
 use Rattle.ip_wire.specs.declared.ethernet.repr.EthernetRepr.{EthernetRepr}
 use Rattle.sockets.specs.Socket.{accepts_packet, accepts_segment}
-use Rattle.tcp_control.specs.Endpoints.{is_between, is_connected_by, local_of, pair_in, remote_of}
-use Rattle.tcp_control.specs.declared.endpoints.EndpointPair.{EndpointPair}
-use Rattle.tcp_control.specs.declared.state.State.{State as TcpState}
-use Rattle.tcp_control.specs.declared.state.State.TheVariants as In
-use Rattle.tcp_control.specs.States.{is_listening}
-use Rattle.tcp_model.specs.Names.{accepts_in}
-use Rattle.tcp_model.specs.Value.{TcpValue}
-use Rattle.tcp_model.specs.declared.block.Block.{Block}
+use Rattle.tcp_control.specs.Endpoints.{is_between, pair_in}
 use Rattle.tcp_tie.specs.Endpoints.{CameBetween}
 use Rattle.interface_ingress.specs.Arrives.{Arrived, ArrivesV4, ArrivesV6, Brings, renewed, whole_after}
-use Rattle.interface_ingress.specs.Carried.{IsCarriedContent, IsSegment}
-use Rattle.interface_ingress.specs.Delivered.{Places, changed_at, changed_in, first_place, is_connected, is_taken_raw, packet_delivered, passes, segment_delivered}
+use Rattle.interface_ingress.specs.Carried.{IsCarriedContent}
+use Rattle.interface_ingress.specs.Delivered.{Places, changed_at, changed_in, first_place, packet_delivered, passes, segment_delivered}
 use Rattle.interface_ingress.specs.Delivered.{segment_place, with_change, with_packet, with_segment}
 use Rattle.interface_ingress.specs.Handed.{HandsTo, names_nobody, segment_places}
 use Rattle.interface_ingress.specs.Incoming.{IncomingValue, Arp, Ip4, Ip6}
 use Rattle.interface_ingress.specs.Reassembled.{taken_in}
 use Rattle.interface_ingress.specs.Packet.{PayloadValue, Bytes, ControlV4, ControlV6, Datagram, Segment}
 use Rattle.interface_ingress.specs.Socket.{Socket}
-use Rattle.interface_ingress.specs.Socket.TheVariants as Kind
 use Rattle.interface_ingress.specs.Upper.{upper_header, upper_payload}
 use Rattle.interface_ingress.proofs.OneContent.{one-carried-content}
 use Rattle.interface_tables.specs.Best.{at_place}

@@ -1,10 +1,9 @@
 -- A segment goes from one host, and comes to a TCP socket of another.
-use Rattle.std.proofs.Common.{◌≡◌, ◌≢◌, ℕ, suc, ◌==◌, ◌&&◌, ◌||◌, Bool, true, false, not, ◌⊎◌, inl, inr, ℤ, List, ◌∷◌, ◌++◌, length, Option, Some, None}
+use Rattle.std.proofs.Common.{◌≡◌, ℕ, suc, ◌==◌, ◌&&◌, ◌||◌, Bool, true, false, not, ◌⊎◌, inl, inr, ℤ, List, ◌++◌, Option, Some, None}
 use Rattle.std.proofs.Common.{refl, sym, ap, ◌∙◌, subst}
-use Rattle.std.specs.Prelude.{if◌then◌else◌, position, slice_get, slice_set}
+use Rattle.std.specs.Prelude.{if◌then◌else◌, slice_get}
 use Rattle.std.specs.List.{list_any}
 use Rattle.std.proofs.lemmas.Bool.{and_parts, eqb-true}
-use Rattle.net_base.specs.ChecksumCapabilities.{ChecksumCapabilities}
 use Rattle.net_base.specs.Device.{Move}
 use Rattle.ip_address.specs.declared.hardware.HardwareAddress.{HardwareAddress}
 use Rattle.ip_address.specs.declared.ip.IpAddress.{IpAddress}
@@ -13,7 +12,6 @@ use Rattle.ip_packet.specs.Ip.{destination_of, source_of}
 use Rattle.ip_packet.specs.declared.ip.repr.IpRepr.{IpRepr}
 use Rattle.ip_packet.specs.declared.ip.repr.IpRepr.TheVariants as Ip
 use Rattle.ip_wire.specs.AddressTests.{is_same_address, is_unspecified}
-use Rattle.ip_wire.specs.Tcp as Tcps
 use Rattle.ip_wire.specs.Tcp.{normal}
 use Rattle.ip_wire.specs.TcpHeader.{TcpHeader}
 use Rattle.ip_wire.specs.declared.ethernet.repr.EthernetRepr.{EthernetRepr}
@@ -28,7 +26,7 @@ use Rattle.tcp_control.specs.declared.offer.OpenOffer.{OpenOffer}
 use Rattle.tcp_control.specs.declared.state.State.{State as TcpState}
 use Rattle.tcp_control.specs.declared.state.State.TheVariants as In
 use Rattle.tcp_model.specs.Arrival.{arrives}
-use Rattle.tcp_model.specs.Names.{accepts, accepts_in}
+use Rattle.tcp_model.specs.Names.{accepts_in}
 use Rattle.tcp_model.specs.Offers.{offer_of, packet_with}
 use Rattle.tcp_model.specs.Settled.{settled}
 use Rattle.tcp_model.specs.Value.{TcpValue}
@@ -66,7 +64,7 @@ use Rattle.interface.specs.Taken.{CanRead, HasWidths}
 use Rattle.lan.proofs.Worlds.Moves.Protocols.{offered_names}
 use Rattle.stack_laws.specs.Progress.Asked.{IsNext}
 use Rattle.stack_laws.specs.Progress.Delivered.{Brings, ComesNext, RefusesNothing, reader_of}
-use Rattle.stack_laws.specs.Progress.Moves.{AreMoves, is_refused}
+use Rattle.stack_laws.specs.Progress.Moves.{is_refused}
 use Rattle.stack_laws.specs.Progress.Queued.{GoesInTurn, frame_under, with_ident}
 use Rattle.stack_laws.specs.Progress.Segments.{CanLeave, HasComeTo, IsAwaited, IsItsTurn, LeavesAtOnce, OffersSegment, WentBy, asked_by, tcp_place}
 use Rattle.stack_laws.proofs.Polls.AnyLeave.{OffersOnly}

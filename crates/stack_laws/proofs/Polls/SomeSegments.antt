@@ -1,9 +1,10 @@
 -- Two hosts on numerals, and the polls in which a segment goes from the one to the other.
-use Rattle.std.proofs.Common.{◌≡◌, ◌≢◌, inl, inr, true, false, [], ◌∷◌, Some, None, refl, subst}
+use Rattle.std.proofs.Common.{◌≤◌, inl, inr, zero, suc, true, false, [], ◌∷◌, Some, None, refl, sym, subst, arith}
 use Rattle.std.proofs.lemmas.Bool.{leb-true, ltb-true}
 use Rattle.std.specs.List.{AllByRecursion}
 use Rattle.net_base.specs.Medium.TheVariants as Medium
 use Rattle.ip_address.specs.Address.{v4_number}
+use Rattle.ip_packet.specs.Ip.{destination_of}
 use Rattle.ip_wire.specs.HardwareAddress.TheVariants as Hardware
 use Rattle.lan_base.specs.Port.{PortValue, PortMove}
 use Rattle.lan.specs.declared.at_link.history.event.Side.TheVariants.{A, B}
@@ -18,12 +19,11 @@ use Rattle.interface_ingress.specs.Packet.{PacketValue, Segment, payload_written
 use Rattle.interface_ingress.specs.Socket.TheVariants as Kind
 use Rattle.interface_ingress.specs.Sockets.{Offers}
 use Rattle.interface_ingress.specs.Upper.{IsBrought}
-use Rattle.interface_tables.specs.Inner.{at_moment, with_next_ident}
+use Rattle.interface_tables.specs.Inner.{mtu_to, with_next_ident}
 use Rattle.interface_tables.specs.PathMtu.{mtu_towards}
 use Rattle.interface_egress.specs.Departure.{Whole}
 use Rattle.interface_egress.specs.GoesOut.{numbered}
 use Rattle.interface_egress.specs.Set.{unmarked}
-use Rattle.interface_egress.specs.declared.socket_meta.Meta.{Meta}
 use Rattle.interface_egress.specs.declared.socket_set.Item.{Item}
 use Rattle.interface_egress.specs.declared.way_out.Sent.TheVariants as Outcome
 use Rattle.interface_ingress.specs.Socket.{Socket}
@@ -42,10 +42,12 @@ use Rattle.stack_laws.specs.Progress.Delivered.{reader_of}
 use Rattle.stack_laws.specs.Progress.Leave.{BringsWhatWent, LiesAmong}
 use Rattle.stack_laws.specs.Progress.Numerals.{now, port_with}
 use Rattle.stack_laws.specs.Progress.SegmentNumerals.{awaiting, frame, header, offering, packet, push, reached, reader, sender, sent, taken, writing}
-use Rattle.stack_laws.specs.Progress.Segments.{CanLeave, ComesAmong, HasConnection, IsAwaitedThroughout, IsItsTurn, OffersSegment, asked_by}
+use Rattle.stack_laws.specs.Progress.Segments.{CanLeave, ComesAmong, HasConnection, IsAwaitedAt, IsAwaitedThroughout, IsAwaitedWhenNext, IsItsTurn}
+use Rattle.stack_laws.specs.Progress.Segments.{OffersSegment, asked_by}
 use Rattle.stack_laws.specs.Worlds.Hosts.{text}
 use Rattle.stack_laws.specs.Worlds.Open.{idle}
 use Rattle.stack_laws.proofs.Polls.BetweenPorts.{segment_between}
+use Rattle.stack_laws.proofs.Polls.Inboxes.{waiting}
 use Rattle.stack_laws.proofs.Polls.Readers.{packet_read}
 use Rattle.stack_laws.proofs.Polls.Segments.{carries}
 use Rattle.stack_laws.proofs.Polls.SomeHosts.{is_address, nobody}
@@ -55,7 +57,7 @@ item v = record { meta = nobody; socket = Kind.Tcp v }
 
 -- WHAT IS SENT
 
-formed : IsWellFormed packet
+pub formed : IsWellFormed packet
 formed = record {
   sendable = record { header = ltb-true _ _ refl; payload = record { header = leb-true _ _ refl; all = ltb-true _ _ refl; family = refl }; len = refl };
   header =
@@ -89,6 +91,10 @@ offers = record { offers = refl; source_port = λ is. absurd (cc); destination_p
 pub goes : CanLeave sender Hardware.Ip packet
 unfolding v4_number mtu_towards
 goes = record { may = refl; known = refl; short = leb-true _ _ refl }
+
+pub path : 80 ≤ mtu_to sender (destination_of header)
+unfolding mtu_towards
+path = leb-true _ _ refl
 
 -- THE POLL OF A
 
@@ -133,10 +139,11 @@ polls = (begun_a, false, inl (looks, refl), inr (true, sent, step_out, (refl, re
 
 -- THE LINK
 
+pub lies : LiesAmong (frame ∷ []) 1 frame
+lies = record { padding = []; before = []; behind = []; frames = refl; few = ltb-true _ _ refl; short = refl }
+
 pub brings : BringsWhatWent offering.device sent.device awaiting.device 1
-brings gone is = subst (AllByRecursion (LiesAmong (frame ∷ []) 1)) is (lies, tt) where
-  lies : LiesAmong (frame ∷ []) 1 frame
-  lies = record { padding = []; before = []; behind = []; frames = refl; few = ltb-true _ _ refl; short = refl }
+brings gone is = subst (AllByRecursion (LiesAmong (frame ∷ []) 1)) is (lies, tt)
 
 pub reads : CanRead sender Hardware.Ip (reader_of awaiting.host.inner)
 reads = record { medium = record { from = tt; receiver = tt }; sealed = sealed } where
@@ -151,6 +158,14 @@ awaits = record {
   awaited = record { heard = refl; sender = refl; here = refl; ours = refl; named = refl; place = refl; stands = refl };
   connection = refl;
 }
+
+-- no frame comes before
+awaits_first : IsAwaitedAt now (begun now awaiting) sender Hardware.Ip header push 0
+awaits_first = record { meta = nobody; value = idle B; awaited = awaits.awaited; reads = reads }
+
+pub awaits_next : IsAwaitedWhenNext PortMove waiting now awaiting 1 sender Hardware.Ip header push text 0
+awaits_next zero x ident padding more less so next = subst (λ (y : State PortValue). IsAwaitedAt now y sender Hardware.Ip header push 0) (sym so) awaits_first
+awaits_next (suc n) x ident padding more less so next = absurd (omega (arith, less))
 
 abbrev begun_b : State PortValue
 begun_b = begun now (begun now awaiting)

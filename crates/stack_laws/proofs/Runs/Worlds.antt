@@ -1,6 +1,6 @@
 -- A connection that is open, one that told three bytes, and one that is half closed, in full: what is proved behind them needn't compute
 -- what led to them.
-use Rattle.std.proofs.Common.{◌≡◌, ℕ, pos, true, false, List, [], ◌∷◌, replicate, Option, Some, None, refl, ap, ◌∙◌}
+use Rattle.std.proofs.Common.{◌≡◌, ℕ, pos, true, List, [], ◌∷◌, replicate, Option, Some, None, refl, ap, ◌∙◌}
 use Rattle.ip_wire.specs.IpAddress.TheVariants as Address
 use Rattle.ip_wire.specs.Options.{no_options}
 use Rattle.ip_wire.specs.SeqNumber.{SeqNumber}
@@ -11,10 +11,7 @@ use Rattle.ip_wire.specs.TcpOptions.{TcpOptions}
 use Rattle.net_base.specs.Ring.{ring}
 use Rattle.tcp_tie.specs.Host.{Made, made_of}
 use Rattle.lan.specs.Worlds.AtLink.ReceiveMap.{space}
-use Rattle.tcp_model.specs.AddressPair.TheVariants as Pair
-use Rattle.tcp_model.specs.Blocks.{default_settings, fresh_loss, fresh_stamps, fresh_timers}
-use Rattle.tcp_model.specs.declared.block.Block.{Block}
-use Rattle.tcp_model.specs.declared.block.Names.{Names}
+use Rattle.tcp_model.specs.Blocks.{fresh_timers}
 use Rattle.tcp_model.specs.State.{State}
 use Rattle.tcp_model.specs.State.TheVariants as In
 use Rattle.tcp_model.specs.Value.{TcpValue, received_of}
@@ -27,7 +24,7 @@ use Rattle.lan.specs.Worlds.AtLink.Call as Call
 use Rattle.lan.specs.Worlds.AtLink.Call.{SocketCall}
 use Rattle.lan.specs.Worlds.AtLink.History.{Entry}
 use Rattle.lan.specs.Worlds.AtLink.Kinds.{other}
-use Rattle.lan.specs.Worlds.AtLink.Calls.{did, at_port}
+use Rattle.lan.specs.Worlds.AtLink.Calls.{did}
 use Rattle.lan.specs.Worlds.AtLink.Parties.{Party}
 use Rattle.lan.specs.Worlds.AtLink.Parties.Socket.{Tcp}
 use Rattle.stack_laws.specs.Worlds.Connection as Connection

@@ -1,5 +1,5 @@
 -- A segment that a TCP socket offers, and that comes to the socket of another host that it is for.
-use Rattle.std.specs.Prelude.{◌≡◌, ◌≢◌, ◌⊎◌, ℕ, ◌^◌, ◌<◌, ◌≤◌, ℤ, Bool, true, false, List, slice_get, Option, Some}
+use Rattle.std.specs.Prelude.{◌≡◌, ◌≢◌, ◌⊎◌, ℕ, zero, suc, ◌^◌, ◌<◌, ◌≤◌, ℤ, Bool, true, false, List, ◌∷◌, ◌++◌, slice_get, Option, Some}
 use Rattle.std.specs.List.{list_any}
 use Rattle.net_base.specs.Device.{Move}
 use Rattle.ip_packet.specs.Ip.{destination_of, source_of}
@@ -19,21 +19,24 @@ use Rattle.interface_ingress.specs.Socket.{Socket}
 use Rattle.interface_ingress.specs.Socket.TheVariants as Kind
 use Rattle.interface_ingress.specs.Sockets.{settled}
 use Rattle.interface_ingress.specs.WellFormed.{IsWellFormed}
-use Rattle.interface_tables.specs.Inner.{InnerValue, context_of, is_for_us, link_address, mtu_to}
+use Rattle.interface_tables.specs.Inner.{InnerValue, at_moment, context_of, is_for_us, link_address, mtu_to}
 use Rattle.interface_tables.specs.declared.link.LinkAddress.TheVariants as Link
 use Rattle.interface_egress.specs.Plan.{never_leaves, total_len}
 use Rattle.interface_egress.specs.Set.{unmarked}
 use Rattle.interface_egress.specs.declared.socket_meta.Meta.{Meta}
 use Rattle.interface_egress.specs.declared.socket_set.SocketStorage.{SocketStorage}
+use Rattle.interface.specs.Ingress.{IngressStep}
+use Rattle.interface.specs.Polls.{begun}
 use Rattle.interface.specs.Remote.{context_for}
 use Rattle.interface.specs.State.{State}
+use Rattle.interface.specs.Taken.{CanRead}
 use Rattle.interface.specs.Turn.{is_waiting}
 use Rattle.stack_laws.specs.PeerHost.Beside.{Event}
 use Rattle.stack_laws.specs.PeerHost.Goes.{after_all}
 use Rattle.stack_laws.specs.PeerHost.Streams.{AreOfPoll, IsTcpAt}
-use Rattle.stack_laws.specs.Progress.Delivered.{hears, may_be_sender}
+use Rattle.stack_laws.specs.Progress.Delivered.{hears, may_be_sender, reader_of}
 use Rattle.stack_laws.specs.Progress.Moves.{AreMoves, is_refused}
-use Rattle.stack_laws.specs.Progress.Queued.{SendsPacket}
+use Rattle.stack_laws.specs.Progress.Queued.{SendsPacket, frame_under}
 
 -- THE SENDER
 
@@ -116,6 +119,25 @@ pub record HasConnection (places : List (SocketStorage Socket)) (m : ℕ) : Type
   pub value : TcpValue
   pub stands : IsTcpAt places m value
   pub state : is_synchronized value.block.state ≡ true
+
+-- in this state the TCP socket at a place awaits the segment, and its host reads what the other one sends
+pub record IsAwaitedAt {E : Type 0} (u : ℤ) (x : State E) (i : InnerValue) (to : HardwareAddress) (ip : IpRepr) (header : TcpHeader) (m : ℕ) : Type 0 where
+  pub meta : Meta
+  pub value : TcpValue
+  pub awaited : IsAwaited (at_moment u x.host.inner) x.places to ip header m meta value
+  pub reads : CanRead i to (reader_of x.host.inner)
+
+-- where a poll of this moment that began here has come as it has read so many frames
+abbrev pub HasRead : {E : Type 0} → (E → Move → E → Type 0) → ℤ → State E → ℕ → State E → Type 0
+HasRead {E} moves u r zero x = x ≡ begun u r
+HasRead {E} moves u r (suc n) x = (mid : State E) × (b : Bool) × HasRead moves u r n mid × IngressStep moves u mid (Some b) x
+
+-- so it is wherever such a poll has come when a frame of the segment is next, behind fewer than so many others
+abbrev pub IsAwaitedWhenNext : {E : Type 0} → (E → Move → E → Type 0) → (E → List (List ℕ)) → ℤ → State E → ℕ → InnerValue → HardwareAddress → IpRepr
+    → TcpHeader → List ℕ → ℕ → Type 0
+IsAwaitedWhenNext {E} moves frames_at u r count i to ip header bytes m =
+    (n : ℕ) (x : State E) (ident : ℕ) (padding : List ℕ) (more : List (List ℕ)) → n < count → HasRead moves u r n x
+    → frames_at x.device ≡ (frame_under i ident to (packet_of ip (Segment header bytes)) ++ padding) ∷ more → IsAwaitedAt u x i to ip header m
 
 -- The segment came to the TCP socket at a place in a poll of this moment, behind an IP header between the same addresses: events of the poll led the
 -- socket to where it came, and on from there.

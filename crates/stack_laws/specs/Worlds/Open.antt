@@ -1,5 +1,5 @@
 -- Two sockets of an open connection on numerals, in full: what is said of them needn't compute what led to them.
-use Rattle.std.specs.Prelude.{ℕ, pos, true, false, List, [], replicate, Option, Some, None}
+use Rattle.std.specs.Prelude.{ℕ, pos, true, false, [], replicate, Some, None}
 use Rattle.ip_wire.specs.SeqNumber.{SeqNumber}
 use Rattle.net_base.specs.Ring.{ring}
 use Rattle.tcp_model.specs.AddressPair.TheVariants as Pair

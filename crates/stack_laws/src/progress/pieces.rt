@@ -1,11 +1,11 @@
 //! Segments and pieces fit their paths, and pieces go.
 
 ghost use Rattle.std.specs.Prelude.{◌≡◌, ℕ, ℤ, ◌+◌, ◌≤◌, Bool, length, Option, Some};
-ghost use Rattle.interface_tables.specs.Inner.{InnerValue, at_moment};
 ghost use Rattle.tcp_control.specs.declared.offer.OpenOffer.{OpenOffer};
 ghost use Rattle.tcp_model.specs.Offers.{offer_of};
 ghost use Rattle.tcp_model.specs.Value.{TcpValue};
 ghost use Rattle.sockets.specs.Context.{ContextValue};
+ghost use Rattle.interface_tables.specs.Inner.{InnerValue, at_moment};
 ghost use Rattle.interface_egress.specs.Departure.{Part, piece_header_len};
 ghost use Rattle.interface_egress.specs.Fragments.{LeftValue, cut_mtu, departure_from, left_from, piece_from};
 ghost use Rattle.interface_egress.specs.Plan.{total_len};

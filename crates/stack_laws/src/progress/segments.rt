@@ -1,6 +1,7 @@
 //! A segment that a TCP socket of one host offers comes to a socket of another.
 
 ghost use Rattle.std.specs.Prelude.{◌≡◌, ℕ, suc, ◌≤◌, ℤ, Bool, true, IsTrue, List, [], slice_get, Option, Some, None};
+ghost use Rattle.ip_packet.specs.Ip.{destination_of};
 ghost use Rattle.ip_packet.specs.declared.ip.repr.IpRepr.{IpRepr};
 ghost use Rattle.ip_wire.specs.HardwareAddress.{HardwareAddress};
 ghost use Rattle.ip_wire.specs.HardwareAddress.TheVariants as Hardware;
@@ -10,7 +11,8 @@ ghost use Rattle.tcp_model.specs.Value.{TcpValue};
 ghost use Rattle.interface_ingress.specs.Packet.{Segment, packet_of};
 ghost use Rattle.interface_ingress.specs.Socket.TheVariants as Kind;
 ghost use Rattle.interface_ingress.specs.WellFormed.{IsWellFormed};
-ghost use Rattle.interface_tables.specs.Inner.{InnerValue, at_moment};
+ghost use Rattle.interface_tables.specs.Inner.{InnerValue, at_moment, mtu_to};
+ghost use Rattle.interface_egress.specs.Plan.{total_len};
 ghost use Rattle.interface_egress.specs.Set.{unmarked};
 ghost use Rattle.interface_egress.specs.declared.socket_meta.Meta.{Meta};
 ghost use Rattle.interface.specs.Egress.{EgressStep};
@@ -19,6 +21,7 @@ ghost use Rattle.interface.specs.Polls.{Polls, Repeats};
 ghost use Rattle.interface.specs.QuietPoll.{HasNoFrame};
 ghost use Rattle.interface.specs.State.{State};
 ghost use Rattle.interface.specs.Taken.{CanRead, HasWidths};
+ghost use Rattle.stack_laws.specs.PeerHost.Streams.{IsTcpAt};
 ghost use Rattle.stack_laws.specs.Progress.Delivered.{Brings, RefusesNothing, reader_of};
 ghost use Rattle.lan.specs.declared.at_link.history.event.Side.TheVariants.{B};
 ghost use Rattle.lan_base.specs.Port.{PortValue, PortMove, has_leave};
@@ -27,8 +30,8 @@ ghost use Rattle.stack_laws.specs.Progress.Leave.{BringsWhatWent, IsInboxWhile, 
 ghost use Rattle.stack_laws.specs.Progress.Numerals.{now};
 ghost use Rattle.stack_laws.specs.Progress.Queued.{GoesInTurn, frame_under, with_ident};
 ghost use Rattle.stack_laws.specs.Progress.SegmentNumerals.{awaiting, header, offering, packet, push, reached, reader, sender, sent, writing};
-ghost use Rattle.stack_laws.specs.Progress.Segments.{CanLeave, ComesAmong, HasComeTo, HasConnection, IsAwaited, IsAwaitedThroughout, IsItsTurn};
-ghost use Rattle.stack_laws.specs.Progress.Segments.{LeavesAtOnce, OffersSegment, asked_by};
+ghost use Rattle.stack_laws.specs.Progress.Segments.{CanLeave, ComesAmong, HasComeTo, HasConnection, IsAwaited, IsAwaitedThroughout};
+ghost use Rattle.stack_laws.specs.Progress.Segments.{IsAwaitedWhenNext, IsItsTurn, LeavesAtOnce, OffersSegment, asked_by};
 ghost use Rattle.stack_laws.specs.Worlds.Hosts.{text};
 ghost use Rattle.stack_laws.specs.Worlds.Open.{idle};
 
@@ -39,7 +42,8 @@ use net_base::Device;
 /// to its destination, and the socket isn't waiting for another neighbour. So it goes in the way out of a poll that comes to such a socket, whatever came
 /// in before, unless the device refuses in one of its steps.
 pub fn offered_segments_go<D: Device>()
-    ensures at_once { (t : ℤ) (s s' : State D) (answer : Option Bool) (n : ℕ) (v : TcpValue) (ip : IpRepr) (header : TcpHeader) (bytes : List ℕ) (to : HardwareAddress)
+    ensures at_once { (t : ℤ) (s s' : State D) (answer : Option Bool) (n : ℕ) (v : TcpValue) (ip : IpRepr) (header : TcpHeader) (bytes : List ℕ)
+        (to : HardwareAddress)
         → IsItsTurn (at_moment t s.host.inner) s.places n (Kind.Tcp v)
         → OffersSegment (at_moment t s.host.inner) v ip header bytes
         → CanLeave (at_moment t s.host.inner) to (packet_of ip (Segment header bytes))
@@ -53,6 +57,14 @@ pub fn offered_segments_go<D: Device>()
         → CanLeave (at_moment t s.host.inner) to (packet_of ip (Segment header bytes))
         → Repeats (EgressStep D.moves t) (suc budget) s before s' changed
         → GoesInTurn D.moves (at_moment t s.host.inner) to (packet_of ip (Segment header bytes)) s.device s'.device }
+{}
+
+/// Law: such a segment fits the path to its remote, and so one frame, where that carries 80 bytes: an IPv6 header and a SYN with all its options.
+pub fn offered_segments_fit_their_path()
+    ensures { (i : InnerValue) (v : TcpValue) (ip : IpRepr) (header : TcpHeader) (bytes : List ℕ)
+        → OffersSegment i v ip header bytes
+        → 80 ≤ mtu_to i (destination_of ip)
+        → total_len ip ≤ mtu_to i (destination_of ip) }
 {}
 
 /// Law: of two hosts on one medium, where a TCP socket of the one has its turn and offers a segment that can go to a known hardware address, a step of the
@@ -85,9 +97,10 @@ pub fn a_segment_arrives<D: Device, E: Device>()
 
 /// Law: a segment of a TCP socket whose frame waits comes to the socket of its connection: a poll of the other host, at whose device the frame waits behind
 /// fewer others than the poll has steps, and which gives leave to its end, brings it to a socket that has its connection as the poll begins and ends,
-/// wherever offers and the segments before have led that. The packet can be sent, and went under this identification.
+/// wherever offers and the segments before have led that. The packet can be sent, and went under this identification. So it comes to whatever TCP socket
+/// awaits it wherever that poll has come when the frame is next, as a listener does a SYN.
 pub fn a_segment_that_waits_comes<E: Device>()
-    ensures { (gives_leave : E → Bool) (frames_at : E → List (List ℕ)) (u : ℤ) (count steps : ℕ) (i : InnerValue) (ident : ℕ) (r r' : State E)
+    ensures connected { (gives_leave : E → Bool) (frames_at : E → List (List ℕ)) (u : ℤ) (count steps : ℕ) (i : InnerValue) (ident : ℕ) (r r' : State E)
         (changed : Bool) (m : ℕ) (meta : Meta) (v w : TcpValue) (ip : IpRepr) (header : TcpHeader) (bytes : List ℕ) (to : HardwareAddress)
         → IsInboxWhile E.moves gives_leave frames_at
         → IsTrue (gives_leave r'.device)
@@ -101,6 +114,20 @@ pub fn a_segment_that_waits_comes<E: Device>()
         → IsAwaitedThroughout (at_moment u r.host.inner) r.places to ip header m meta w
         → Polls E.moves u steps r changed r'
         → HasConnection r'.places m
+        → ComesAmong E.moves u r r' ip header bytes m w }
+    ensures awaited { (gives_leave : E → Bool) (frames_at : E → List (List ℕ)) (u : ℤ) (count steps : ℕ) (i : InnerValue) (ident : ℕ) (r r' : State E)
+        (changed : Bool) (m : ℕ) (v w : TcpValue) (ip : IpRepr) (header : TcpHeader) (bytes : List ℕ) (to : HardwareAddress)
+        → IsInboxWhile E.moves gives_leave frames_at
+        → IsTrue (gives_leave r'.device)
+        → HasWidths (with_ident i ident)
+        → OffersSegment i v ip header bytes
+        → CanLeave i to (packet_of ip (Segment header bytes))
+        → IsWellFormed (packet_of ip (Segment header bytes))
+        → LiesAmong (frames_at r.device) count (frame_under i ident to (packet_of ip (Segment header bytes)))
+        → count ≤ steps
+        → IsTcpAt r.places m w
+        → IsAwaitedWhenNext E.moves frames_at u r count i to ip header bytes m
+        → Polls E.moves u steps r changed r'
         → ComesAmong E.moves u r r' ip header bytes m w }
 {}
 
@@ -151,12 +178,14 @@ pub fn a_segment_arrives_between_ports()
         → ComesAmong PortMove u r r' ip header bytes m w }
 {}
 
-/// Law: there are two hosts at ports of the simulated link, on a medium of bare packets, that meet all that `a_segment_arrives_between_ports` asks for:
-/// between their sockets a connection is open, abc is offered at the one, goes in one step of its poll, and comes in one step of the other's.
+/// Law: there are two hosts at ports of the simulated link, on a medium of bare packets, that meet all that `a_segment_arrives_between_ports`,
+/// `a_segment_that_waits_comes` and `offered_segments_fit_their_path` ask for: between their sockets a connection is open, abc is offered at the one, goes
+/// in one step of its poll, and comes in one step of the other's.
 pub fn two_hosts_meet_what_a_segment_asks_for()
     ensures widths { HasWidths sender }
     ensures turn { IsItsTurn sender offering.places 0 (Kind.Tcp writing) }
     ensures offers { OffersSegment sender writing header push text }
+    ensures path { 80 ≤ mtu_to sender (destination_of header) }
     ensures goes { CanLeave sender Hardware.Ip packet }
     ensures bare { offering.device.link.waiting ≡ [] }
     ensures sends { Polls PortMove now 1 offering true sent }
@@ -165,6 +194,9 @@ pub fn two_hosts_meet_what_a_segment_asks_for()
     ensures brings { BringsWhatWent offering.device sent.device awaiting.device 1 }
     ensures reads { CanRead sender Hardware.Ip (reader_of awaiting.host.inner) }
     ensures awaits { IsAwaitedThroughout reader awaiting.places Hardware.Ip header push 0 (record { waiting = None }) (idle B) }
+    ensures formed { IsWellFormed packet }
+    ensures lies { LiesAmong awaiting.device.link.waiting 1 (frame_under sender sender.ident Hardware.Ip packet) }
+    ensures awaits_next { IsAwaitedWhenNext PortMove (λ (p : PortValue). p.link.waiting) now awaiting 1 sender Hardware.Ip header push text 0 }
     ensures hears { Polls PortMove now 1 awaiting true reached }
     ensures their_leave { IsTrue (has_leave reached.device.link) }
     ensures connection { HasConnection reached.places 0 }

@@ -153,11 +153,11 @@ module _ (names : List ℕ → Bool) (side : Side) (C G : Type 0) (F : List (Lis
               places = places;
               sockets = ap (λ (n : Net). (party n side).sockets) r.ends ∙ has;
               comes = λ other named' there'. (
-                let same : Some at ≡ Some other = sym there ∙ there' in
-                let one : at ≡ other = cc in
-                subst (λ (n : ℕ). ComesNext side i0 t net n ip header bytes (step_of side (Moves.Takes at cx came.v ip header bytes) ∷ [])) one
-                (record { cx = cx; v = came.v; more = []; are = refl; moment = like.moment })
-              );
+                  let same : Some at ≡ Some other = sym there ∙ there' in
+                  let one : at ≡ other = cc in
+                  subst (λ (n : ℕ). ComesNext side i0 t net n ip header bytes (step_of side (Moves.Takes at cx came.v ip header bytes) ∷ [])) one
+                  (record { cx = cx; v = came.v; more = []; are = refl; moment = like.moment })
+                  );
             };
           }
 

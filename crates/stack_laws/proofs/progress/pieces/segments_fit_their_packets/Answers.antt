@@ -1,4 +1,4 @@
-use Rattle.std.proofs.Common.{◌≡◌, ◌≤◌, Option, Some, subst}
+use Rattle.std.proofs.Common.{◌≤◌, Option, subst}
 use Rattle.std.specs.Prelude.{IfSome}
 use Rattle.interface_egress.specs.Plan.{total_len}
 use Rattle.tcp_control.specs.declared.offer.OpenOffer.{OpenOffer}

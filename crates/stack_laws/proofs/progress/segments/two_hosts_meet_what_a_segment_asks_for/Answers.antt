@@ -1,5 +1,5 @@
 use Rattle.std.proofs.Common.{refl}
-use Rattle.stack_laws.proofs.Polls.SomeSegments.{widths, turn, offers, goes, polls, brings, reads, awaits, hears, ends, arrives}
+use Rattle.stack_laws.proofs.Polls.SomeSegments.{widths, turn, offers, path, goes, polls, brings, reads, awaits, formed, lies, awaits_next, hears, ends, arrives}
 use Rattle.stack_laws.proofs.progress.segments.two_hosts_meet_what_a_segment_asks_for.Goals as goal
 
 pub returns-clause-widths : goal.returns-clause-widths
@@ -10,6 +10,9 @@ returns-clause-turn c = turn
 
 pub returns-clause-offers : goal.returns-clause-offers
 returns-clause-offers c = offers
+
+pub returns-clause-path : goal.returns-clause-path
+returns-clause-path c = path
 
 pub returns-clause-goes : goal.returns-clause-goes
 returns-clause-goes c = goes
@@ -34,6 +37,15 @@ returns-clause-reads c = reads
 
 pub returns-clause-awaits : goal.returns-clause-awaits
 returns-clause-awaits c = awaits
+
+pub returns-clause-formed : goal.returns-clause-formed
+returns-clause-formed c = formed
+
+pub returns-clause-lies : goal.returns-clause-lies
+returns-clause-lies c = lies
+
+pub returns-clause-awaits_next : goal.returns-clause-awaits_next
+returns-clause-awaits_next c = awaits_next
 
 pub returns-clause-hears : goal.returns-clause-hears
 returns-clause-hears c = hears
