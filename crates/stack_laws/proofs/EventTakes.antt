@@ -3,7 +3,6 @@ use Rattle.std.proofs.Common.{◌≡◌, ℕ, zero, suc, ◌+◌, ◌<◌, ◌�
 use Rattle.std.proofs.Common.{refl, sym, ap, ◌∙◌, subst, arith, length-append}
 use Rattle.std.specs.Prelude.{slice_index_or}
 use Rattle.net_base.specs.Device.{Move, Took, Empty, Allowed, Emitted, Denied}
-use Rattle.net_base.specs.ChecksumCapabilities.{ChecksumCapabilities}
 use Rattle.ip_address.specs.declared.ip.IpProtocol.TheVariants as Protocol
 use Rattle.ip_packet.specs.Ip.{destination_of, source_of}
 use Rattle.ip_packet.specs.declared.ip.repr.IpRepr.{IpRepr}
@@ -27,7 +26,6 @@ use Rattle.interface_ingress.specs.WellFormed.{IsWellFormed}
 use Rattle.interface_ingress.proofs.OneContent.{one-carried-content, one-content}
 use Rattle.interface_tables.specs.Inner.{InnerValue, is_for_us}
 use Rattle.interface_tables.specs.Reassembly.{or_else}
-use Rattle.interface_egress.specs.Departing.{HasSettingsOf}
 use Rattle.interface_egress.specs.GoesOut.{numbered}
 use Rattle.interface_egress.specs.Set.{free}
 use Rattle.interface_egress.specs.declared.socket_set.Item.{Item}
@@ -49,7 +47,7 @@ use Rattle.lan.specs.Worlds.AtLink.Parties.{Net, Party, party, socket_at}
 use Rattle.lan.specs.Worlds.AtLink.Port.{LinkEnd}
 use Rattle.lan.specs.Worlds.AtLink.Runs.{Leads, Starts}
 use Rattle.lan.specs.Worlds.AtLink.Safe.{seen}
-use Rattle.lan.specs.Worlds.AtLink.Station.{StationValue, Stations, at_port, station}
+use Rattle.lan.specs.Worlds.AtLink.Station.{Stations, at_port, station}
 use Rattle.lan.specs.Worlds.AtLink.Steps.{Happens, PollsAt}
 use Rattle.lan.specs.Worlds.Moves.Follows.{seen_place, sockets_of}
 use Rattle.lan.specs.Worlds.Moves.Taken.{AreMoved, BringsIn, ComesIn, ComesNext, HandsIn, IfSegment, IsMoved}
@@ -70,7 +68,7 @@ use Rattle.stack_laws.proofs.Polls.Inboxes.{Frames, leave, ports, waiting}
 use Rattle.stack_laws.proofs.Polls.Reached.{IsNoPiece, no_piece}
 use Rattle.stack_laws.proofs.Polls.Readers.{brings, packet_read}
 use Rattle.stack_laws.proofs.Polls.Segments.{as_written, can_be_read, named_same, place_same}
-use Rattle.stack_laws.proofs.Polls.Stays.{astray, for_us, heard, nobody, position_is, sender}
+use Rattle.stack_laws.proofs.Polls.Stays.{astray, for_us, heard, position_is, sender}
 
 clash : {X : Type 0} → true ≡ false → X
 clash {X} e = absurd cc
