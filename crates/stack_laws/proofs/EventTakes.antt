@@ -170,6 +170,22 @@ module _ (side : Side) (i0 : InnerValue) (t : ℤ) (net : Net) (steps : List Ste
   moved_there [] frame rest all short = all.0 short
   moved_there (f ∷ before) frame rest all short = moved_there before frame rest all.1 short
 
+  -- the move that comes next, among all
+  comes_then : (place : ℕ) (ip read : IpRepr) (header : TcpHeader) (bytes : List ℕ) (before behind : List Step) → steps ≡ before ++ behind →
+      source_of read ≡ source_of ip → destination_of read ≡ destination_of ip → ComesNext side i0 t net place read header bytes behind →
+      ComesBy side place t ip header bytes steps
+  comes_then place ip read header bytes before behind are source destination next = record {
+    before = before;
+    cx = next.cx;
+    v = next.v;
+    read = read;
+    behind = next.more;
+    are = are ∙ ap (λ (xs : List Step). before ++ xs) next.are;
+    moment = next.moment;
+    source = source;
+    destination = destination;
+  }
+
   module _ (i : InnerValue) (ident : ℕ) (v : TcpValue) (ip : IpRepr) (header : TcpHeader) (bytes : List ℕ) (to : HardwareAddress)
       (wide : HasWidths (with_ident i ident)) (offers : OffersSegment i v ip header bytes) (can : CanLeave i to (packet_of ip (Segment header bytes)))
       (formed : IsWellFormed (packet_of ip (Segment header bytes))) (reads : CanRead i to (reader_of i0)) (for_host : IsForHost i0 to ip) (padding : List ℕ)
@@ -238,18 +254,7 @@ module _ (side : Side) (i0 : InnerValue) (t : ℤ) (net : Net) (steps : List Ste
         ∙ found ip header (party (run net c.before) side) c.places c.sockets place is in
         let named : names_nobody i0 read ≡ false =
         named_same read ip (same_source then_host ip) (same_destination then_host ip) header i0 ∙ for_host.named in
-        let next : ComesNext side i0 t net place read header bytes c.behind = c.comes place named there in
-        record {
-          before = c.before;
-          cx = next.cx;
-          v = next.v;
-          read = read;
-          behind = next.more;
-          are = c.are ∙ ap (λ (xs : List Step). c.before ++ xs) next.are;
-          moment = next.moment;
-          source = same_source then_host ip;
-          destination = same_destination then_host ip;
-        }
+        comes_then place ip read header bytes c.before c.behind c.are (same_source then_host ip) (same_destination then_host ip) (c.comes place named there)
 
 -- THE FRAME IS TAKEN
 
