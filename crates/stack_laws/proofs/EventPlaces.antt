@@ -1,15 +1,14 @@
 -- In a poll a TCP socket keeps its connection that has it behind the poll, and no other socket of its host has it.
 use Rattle.std.proofs.Common.{◌≡◌, ◌≢◌, ◌⊎◌, inl, inr, ℕ, ◌<◌, ◌≤◌, ◌==◌, ◌&&◌, not, Bool, true, false, ℤ, List, [], ◌∷◌, ◌++◌, length, Option, Some, None, IsTrue}
 use Rattle.std.proofs.Common.{refl, sym, ap, ◌∙◌, subst, arith}
-use Rattle.std.specs.Prelude.{slice_index_or, slice_set}
+use Rattle.std.specs.Prelude.{slice_index_or}
 use Rattle.std.specs.List.{AllByRecursion}
 use Rattle.std.proofs.lemmas.Bool.{cases_lt}
 use Rattle.std.proofs.lemmas.Bool.Decides.{eqb_tells}
-use Rattle.std.proofs.lemmas.List.{get_or-set_same, get_or_past, length-set}
+use Rattle.std.proofs.lemmas.List.{get_or-set_same, get_or_past}
 use Rattle.ip_packet.specs.declared.ip.repr.IpRepr.{IpRepr}
 use Rattle.ip_wire.specs.HardwareAddress.{HardwareAddress}
 use Rattle.ip_wire.specs.TcpHeader.{TcpHeader}
-use Rattle.net_base.specs.Medium.TheVariants as Medium
 use Rattle.sockets.specs.SocketValue as Datagrams
 use Rattle.sockets.specs.Udp as Udps
 use Rattle.sockets.specs.Udp.{UdpValue}
@@ -46,7 +45,7 @@ use Rattle.lan.specs.Worlds.AtLink.Runs.{Leads, Starts}
 use Rattle.lan.specs.Worlds.AtLink.Safe.{first_port}
 use Rattle.lan.specs.Worlds.AtLink.Station.{Stations, station}
 use Rattle.lan.specs.Worlds.AtLink.Tables.{Places}
-use Rattle.lan.specs.Worlds.Moves.Follows.{IsNetOf, sockets_of}
+use Rattle.lan.specs.Worlds.Moves.Follows.{IsNetOf}
 use Rattle.lan.specs.Worlds.Moves.Joined.{first_net}
 use Rattle.lan.proofs.Worlds.AtLink.Extended.{run-append}
 use Rattle.lan.proofs.Worlds.AtLink.Kept.{KeptFrom}

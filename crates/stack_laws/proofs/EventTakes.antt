@@ -3,7 +3,6 @@ use Rattle.std.proofs.Common.{◌≡◌, ℕ, zero, suc, ◌+◌, ◌<◌, ◌�
 use Rattle.std.proofs.Common.{refl, sym, ap, ◌∙◌, subst, arith, length-append}
 use Rattle.std.specs.Prelude.{slice_index_or}
 use Rattle.net_base.specs.Device.{Move, Took, Empty, Allowed, Emitted, Denied}
-use Rattle.net_base.specs.ChecksumCapabilities.{ChecksumCapabilities}
 use Rattle.ip_address.specs.declared.ip.IpProtocol.TheVariants as Protocol
 use Rattle.ip_packet.specs.Ip.{destination_of, source_of}
 use Rattle.ip_packet.specs.declared.ip.repr.IpRepr.{IpRepr}
@@ -27,7 +26,6 @@ use Rattle.interface_ingress.specs.WellFormed.{IsWellFormed}
 use Rattle.interface_ingress.proofs.OneContent.{one-carried-content, one-content}
 use Rattle.interface_tables.specs.Inner.{InnerValue, is_for_us}
 use Rattle.interface_tables.specs.Reassembly.{or_else}
-use Rattle.interface_egress.specs.Departing.{HasSettingsOf}
 use Rattle.interface_egress.specs.GoesOut.{numbered}
 use Rattle.interface_egress.specs.Set.{free}
 use Rattle.interface_egress.specs.declared.socket_set.Item.{Item}
@@ -49,7 +47,7 @@ use Rattle.lan.specs.Worlds.AtLink.Parties.{Net, Party, party, socket_at}
 use Rattle.lan.specs.Worlds.AtLink.Port.{LinkEnd}
 use Rattle.lan.specs.Worlds.AtLink.Runs.{Leads, Starts}
 use Rattle.lan.specs.Worlds.AtLink.Safe.{seen}
-use Rattle.lan.specs.Worlds.AtLink.Station.{StationValue, Stations, at_port, station}
+use Rattle.lan.specs.Worlds.AtLink.Station.{Stations, at_port, station}
 use Rattle.lan.specs.Worlds.AtLink.Steps.{Happens, PollsAt}
 use Rattle.lan.specs.Worlds.Moves.Follows.{seen_place, sockets_of}
 use Rattle.lan.specs.Worlds.Moves.Taken.{AreMoved, BringsIn, ComesIn, ComesNext, HandsIn, IfSegment, IsMoved}
@@ -70,7 +68,7 @@ use Rattle.stack_laws.proofs.Polls.Inboxes.{Frames, leave, ports, waiting}
 use Rattle.stack_laws.proofs.Polls.Reached.{IsNoPiece, no_piece}
 use Rattle.stack_laws.proofs.Polls.Readers.{brings, packet_read}
 use Rattle.stack_laws.proofs.Polls.Segments.{as_written, can_be_read, named_same, place_same}
-use Rattle.stack_laws.proofs.Polls.Stays.{astray, for_us, heard, nobody, position_is, sender}
+use Rattle.stack_laws.proofs.Polls.Stays.{astray, for_us, heard, position_is, sender}
 
 clash : {X : Type 0} → true ≡ false → X
 clash {X} e = absurd cc
@@ -172,6 +170,22 @@ module _ (side : Side) (i0 : InnerValue) (t : ℤ) (net : Net) (steps : List Ste
   moved_there [] frame rest all short = all.0 short
   moved_there (f ∷ before) frame rest all short = moved_there before frame rest all.1 short
 
+  -- the move that comes next, among all
+  comes_then : (place : ℕ) (ip read : IpRepr) (header : TcpHeader) (bytes : List ℕ) (before behind : List Step) → steps ≡ before ++ behind →
+      source_of read ≡ source_of ip → destination_of read ≡ destination_of ip → ComesNext side i0 t net place read header bytes behind →
+      ComesBy side place t ip header bytes steps
+  comes_then place ip read header bytes before behind are source destination next = record {
+    before = before;
+    cx = next.cx;
+    v = next.v;
+    read = read;
+    behind = next.more;
+    are = are ∙ ap (λ (xs : List Step). before ++ xs) next.are;
+    moment = next.moment;
+    source = source;
+    destination = destination;
+  }
+
   module _ (i : InnerValue) (ident : ℕ) (v : TcpValue) (ip : IpRepr) (header : TcpHeader) (bytes : List ℕ) (to : HardwareAddress)
       (wide : HasWidths (with_ident i ident)) (offers : OffersSegment i v ip header bytes) (can : CanLeave i to (packet_of ip (Segment header bytes)))
       (formed : IsWellFormed (packet_of ip (Segment header bytes))) (reads : CanRead i to (reader_of i0)) (for_host : IsForHost i0 to ip) (padding : List ℕ)
@@ -240,18 +254,7 @@ module _ (side : Side) (i0 : InnerValue) (t : ℤ) (net : Net) (steps : List Ste
         ∙ found ip header (party (run net c.before) side) c.places c.sockets place is in
         let named : names_nobody i0 read ≡ false =
         named_same read ip (same_source then_host ip) (same_destination then_host ip) header i0 ∙ for_host.named in
-        let next : ComesNext side i0 t net place read header bytes c.behind = c.comes place named there in
-        record {
-          before = c.before;
-          cx = next.cx;
-          v = next.v;
-          read = read;
-          behind = next.more;
-          are = c.are ∙ ap (λ (xs : List Step). c.before ++ xs) next.are;
-          moment = next.moment;
-          source = same_source then_host ip;
-          destination = same_destination then_host ip;
-        }
+        comes_then place ip read header bytes c.before c.behind c.are (same_source then_host ip) (same_destination then_host ip) (c.comes place named there)
 
 -- THE FRAME IS TAKEN
 
