@@ -1,8 +1,5 @@
 -- Acknowledgements that come at the right edge of a window.
 pub mod Sent
-pub mod Owing
-pub mod Idle
-pub mod Begins
 pub mod Comes
 pub mod Edge
 pub mod Whole
