@@ -53,6 +53,14 @@ pub mod SomeRooms
 pub mod SomeHosts
 pub mod SomeRow
 pub mod SomeSegments
+pub mod SomeCalls
+pub mod SomeSyns
+pub mod SomeDials
+pub mod SomeAnswers
+pub mod SomeOpens
+pub mod SomeOpened
+pub mod SomeStarts
+pub mod SomeWorld
 pub mod NextAtPorts
 pub mod SomeNeighbors
 pub mod SomeExchange

@@ -1,11 +1,11 @@
 //! What is at rest has arrived.
 
-ghost use Rattle.std.specs.Prelude.{◌≡◌, ℕ, ℤ, List};
+ghost use Rattle.std.specs.Prelude.{◌≡◌, ℕ, ℤ, pos, List};
 ghost use Rattle.interface_ingress.specs.PollAt.TheVariants as At;
 ghost use Rattle.tcp_model.specs.Due.{poll_of};
 ghost use Rattle.tcp_model.specs.Value.{TcpValue};
 ghost use Rattle.lan.specs.declared.at_link.history.event.Side.{Side};
-ghost use Rattle.lan.specs.declared.at_link.history.event.Side.TheVariants.{A};
+ghost use Rattle.lan.specs.declared.at_link.history.event.Side.TheVariants.{A, B};
 ghost use Rattle.lan.specs.Worlds.AtLink.Fresh.{IsFreshWorld};
 ghost use Rattle.lan.specs.Worlds.AtLink.History.{Entry};
 ghost use Rattle.lan.specs.Worlds.AtLink.Kinds.{other};
@@ -21,6 +21,8 @@ ghost use Rattle.lan.specs.Worlds.Settling.{AreAtRest};
 ghost use Rattle.lan.specs.Worlds.Still.{StillRun, seats_of};
 ghost use Rattle.stack_laws.specs.Progress.Partners.{HoldText};
 ghost use Rattle.stack_laws.specs.Progress.Settled.{HasArrived, IsConnected};
+ghost use Rattle.stack_laws.specs.Progress.SettledNumerals as Numerals;
+ghost use Rattle.stack_laws.specs.Progress.SettledNumerals.{news, opened, place};
 
 /// Law: where both hosts of a world were asked last, and neither wants to be polled any more, no TCP socket of theirs wants to be asked, but for what
 /// comes.
@@ -58,3 +60,19 @@ pub fn what_has_settled_has_arrived()
     sockets_of_hosts_at_rest_want_nothing();
     what_waits_for_nothing_has_arrived();
 }
+
+/// Law: there is a world that settles, and meets all that this asks for: two hosts with keys on a medium of bare packets. B listens, A connects, each segment
+/// is handed over as it goes, and at the moment 0 the connection is open and neither wants to be polled any more.
+pub fn a_world_that_settles_meets_what_is_asked()
+    ensures fresh { IsFreshWorld Numerals.starts }
+    ensures typed { AreTyped Numerals.history }
+    ensures still { StillRun Numerals.starts Numerals.history Numerals.hosts }
+    ensures new { AreNew (seats_of Numerals.starts place) news (first_net Numerals.starts) }
+    ensures keys { HaveKeys (seats_of Numerals.starts place) }
+    ensures text { HoldText (seats_of Numerals.starts place) }
+    ensures partners { ArePartners Numerals.history A (place A) (place B) }
+    ensures caller { IsTcpAt (net_of (record { hosts = Numerals.hosts; starts = Numerals.starts; history = Numerals.history })) A (place A) (opened A) }
+    ensures listener { IsTcpAt (net_of (record { hosts = Numerals.hosts; starts = Numerals.starts; history = Numerals.history })) B (place B) (opened B) }
+    ensures connected { (side : Side) → IsConnected (opened side) }
+    ensures rest { AreAtRest (pos 0) Numerals.history }
+{}
