@@ -54,6 +54,7 @@ pub mod SomeHosts
 pub mod SomeRow
 pub mod SomeSegments
 pub mod SomeCalls
+pub mod SomeStations
 pub mod SomeSyns
 pub mod SomeDials
 pub mod SomeAnswers

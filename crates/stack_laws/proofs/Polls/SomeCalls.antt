@@ -1,6 +1,6 @@
 -- First numbers by keys, on numerals.
 use Rattle.std.proofs.Common.{◌≡◌, refl}
-use Rattle.std.specs.Prelude.{pos, Some}
+use Rattle.std.specs.Prelude.{pos}
 use Rattle.tcp_control.specs.FirstNumbers.{keyed_number}
 use Rattle.tcp_control.specs.declared.endpoints.EndpointPair.{EndpointPair}
 use Rattle.tcp_model.specs.AddressPair.TheVariants as Pair

@@ -1,25 +1,17 @@
 -- The poll in which A sends its SYN, on numerals.
-use Rattle.std.proofs.Common.{inl, inr, true, false, [], ◌∷◌, Some, None, refl}
+use Rattle.std.proofs.Common.{inl, inr, true, false, [], Some, None, refl}
 use Rattle.ip_address.specs.Address.{v4_number}
-use Rattle.ip_wire.specs.HardwareAddress.TheVariants as Hardware
 use Rattle.lan_base.specs.Port.{PortValue, PortMove}
 use Rattle.lan.specs.Worlds.AtLink.Station.{at_port}
 use Rattle.lan.specs.Worlds.AtLink.Steps.{PollsAt}
-use Rattle.lan.specs.declared.at_link.history.event.Side.TheVariants.{A, B}
-use Rattle.interface_ingress.specs.Arrives.{arrived}
-use Rattle.interface_ingress.specs.Incoming.{IsContent}
+use Rattle.lan.specs.declared.at_link.history.event.Side.TheVariants.{A}
 use Rattle.interface_ingress.specs.Offer.TheVariants as Offer
-use Rattle.interface_ingress.specs.Packet.{PacketValue, Segment, payload_written}
 use Rattle.interface_ingress.specs.Socket.TheVariants as Kind
 use Rattle.interface_ingress.specs.Sockets.{Offers}
-use Rattle.interface_ingress.specs.Upper.{IsBrought}
-use Rattle.interface_tables.specs.Inner.{InnerValue, with_next_ident}
+use Rattle.interface_tables.specs.Inner.{with_next_ident}
 use Rattle.interface_tables.specs.PathMtu.{mtu_towards}
-use Rattle.interface_egress.specs.Departure.{Whole}
-use Rattle.interface_egress.specs.GoesOut.{numbered}
 use Rattle.interface_egress.specs.Set.{unmarked}
 use Rattle.interface_egress.specs.declared.way_out.Sent.TheVariants as Outcome
-use Rattle.interface.specs.Delivered.{read_of}
 use Rattle.interface.specs.Egress.{EgressStep, sending}
 use Rattle.interface.specs.Host as Host
 use Rattle.interface.specs.Ingress.{IngressStep}
@@ -28,11 +20,11 @@ use Rattle.interface.specs.Turn.{Leaves, PlaceTurns, SendsBy}
 use Rattle.interface.specs.declared.turn.Turned.TheVariants as Turn
 use Rattle.interface.specs.Pass.{passed}
 use Rattle.interface.specs.Polls.{Polls, begun}
-use Rattle.interface.specs.State.{State, state}
-use Rattle.stack_laws.specs.Progress.Delivered.{reader_of}
+use Rattle.interface.specs.State.{State}
 use Rattle.stack_laws.specs.Progress.Numerals.{port_behind}
 use Rattle.stack_laws.specs.Progress.Segments.{asked_by}
-use Rattle.stack_laws.specs.Progress.SettledNumerals.{called, calling_a, dialed, dialed_a, found, syn_frame}
+use Rattle.stack_laws.specs.Progress.SettledNumerals.{called, dialed, found, syn_frame}
+use Rattle.stack_laws.proofs.Polls.SomeStations.{calling_a, dialed_a}
 use Rattle.stack_laws.proofs.Polls.SomeHosts.{nobody}
 use Rattle.stack_laws.proofs.Polls.SomeSyns.{item, now, port_of, state_of, syn_formed, syn_packet}
 

@@ -18,25 +18,20 @@ use Rattle.interface_tables.specs.PathMtu.{mtu_towards}
 use Rattle.interface_egress.specs.Departure.{Whole}
 use Rattle.interface_egress.specs.GoesOut.{numbered}
 use Rattle.interface_egress.specs.Set.{unmarked}
-use Rattle.interface_egress.specs.declared.way_out.Sent.TheVariants as Outcome
 use Rattle.interface.specs.Delivered.{read_of}
 use Rattle.interface.specs.Egress.{EgressStep, sending}
-use Rattle.interface.specs.Host as Host
 use Rattle.interface.specs.Ingress.{IngressStep}
 use Rattle.interface.specs.Remote.{context_for}
-use Rattle.interface.specs.Turn.{Leaves, PlaceTurns, SendsBy}
-use Rattle.interface.specs.declared.turn.Turned.TheVariants as Turn
 use Rattle.interface.specs.Pass.{passed}
 use Rattle.interface.specs.Polls.{Polls, begun}
 use Rattle.interface.specs.State.{State, state}
 use Rattle.stack_laws.specs.Progress.Delivered.{reader_of}
-use Rattle.stack_laws.specs.Progress.Numerals.{port_behind}
-use Rattle.stack_laws.specs.Progress.Segments.{asked_by}
 use Rattle.interface_tables.specs.Inner.{context_of}
 use Rattle.interface_egress.specs.GoesOut.{numbered_header}
 use Rattle.tcp_model.specs.Arrival.{arrives}
 use Rattle.tcp_model.specs.Value.{TcpValue}
-use Rattle.stack_laws.specs.Progress.SettledNumerals.{ack, ack_frame, ack_to_b, answered, answered_b, called_back, found, open_b, opened}
+use Rattle.stack_laws.specs.Progress.SettledNumerals.{ack, ack_frame, ack_to_b, answered, called_back, found, open_b, opened}
+use Rattle.stack_laws.proofs.Polls.SomeStations.{answered_b}
 use Rattle.stack_laws.proofs.Polls.Readers.{packet_read}
 use Rattle.stack_laws.proofs.Polls.Segments.{carries}
 use Rattle.stack_laws.proofs.Polls.SomeHosts.{nobody}

@@ -1,9 +1,8 @@
 -- What is sent as a connection opens, on numerals.
-use Rattle.std.proofs.Common.{true, [], ◌∷◌, Some, None, refl, ◌≢◌}
+use Rattle.std.proofs.Common.{[], refl}
 use Rattle.std.specs.Prelude.{ℤ, pos}
 use Rattle.std.proofs.lemmas.Bool.{leb-true, ltb-true}
 use Rattle.ip_address.specs.Address.{v4_number}
-use Rattle.ip_wire.specs.HardwareAddress.{HardwareAddress}
 use Rattle.ip_wire.specs.HardwareAddress.TheVariants as Hardware
 use Rattle.lan_base.specs.Port.{PortValue}
 use Rattle.lan.specs.Worlds.AtLink.Station.{StationValue, at_port}
@@ -14,14 +13,14 @@ use Rattle.interface_ingress.specs.Packet.{PacketValue, Segment, packet_of}
 use Rattle.interface_ingress.specs.Sent.{AreSealed}
 use Rattle.interface_ingress.specs.Socket.{Socket}
 use Rattle.interface_ingress.specs.Socket.TheVariants as Kind
-use Rattle.interface_tables.specs.Inner.{InnerValue, with_next_ident}
+use Rattle.interface_tables.specs.Inner.{with_next_ident}
 use Rattle.interface_tables.specs.PathMtu.{mtu_towards}
 use Rattle.interface_egress.specs.declared.socket_set.Item.{Item}
 use Rattle.interface.specs.State.{State}
 use Rattle.interface.specs.Taken.{CanRead, HasWidths}
 use Rattle.stack_laws.specs.Progress.Delivered.{reader_of}
 use Rattle.stack_laws.specs.Progress.Segments.{CanLeave, OffersSegment}
-use Rattle.stack_laws.specs.Progress.SettledNumerals.{ack, ack_to_b, answering, called, called_back, first_host, found, polled, syn, syn_ack, syn_to}
+use Rattle.stack_laws.specs.Progress.SettledNumerals.{ack, ack_to_b, answering, called, called_back, first_host, found, syn, syn_ack, syn_to}
 use Rattle.stack_laws.proofs.Polls.SomeHosts.{is_address, nobody}
 
 abbrev pub now : ℤ
@@ -155,12 +154,12 @@ syn_read = record { medium = record { from = tt; receiver = tt }; sealed = seale
   sealed : AreSealed (found A).checksums (first_host B).inner.checksums
   sealed = record { ipv4 = λ is. is; icmpv4 = λ is. is; icmpv6 = λ is. is; udp = λ is. is; tcp = λ is. is }
 
-pub syn_ack_read : CanRead (found B) Hardware.Ip (reader_of (polled A (with_next_ident (found A))).inner)
+pub syn_ack_read : CanRead (found B) Hardware.Ip (reader_of (with_next_ident (found A)))
 syn_ack_read = record { medium = record { from = tt; receiver = tt }; sealed = sealed } where
-  sealed : AreSealed (found B).checksums (polled A (with_next_ident (found A))).inner.checksums
+  sealed : AreSealed (found B).checksums (with_next_ident (found A)).checksums
   sealed = record { ipv4 = λ is. is; icmpv4 = λ is. is; icmpv6 = λ is. is; udp = λ is. is; tcp = λ is. is }
 
-pub ack_read : CanRead (with_next_ident (found A)) Hardware.Ip (reader_of (polled B (with_next_ident (found B))).inner)
+pub ack_read : CanRead (with_next_ident (found A)) Hardware.Ip (reader_of (with_next_ident (found B)))
 ack_read = record { medium = record { from = tt; receiver = tt }; sealed = sealed } where
-  sealed : AreSealed (with_next_ident (found A)).checksums (polled B (with_next_ident (found B))).inner.checksums
+  sealed : AreSealed (with_next_ident (found A)).checksums (with_next_ident (found B)).checksums
   sealed = record { ipv4 = λ is. is; icmpv4 = λ is. is; icmpv6 = λ is. is; udp = λ is. is; tcp = λ is. is }

@@ -5,7 +5,7 @@ use Rattle.std.specs.List.{count_by}
 use Rattle.std.proofs.lemmas.List.{append-nil}
 use Rattle.ip_address.specs.Address.{v4_number}
 use Rattle.net_base.specs.Medium.TheVariants as Medium
-use Rattle.interface_tables.specs.Inner.{InnerValue, with_next_ident}
+use Rattle.interface_tables.specs.Inner.{with_next_ident}
 use Rattle.interface_tables.specs.PathMtu.{end_towards, mtu_towards}
 use Rattle.lan.specs.declared.at_link.history.answer.Answer.TheVariants as To
 use Rattle.lan.specs.declared.at_link.history.answer.Refused.TheVariants as For
@@ -22,10 +22,10 @@ use Rattle.lan.specs.Worlds.Events.{AreTyped}
 use Rattle.lan.specs.Worlds.Settling.{AreAtRest}
 use Rattle.lan.specs.Worlds.Still.{IsStill, StillRun}
 use Rattle.stack_laws.specs.Progress.Settled.{IsConnected}
-use Rattle.stack_laws.specs.Progress.SettledNumerals.{a_asked, ack_brought, ack_frame, ack_sent, answer_brought, answered_b, both_open, calling_a, counts, dialed_a, entry}
-use Rattle.stack_laws.specs.Progress.SettledNumerals.{first_host, found, history, hosts, listening_b, open_a, open_b, opened, place, starts, station_with}
-use Rattle.stack_laws.specs.Progress.SettledNumerals.{syn_ack_frame, syn_answered, syn_brought, syn_frame, syn_sent, told_to_call, told_to_listen}
-use Rattle.stack_laws.specs.Worlds.Streams.{fresh}
+use Rattle.stack_laws.specs.Progress.SettledNumerals.{a_asked, ack_brought, ack_frame, ack_sent, answer_brought, both_open, counts, entry, first_host, found}
+use Rattle.stack_laws.specs.Progress.SettledNumerals.{history, hosts, open_a, open_b, opened, place, starts, syn_ack_frame, syn_answered, syn_brought}
+use Rattle.stack_laws.specs.Progress.SettledNumerals.{syn_frame, syn_sent, told_to_call, told_to_listen}
+use Rattle.stack_laws.proofs.Polls.SomeStations.{answered_b, calling_a, dialed_a, fresh_a, fresh_b, listening_b}
 use Rattle.stack_laws.proofs.Polls.SomeAnswers.{answers}
 use Rattle.stack_laws.proofs.Polls.SomeDials.{dials}
 use Rattle.stack_laws.proofs.Polls.SomeOpened.{is_opened}
@@ -53,12 +53,6 @@ b_last : IsStill (first_host B).inner (with_next_ident (found B))
 b_last = stays_b (with_next_ident (found B)).ident false
 
 -- THE CALLS
-
-abbrev fresh_a : StationValue
-fresh_a = station_with (first_host A) fresh [] []
-
-abbrev fresh_b : StationValue
-fresh_b = station_with (first_host B) fresh [] []
 
 at_first : StillRun starts [] (both fresh_a fresh_b)
 at_first = (refl, both_stay fresh_a fresh_b a_first b_first)

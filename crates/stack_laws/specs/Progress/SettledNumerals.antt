@@ -1,6 +1,6 @@
 -- A world on numerals that settles, on a medium of bare packets: A has 192.168.1.1, B has 192.168.1.2, and each has a key for its first numbers, and one
 -- TCP socket with room for 8 bytes each way. B listens and A connects; whatever a host sends is handed over, and the other is polled; all at the moment 0.
-use Rattle.std.specs.Prelude.{ℕ, ◌+◌, ◌-◌, ◌^◌, pos, true, false, List, [], ◌∷◌, length, replicate, Option, None, Some}
+use Rattle.std.specs.Prelude.{ℕ, ◌+◌, ◌-◌, ◌^◌, pos, true, false, List, [], ◌∷◌, length, replicate, None, Some}
 use Rattle.ip_wire.specs.IpProtocol.TheVariants as Protocol
 use Rattle.ip_wire.specs.HardwareAddress.TheVariants as Hardware
 use Rattle.ip_wire.specs.Options.{no_options}
@@ -8,16 +8,15 @@ use Rattle.ip_wire.specs.TcpControl.TheVariants as Bits
 use Rattle.ip_wire.specs.TcpHeader.{TcpHeader}
 use Rattle.ip_packet.specs.declared.ip.repr.IpRepr.{IpRepr}
 use Rattle.net_base.specs.Medium.TheVariants as Medium
-use Rattle.net_base.specs.Ring.{Ring, ring}
+use Rattle.net_base.specs.Ring.{ring}
 use Rattle.tcp_model.specs.Arrival.{arrives}
 use Rattle.tcp_model.specs.Blocks.{default_settings, fresh_block, fresh_receiver, fresh_sender, fresh_stamps}
 use Rattle.tcp_model.specs.Calls.{listen_after}
 use Rattle.tcp_model.specs.Settled.{settled}
-use Rattle.tcp_model.specs.State.{State}
 use Rattle.tcp_model.specs.State.TheVariants as In
 use Rattle.tcp_model.specs.Value.{TcpValue}
 use Rattle.lan_base.specs.Port.{unused_end}
-use Rattle.interface_ingress.specs.Packet.{PacketValue, Segment, packet_of}
+use Rattle.interface_ingress.specs.Packet.{Segment, packet_of}
 use Rattle.interface_ingress.specs.Socket.TheVariants as Kind
 use Rattle.interface_tables.specs.Inner.{InnerValue, at_moment, context_of, with_next_ident}
 use Rattle.interface_egress.specs.GoesOut.{numbered_header}
@@ -40,7 +39,7 @@ use Rattle.stack_laws.specs.Progress.Numerals.{longest_frame}
 use Rattle.stack_laws.specs.Progress.Queued.{frame_under}
 use Rattle.stack_laws.specs.Progress.Segments.{asked_by}
 use Rattle.stack_laws.specs.Worlds.Hosts.{endpoint, packet_to}
-use Rattle.stack_laws.specs.Worlds.Open.{idle, names, number}
+use Rattle.stack_laws.specs.Worlds.Open.{names, number}
 use Rattle.stack_laws.specs.Worlds.Streams.{fresh}
 
 -- THE HOSTS, as a script starts them, each with a key
@@ -201,22 +200,9 @@ station_with host v waiting sent = record {
   link = record (unused_end (device_of Medium.Ip longest_frame)) { waiting = waiting; sent = sent; room = 2 ^ 64 - 1 - length sent };
 }
 
--- A as it calls, as it has sent its SYN, and as it has acknowledged that of B
-abbrev pub calling_a : StationValue
-calling_a = station_with (first_host A) called [] []
-
-abbrev pub dialed_a : List (List ℕ) → StationValue
-dialed_a waiting = station_with (polled A (with_next_ident (found A))) dialed waiting (syn_frame ∷ [])
-
+-- A as it has acknowledged the SYN of B, and B as its SYN is acknowledged
 abbrev pub open_a : StationValue
 open_a = station_with (polled A (with_next_ident (with_next_ident (found A)))) (opened A) [] (syn_frame ∷ ack_frame ∷ [])
-
--- B as it listens, as it has answered by its SYN, and as that is acknowledged
-abbrev pub listening_b : List (List ℕ) → StationValue
-listening_b waiting = station_with (first_host B) listening waiting []
-
-abbrev pub answered_b : List (List ℕ) → StationValue
-answered_b waiting = station_with (polled B (with_next_ident (found B))) answered waiting (syn_ack_frame ∷ [])
 
 abbrev pub open_b : StationValue
 open_b = station_with (polled B (with_next_ident (found B))) (opened B) [] (syn_ack_frame ∷ [])
