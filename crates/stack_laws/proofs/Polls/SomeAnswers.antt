@@ -32,8 +32,8 @@ use Rattle.interface.specs.State.{State, state}
 use Rattle.stack_laws.specs.Progress.Delivered.{reader_of}
 use Rattle.stack_laws.specs.Progress.Numerals.{port_behind}
 use Rattle.stack_laws.specs.Progress.Segments.{asked_by}
-use Rattle.stack_laws.specs.Progress.SettledNumerals.{answered, answering, called, found, listening, syn, syn_ack_frame, syn_frame, syn_to}
-use Rattle.stack_laws.proofs.Polls.SomeStations.{answered_b, listening_b}
+use Rattle.stack_laws.specs.Progress.SettledNumerals.{found, syn, syn_ack_frame, syn_frame, syn_to}
+use Rattle.stack_laws.proofs.Polls.SomeStations.{answered, answered_b, answering, called, listening, listening_b}
 use Rattle.stack_laws.proofs.Polls.Readers.{packet_read}
 use Rattle.stack_laws.proofs.Polls.Segments.{carries}
 use Rattle.stack_laws.proofs.Polls.SomeHosts.{nobody}

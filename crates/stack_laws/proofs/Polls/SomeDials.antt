@@ -23,8 +23,8 @@ use Rattle.interface.specs.Polls.{Polls, begun}
 use Rattle.interface.specs.State.{State}
 use Rattle.stack_laws.specs.Progress.Numerals.{port_behind}
 use Rattle.stack_laws.specs.Progress.Segments.{asked_by}
-use Rattle.stack_laws.specs.Progress.SettledNumerals.{called, dialed, found, syn_frame}
-use Rattle.stack_laws.proofs.Polls.SomeStations.{calling_a, dialed_a}
+use Rattle.stack_laws.specs.Progress.SettledNumerals.{found, syn_frame}
+use Rattle.stack_laws.proofs.Polls.SomeStations.{called, calling_a, dialed, dialed_a}
 use Rattle.stack_laws.proofs.Polls.SomeHosts.{nobody}
 use Rattle.stack_laws.proofs.Polls.SomeSyns.{item, now, port_of, state_of, syn_formed, syn_packet}
 

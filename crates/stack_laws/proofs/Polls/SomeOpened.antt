@@ -30,19 +30,16 @@ use Rattle.interface_tables.specs.Inner.{context_of}
 use Rattle.interface_egress.specs.GoesOut.{numbered_header}
 use Rattle.tcp_model.specs.Arrival.{arrives}
 use Rattle.tcp_model.specs.Value.{TcpValue}
-use Rattle.stack_laws.specs.Progress.SettledNumerals.{ack, ack_frame, ack_to_b, answered, called_back, found, open_b, opened}
-use Rattle.stack_laws.proofs.Polls.SomeStations.{answered_b}
+use Rattle.stack_laws.specs.Progress.SettledNumerals.{ack, ack_frame, ack_to_b, b_first, found, opened}
+use Rattle.stack_laws.proofs.Polls.SomeStations.{answered, answered_b, called_back, open_b}
 use Rattle.stack_laws.proofs.Polls.Readers.{packet_read}
 use Rattle.stack_laws.proofs.Polls.Segments.{carries}
 use Rattle.stack_laws.proofs.Polls.SomeHosts.{nobody}
 use Rattle.stack_laws.proofs.Polls.SomeSyns.{ack_formed, ack_goes, ack_offered, ack_packet, ack_read, now, port_of, state_of, then_widths}
 
-abbrev own : InnerValue
-own = with_next_ident (found B)
-
--- the socket of B as the acknowledgement has come
-abbrev acknowledged : TcpValue
-acknowledged = (arrives (context_of own) answered (numbered_header (with_next_ident (found A)) ack_to_b) ack []).socket
+-- the socket as the segment has come
+abbrev came : TcpValue
+came = (arrives (context_of b_first) answered (numbered_header (with_next_ident (found A)) ack_to_b) ack []).socket
 
 abbrev awaiting : State PortValue
 awaiting = state_of (answered_b (ack_frame ∷ []))
@@ -51,10 +48,10 @@ abbrev begun_there : State PortValue
 begun_there = begun now (begun now awaiting)
 
 abbrev behind : State PortValue
-behind = state (port_of (answered_b [])) begun_there.host (unmarked (Kind.Tcp acknowledged) ∷ [])
+behind = state (port_of (answered_b [])) begun_there.host (unmarked (Kind.Tcp came) ∷ [])
 
 abbrev remote : InnerValue
-remote = with_next_ident (found A)
+remote = (with_next_ident (found A))
 
 abbrev numbered_packet : PacketValue
 numbered_packet = numbered remote ack_packet
@@ -89,9 +86,9 @@ step_in = (
 )
 
 abbrev rested : State PortValue
-rested = at_port behind.device open_b
+rested = at_port behind.device (open_b [])
 
-is_silent : Offers (context_for own (Kind.Tcp acknowledged)) (Kind.Tcp acknowledged) (Offer.Silent false) (Kind.Tcp (opened B))
+is_silent : Offers (context_for b_first (Kind.Tcp came)) (Kind.Tcp came) (Offer.Silent false) (Kind.Tcp (opened B))
 unfolding v4_number mtu_towards
 is_silent = (refl, refl)
 
@@ -116,5 +113,5 @@ rests = (
 polls : Polls PortMove now 1 awaiting true rested
 polls = (behind, true, inr (true, behind, step_in, (refl, refl)), inl (rests, refl))
 
-pub is_opened : PollsAt (answered_b (ack_frame ∷ [])) now 1 true open_b
+pub is_opened : PollsAt (answered_b (ack_frame ∷ [])) now 1 true (open_b [])
 is_opened = record { port = port_of (answered_b (ack_frame ∷ [])); port_after = behind.device; before = refl; after = refl; polls = polls; none_denied = refl }

@@ -32,8 +32,8 @@ use Rattle.interface.specs.State.{State, state}
 use Rattle.stack_laws.specs.Progress.Delivered.{reader_of}
 use Rattle.stack_laws.specs.Progress.Numerals.{port_behind}
 use Rattle.stack_laws.specs.Progress.Segments.{asked_by}
-use Rattle.stack_laws.specs.Progress.SettledNumerals.{ack_frame, answering, called_back, dialed, found, open_a, opened, syn_ack, syn_ack_frame, syn_to}
-use Rattle.stack_laws.proofs.Polls.SomeStations.{dialed_a}
+use Rattle.stack_laws.specs.Progress.SettledNumerals.{ack_frame, found, opened, syn_ack, syn_ack_frame, syn_to}
+use Rattle.stack_laws.proofs.Polls.SomeStations.{answering, called_back, dialed, dialed_a, open_a}
 use Rattle.stack_laws.proofs.Polls.Readers.{packet_read}
 use Rattle.stack_laws.proofs.Polls.Segments.{carries}
 use Rattle.stack_laws.proofs.Polls.SomeHosts.{nobody}

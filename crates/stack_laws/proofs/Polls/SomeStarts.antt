@@ -1,6 +1,6 @@
 -- Two hosts with keys, on numerals, to which nothing happened, and which stay.
 use Rattle.std.proofs.Common.{◌≡◌, ℕ, zero, suc, Bool, [], ◌∷◌, Some, refl, subst, arith}
-use Rattle.std.specs.Prelude.{pos}
+use Rattle.std.specs.Prelude.{ℤ, pos}
 use Rattle.std.proofs.lemmas.Bool.{ltb-true}
 use Rattle.std.proofs.lemmas.Int.{ints}
 use Rattle.std.proofs.lemmas.Option.{none-some}
@@ -16,7 +16,7 @@ use Rattle.lan.specs.Worlds.AtLink.Station.{StationValue}
 use Rattle.lan.specs.Worlds.Moves.Joined.{first_net}
 use Rattle.lan.specs.Worlds.Still.{AreStill, IsStill, seats_of}
 use Rattle.stack_laws.specs.Progress.Partners.{HoldText}
-use Rattle.stack_laws.specs.Progress.SettledNumerals.{first_host, key, news, place, start_of, starts}
+use Rattle.stack_laws.specs.Progress.SettledNumerals.{first_host, key, later, news, place, start_of, starts}
 use Rattle.stack_laws.specs.Worlds.Streams.{fresh}
 use Rattle.stack_laws.proofs.Runs.Fresh.{some_same}
 
@@ -68,16 +68,21 @@ pub hold_text : HoldText (seats_of starts place)
 hold_text A = ltb-true _ _ refl
 hold_text B = ltb-true _ _ refl
 
--- THEY STAY, whatever identification the next datagram of each has
+-- THEY STAY, whatever moment it is, and whatever identification the next datagram of each has
 
-at_first : IsMoment (pos 0)
+pub at_first : IsMoment (pos 0)
 at_first = (omega (arith, ints), omega (arith, ints))
 
-pub stays_a : (ident : ℕ) (is_new : Bool) → IsStill (first_host A).inner (record (first_host A).inner { ident = ident; fresh = is_new })
-stays_a ident is_new = record { moment = at_first; addresses = refl; any_ip = refl; outward = refl; paths = refl; errors = refl }
+pub at_later : IsMoment later
+at_later = (omega (arith, ints), omega (arith, ints))
 
-pub stays_b : (ident : ℕ) (is_new : Bool) → IsStill (first_host B).inner (record (first_host B).inner { ident = ident; fresh = is_new })
-stays_b ident is_new = record { moment = at_first; addresses = refl; any_ip = refl; outward = refl; paths = refl; errors = refl }
+pub stays_a : (t : ℤ) → IsMoment t → (ident : ℕ) (is_new : Bool)
+    → IsStill (first_host A).inner (record (first_host A).inner { moment = t; ident = ident; fresh = is_new })
+stays_a t moment ident is_new = record { moment = moment; addresses = refl; any_ip = refl; outward = refl; paths = refl; errors = refl }
+
+pub stays_b : (t : ℤ) → IsMoment t → (ident : ℕ) (is_new : Bool)
+    → IsStill (first_host B).inner (record (first_host B).inner { moment = t; ident = ident; fresh = is_new })
+stays_b t moment ident is_new = record { moment = moment; addresses = refl; any_ip = refl; outward = refl; paths = refl; errors = refl }
 
 pub both_stay : (a b : StationValue) → IsStill (first_host A).inner a.host.inner → IsStill (first_host B).inner b.host.inner
     → AreStill starts (record { a = a; b = b })

@@ -20,7 +20,8 @@ use Rattle.interface.specs.State.{State}
 use Rattle.interface.specs.Taken.{CanRead, HasWidths}
 use Rattle.stack_laws.specs.Progress.Delivered.{reader_of}
 use Rattle.stack_laws.specs.Progress.Segments.{CanLeave, OffersSegment}
-use Rattle.stack_laws.specs.Progress.SettledNumerals.{ack, ack_to_b, answering, called, called_back, first_host, found, syn, syn_ack, syn_to}
+use Rattle.stack_laws.specs.Progress.SettledNumerals.{ack, ack_to_b, first_host, found, syn, syn_ack, syn_to}
+use Rattle.stack_laws.proofs.Polls.SomeStations.{answering, called, called_back}
 use Rattle.stack_laws.proofs.Polls.SomeHosts.{is_address, nobody}
 
 abbrev pub now : ℤ

@@ -1,6 +1,6 @@
 //! What is at rest has arrived.
 
-ghost use Rattle.std.specs.Prelude.{◌≡◌, ℕ, ℤ, pos, List};
+ghost use Rattle.std.specs.Prelude.{◌≡◌, ℕ, ℤ, List};
 ghost use Rattle.interface_ingress.specs.PollAt.TheVariants as At;
 ghost use Rattle.tcp_model.specs.Due.{poll_of};
 ghost use Rattle.tcp_model.specs.Value.{TcpValue};
@@ -22,7 +22,8 @@ ghost use Rattle.lan.specs.Worlds.Still.{StillRun, seats_of};
 ghost use Rattle.stack_laws.specs.Progress.Partners.{HoldText};
 ghost use Rattle.stack_laws.specs.Progress.Settled.{HasArrived, IsConnected};
 ghost use Rattle.stack_laws.specs.Progress.SettledNumerals as Numerals;
-ghost use Rattle.stack_laws.specs.Progress.SettledNumerals.{news, opened, place};
+ghost use Rattle.stack_laws.specs.Progress.SettledNumerals.{later, news, place, through};
+ghost use Rattle.stack_laws.specs.Worlds.Hosts.{text};
 
 /// Law: where both hosts of a world were asked last, and neither wants to be polled any more, no TCP socket of theirs wants to be asked, but for what
 /// comes.
@@ -61,8 +62,8 @@ pub fn what_has_settled_has_arrived()
     what_waits_for_nothing_has_arrived();
 }
 
-/// Law: there is a world that settles, and meets all that this asks for: two hosts with keys on a medium of bare packets. B listens, A connects, each segment
-/// is handed over as it goes, and at the moment 0 the connection is open and neither wants to be polled any more.
+/// Law: there is a world that settles, and meets all that this asks for, of both sides: two hosts with keys on a medium of bare packets. B listens, A connects
+/// and then writes abc, each segment is handed over as it goes, and ten milliseconds later neither wants to be polled any more: abc waits at B to be read.
 pub fn a_world_that_settles_meets_what_is_asked()
     ensures fresh { IsFreshWorld Numerals.starts }
     ensures typed { AreTyped Numerals.history }
@@ -71,8 +72,9 @@ pub fn a_world_that_settles_meets_what_is_asked()
     ensures keys { HaveKeys (seats_of Numerals.starts place) }
     ensures text { HoldText (seats_of Numerals.starts place) }
     ensures partners { ArePartners Numerals.history A (place A) (place B) }
-    ensures caller { IsTcpAt (net_of (record { hosts = Numerals.hosts; starts = Numerals.starts; history = Numerals.history })) A (place A) (opened A) }
-    ensures listener { IsTcpAt (net_of (record { hosts = Numerals.hosts; starts = Numerals.starts; history = Numerals.history })) B (place B) (opened B) }
-    ensures connected { (side : Side) → IsConnected (opened side) }
-    ensures rest { AreAtRest (pos 0) Numerals.history }
+    ensures caller { IsTcpAt (net_of (record { hosts = Numerals.hosts; starts = Numerals.starts; history = Numerals.history })) A (place A) (through A) }
+    ensures listener { IsTcpAt (net_of (record { hosts = Numerals.hosts; starts = Numerals.starts; history = Numerals.history })) B (place B) (through B) }
+    ensures connected { (side : Side) → IsConnected (through side) }
+    ensures rest { AreAtRest later Numerals.history }
+    ensures arrived { (through B).received.waiting ≡ text }
 {}

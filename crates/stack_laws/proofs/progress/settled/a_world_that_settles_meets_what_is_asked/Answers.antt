@@ -1,6 +1,5 @@
 use Rattle.stack_laws.proofs.Polls.SomeStarts.{are_new, have_keys, hold_text, is_fresh}
-use Rattle.stack_laws.proofs.Polls.SomeCalls.{first_of_a, first_of_b}
-use Rattle.stack_laws.proofs.Polls.SomeWorld.{are_at_rest, are_partners, are_typed, connected, is_caller, is_listener, stays}
+use Rattle.stack_laws.proofs.Polls.SomeWorld.{are_at_rest, are_partners, are_typed, connected, is_caller, is_listener, stays, waits_there}
 use Rattle.stack_laws.proofs.progress.settled.a_world_that_settles_meets_what_is_asked.Goals as goal
 
 pub returns-clause-fresh : goal.returns-clause-fresh
@@ -35,3 +34,6 @@ returns-clause-connected c = connected
 
 pub returns-clause-rest : goal.returns-clause-rest
 returns-clause-rest c = are_at_rest
+
+pub returns-clause-arrived : goal.returns-clause-arrived
+returns-clause-arrived c = waits_there
