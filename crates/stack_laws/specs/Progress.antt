@@ -18,6 +18,7 @@ pub mod Served
 pub mod Numerals
 pub mod InARow
 pub mod SegmentNumerals
+pub mod SettledNumerals
 pub mod OnEthernet
 pub mod Partners
 pub mod Moving

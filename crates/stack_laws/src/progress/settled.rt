@@ -5,7 +5,7 @@ ghost use Rattle.interface_ingress.specs.PollAt.TheVariants as At;
 ghost use Rattle.tcp_model.specs.Due.{poll_of};
 ghost use Rattle.tcp_model.specs.Value.{TcpValue};
 ghost use Rattle.lan.specs.declared.at_link.history.event.Side.{Side};
-ghost use Rattle.lan.specs.declared.at_link.history.event.Side.TheVariants.{A};
+ghost use Rattle.lan.specs.declared.at_link.history.event.Side.TheVariants.{A, B};
 ghost use Rattle.lan.specs.Worlds.AtLink.Fresh.{IsFreshWorld};
 ghost use Rattle.lan.specs.Worlds.AtLink.History.{Entry};
 ghost use Rattle.lan.specs.Worlds.AtLink.Kinds.{other};
@@ -21,6 +21,9 @@ ghost use Rattle.lan.specs.Worlds.Settling.{AreAtRest};
 ghost use Rattle.lan.specs.Worlds.Still.{StillRun, seats_of};
 ghost use Rattle.stack_laws.specs.Progress.Partners.{HoldText};
 ghost use Rattle.stack_laws.specs.Progress.Settled.{HasArrived, IsConnected};
+ghost use Rattle.stack_laws.specs.Progress.SettledNumerals as Numerals;
+ghost use Rattle.stack_laws.specs.Progress.SettledNumerals.{later, news, place, through};
+ghost use Rattle.stack_laws.specs.Worlds.Hosts.{text};
 
 /// Law: where both hosts of a world were asked last, and neither wants to be polled any more, no TCP socket of theirs wants to be asked, but for what
 /// comes.
@@ -58,3 +61,20 @@ pub fn what_has_settled_has_arrived()
     sockets_of_hosts_at_rest_want_nothing();
     what_waits_for_nothing_has_arrived();
 }
+
+/// Law: there is a world that settles, and meets all that this asks for, of both sides: two hosts with keys on a medium of bare packets. B listens, A connects
+/// and then writes abc, each segment is handed over as it goes, and ten milliseconds later neither wants to be polled any more: abc waits at B to be read.
+pub fn a_world_that_settles_meets_what_is_asked()
+    ensures fresh { IsFreshWorld Numerals.starts }
+    ensures typed { AreTyped Numerals.history }
+    ensures still { StillRun Numerals.starts Numerals.history Numerals.hosts }
+    ensures new { AreNew (seats_of Numerals.starts place) news (first_net Numerals.starts) }
+    ensures keys { HaveKeys (seats_of Numerals.starts place) }
+    ensures text { HoldText (seats_of Numerals.starts place) }
+    ensures partners { ArePartners Numerals.history A (place A) (place B) }
+    ensures caller { IsTcpAt (net_of (record { hosts = Numerals.hosts; starts = Numerals.starts; history = Numerals.history })) A (place A) (through A) }
+    ensures listener { IsTcpAt (net_of (record { hosts = Numerals.hosts; starts = Numerals.starts; history = Numerals.history })) B (place B) (through B) }
+    ensures connected { (side : Side) → IsConnected (through side) }
+    ensures rest { AreAtRest later Numerals.history }
+    ensures arrived { (through B).received.waiting ≡ text }
+{}

@@ -1,0 +1,117 @@
+-- The poll in which B reads that its SYN is acknowledged, and has nothing to send, on numerals.
+use Rattle.std.proofs.Common.{inl, inr, true, false, [], ◌∷◌, Some, None, refl}
+use Rattle.ip_address.specs.Address.{v4_number}
+use Rattle.ip_wire.specs.HardwareAddress.TheVariants as Hardware
+use Rattle.lan_base.specs.Port.{PortValue, PortMove}
+use Rattle.lan.specs.Worlds.AtLink.Station.{at_port}
+use Rattle.lan.specs.Worlds.AtLink.Steps.{PollsAt}
+use Rattle.lan.specs.declared.at_link.history.event.Side.TheVariants.{A, B}
+use Rattle.interface_ingress.specs.Arrives.{arrived}
+use Rattle.interface_ingress.specs.Incoming.{IsContent}
+use Rattle.interface_ingress.specs.Offer.TheVariants as Offer
+use Rattle.interface_ingress.specs.Packet.{PacketValue, Segment, payload_written}
+use Rattle.interface_ingress.specs.Socket.TheVariants as Kind
+use Rattle.interface_ingress.specs.Sockets.{Offers}
+use Rattle.interface_ingress.specs.Upper.{IsBrought}
+use Rattle.interface_tables.specs.Inner.{InnerValue, with_next_ident}
+use Rattle.interface_tables.specs.PathMtu.{mtu_towards}
+use Rattle.interface_egress.specs.Departure.{Whole}
+use Rattle.interface_egress.specs.GoesOut.{numbered}
+use Rattle.interface_egress.specs.Set.{unmarked}
+use Rattle.interface.specs.Delivered.{read_of}
+use Rattle.interface.specs.Egress.{EgressStep, sending}
+use Rattle.interface.specs.Ingress.{IngressStep}
+use Rattle.interface.specs.Remote.{context_for}
+use Rattle.interface.specs.Pass.{passed}
+use Rattle.interface.specs.Polls.{Polls, begun}
+use Rattle.interface.specs.State.{State, state}
+use Rattle.stack_laws.specs.Progress.Delivered.{reader_of}
+use Rattle.interface_tables.specs.Inner.{context_of}
+use Rattle.interface_egress.specs.GoesOut.{numbered_header}
+use Rattle.tcp_model.specs.Arrival.{arrives}
+use Rattle.tcp_model.specs.Value.{TcpValue}
+use Rattle.stack_laws.specs.Progress.SettledNumerals.{ack, ack_frame, ack_to_b, b_first, found, opened}
+use Rattle.stack_laws.proofs.Polls.SomeStations.{answered, answered_b, called_back, open_b}
+use Rattle.stack_laws.proofs.Polls.Readers.{packet_read}
+use Rattle.stack_laws.proofs.Polls.Segments.{carries}
+use Rattle.stack_laws.proofs.Polls.SomeHosts.{nobody}
+use Rattle.stack_laws.proofs.Polls.SomeSyns.{ack_formed, ack_goes, ack_offered, ack_packet, ack_read, now, port_of, state_of, then_widths}
+
+-- the socket as the segment has come
+abbrev came : TcpValue
+came = (arrives (context_of b_first) answered (numbered_header (with_next_ident (found A)) ack_to_b) ack []).socket
+
+abbrev awaiting : State PortValue
+awaiting = state_of (answered_b (ack_frame ∷ []))
+
+abbrev begun_there : State PortValue
+begun_there = begun now (begun now awaiting)
+
+abbrev behind : State PortValue
+behind = state (port_of (answered_b [])) begun_there.host (unmarked (Kind.Tcp came) ∷ [])
+
+abbrev remote : InnerValue
+remote = (with_next_ident (found A))
+
+abbrev numbered_packet : PacketValue
+numbered_packet = numbered remote ack_packet
+
+is_content : IsContent awaiting.host.inner.hardware awaiting.host.inner.checksums ack_frame (Some (read_of remote (Whole Hardware.Ip numbered_packet)))
+is_content = packet_read remote remote.ident Hardware.Ip ack_packet (reader_of awaiting.host.inner) then_widths ack_goes ack_formed ack_read []
+
+is_segment : IsBrought begun_there.host.inner.checksums numbered_packet.header (payload_written remote.checksums numbered_packet.header numbered_packet.payload)
+    (Some (Segment ack []))
+is_segment =
+    carries PortMove remote now awaiting awaiting 0 answered nobody called_back ack_to_b ack [] ack_offered Hardware.Ip ack_goes ack_formed
+    ack_read remote.ident then_widths []
+
+step_in : IngressStep PortMove now (begun now awaiting) (Some true) behind
+unfolding v4_number
+step_in = (
+  ack_frame,
+  behind.device,
+  (refl, refl),
+  refl,
+  (
+    Some (read_of remote (Whole Hardware.Ip numbered_packet)),
+    is_content,
+    (
+      arrived begun_there.host.inner behind.places None,
+      (refl, (Some (Segment ack []), is_segment, record { inner = refl; places_are = refl; reply = refl })),
+      refl,
+      refl,
+      refl,
+    ),
+  ),
+)
+
+abbrev rested : State PortValue
+rested = at_port behind.device (open_b [])
+
+is_silent : Offers (context_for b_first (Kind.Tcp came)) (Kind.Tcp came) (Offer.Silent false) (Kind.Tcp (opened B))
+unfolding v4_number mtu_towards
+is_silent = (refl, refl)
+
+rests : EgressStep PortMove now behind None rested
+rests = (
+  passed (sending now behind) rested.places false,
+  inr (
+    sending now behind,
+    (refl, refl),
+    inl (
+      false,
+      sending now behind,
+      unmarked (Kind.Tcp (opened B)),
+      (Offer.Silent false, Kind.Tcp (opened B), is_silent, (refl, refl, refl)),
+      refl,
+    ),
+  ),
+  refl,
+  refl,
+)
+
+polls : Polls PortMove now 1 awaiting true rested
+polls = (behind, true, inr (true, behind, step_in, (refl, refl)), inl (rests, refl))
+
+pub is_opened : PollsAt (answered_b (ack_frame ∷ [])) now 1 true (open_b [])
+is_opened = record { port = port_of (answered_b (ack_frame ∷ [])); port_after = behind.device; before = refl; after = refl; polls = polls; none_denied = refl }
