@@ -1,6 +1,5 @@
 //! A world whose link is good for a while, and whose hosts are polled when they want to be.
 ghost use Rattle.std.specs.Prelude.{◌≡◌, Some, None, IfOk, IfSome};
-ghost use Rattle.lan.specs.declared.at_link.history.answer.Answer.TheVariants.{At as Tells};
 ghost use Rattle.lan.specs.Worlds.Promises.{IsSafeWorld};
 ghost use Rattle.lan.specs.Worlds.Settling.{AreAtRest, Goes, IsService, WasAsked};
 
@@ -15,8 +14,8 @@ impl World {
     /// A round polls each host once with this budget, and hands over as many of its frames. Where nothing was handed over the clock, which
     /// begins at `from`, goes on to the moment at which a host wants to be polled. Frames that were sent before are left out, as lost.
     ///
-    /// What is at rest has arrived: where both hosts are, each stream of an open connection has come to its reader's host, all of it
-    /// (`stack_laws::progress::settled`).
+    /// Where hosts keep their addresses, and answer nothing that no socket of theirs takes, what is at rest has arrived: all that was written
+    /// to a socket that is connected has come to its partner (`stack_laws::progress::settled`).
     pub fn settle(
         &mut self,
         from: Instant,
