@@ -12,6 +12,7 @@ use crate::ip::{IpAddress, IpProtocol};
 use crate::ipv4::Ipv4Address;
 use crate::ipv6::Ipv6Address;
 use crate::network_order::read_u16;
+use std::simd::prelude::*;
 
 /// The one's complement sum of the 16-bit words of the bytes, not complemented. An odd last byte
 /// is the high byte of a word.
@@ -19,6 +20,47 @@ pub fn data(bytes: &[u8]) -> u16
     ensures { result ≡ folded (word_sum bytes.now) }
 {
     fold(sum_low_first(bytes)).swap_bytes()
+}
+
+/// Below so many bytes a copy, and then the sum of the whole packet, is quicker than `copy`.
+pub const WORTH_COPYING: usize = 256;
+
+/// Copies the bytes and answers their sum, as `data` does, in one pass over them. It is for payloads
+/// that are written into a frame.
+pub fn copy(to: &mut [u8], from: &[u8]) -> u16
+    requires same_length { length to.old ≡ length from.now }
+    requires fits { length from.now < 2 ^ 32 }
+    ensures copied { to.new ≡ from.now }
+    ensures sum { result ≡ folded (word_sum from.now) }
+{
+    let whole = from.len() / 64 * 64;
+    let mut total = u64x8::splat(0);
+    let mut done = 0;
+    while done < whole {
+        let bytes = u8x64::from_slice(&from[done..]);
+        bytes.copy_to_slice(&mut to[done..]);
+        let words = u64x8::from_le_bytes(bytes);
+        total += (words & u64x8::splat(0xffff_ffff)) + (words >> u64x8::splat(32));
+        done += 64;
+    }
+    to[done..].copy_from_slice(&from[done..]);
+    fold(add_u128(total.reduce_sum() as u128, sum_low_first(&from[done..]))).swap_bytes()
+}
+
+/// The one's complement sum of two strings of bytes, one behind the other, of their sums. The bytes
+/// of the second lie the other way round in the words where the first has an odd length.
+pub const fn join(front: u16, front_len: usize, back: u16) -> u16
+    ensures { (first second : List ℕ) → length first ≡ front_len → front ≡ folded (word_sum first) → back ≡ folded (word_sum second) →
+        result ≡ folded (word_sum (first ++ second)) }
+{
+    add(
+        front,
+        if front_len.is_multiple_of(2) {
+            back
+        } else {
+            back.swap_bytes()
+        },
+    )
 }
 
 /// The one's complement sum of sums, as those of the parts of what one checksum covers.
