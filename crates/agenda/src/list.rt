@@ -103,7 +103,8 @@ impl Agenda {
 
     /// Takes a place off the agenda; the one behind the last is added so. Without memory for that nothing changes.
     pub fn rest(&mut self, at: usize)
-        ensures { (self.new ≡ put at false self.old) ⊎ (self.new ≡ self.old) }
+        ensures known { at < length self.old → self.new ≡ slice_set self.old at false }
+        ensures added { (self.new ≡ put at false self.old) ⊎ (self.new ≡ self.old) }
     {
         if at == self.len {
             let _ = self.add();

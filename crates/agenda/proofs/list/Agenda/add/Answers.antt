@@ -1,5 +1,5 @@
-use Rattle.std.proofs.Common.{arith, rules, ◌∙◌, ap, sym, List, Bool, ℕ, ◌+◌, ◌++◌, ◌∷◌, [], ◌≡◌, false, Fits, w64}
-use Rattle.agenda.specs.Bits.{AreCounted, HaveRoom, marks_of, tells}
+use Rattle.std.proofs.Common.{arith, rules, ◌∙◌, ap, List, Bool, ◌+◌, ◌++◌, ◌∷◌, [], ◌≡◌, false, Fits, w64}
+use Rattle.agenda.specs.Bits.{marks_of, tells}
 use Rattle.agenda.proofs.Marked.{counted_more, counted_next, lengthened_marks, marks_more, room_for_one, room_with_groups, room_with_words}
 use Rattle.agenda.proofs.list.Agenda.add.Goals as goal
 

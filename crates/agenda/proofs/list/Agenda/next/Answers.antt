@@ -1,7 +1,7 @@
-use Rattle.std.proofs.Common.{◌≡◌, ◌∙◌, List, ℕ, Bool, Option, Some, None, subst, sym}
+use Rattle.std.proofs.Common.{List, ℕ, Bool, None, subst}
 use Rattle.agenda.specs.Bits.{AreCounted, IsFirst, tells}
 use Rattle.agenda.specs.Marks.{IsNext}
-use Rattle.agenda.proofs.Marked.{next_counted, none_is, none_marked}
+use Rattle.agenda.proofs.Marked.{next_counted, none_marked}
 use Rattle.agenda.proofs.list.Agenda.next.Goals as goal
 
 pub returns-then-self-eq0 : goal.returns-then-self-eq0
