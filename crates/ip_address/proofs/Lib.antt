@@ -13,3 +13,4 @@ pub mod Families
 pub mod OneReading
 pub mod Printed
 pub mod FourBytes
+pub mod Vectors

@@ -156,7 +156,7 @@ low_first-block before after n front rest tail all is first last len whole known
     folded-alike (256 * after) (256 * before + word_sum front) (word_sum tail) is ∙ ap folded right ∙ known
 
 -- sums that fold alike do so 256 times over
-folded-times : (k a b : ℕ) → folded a ≡ folded b → folded (k * a) ≡ folded (k * b)
+pub folded-times : (k a b : ℕ) → folded a ≡ folded b → folded (k * a) ≡ folded (k * b)
 folded-times zero a b same = ap folded (omega arith)
 folded-times (suc k) a b same =
     let left : suc k * a ≡ a + k * a = omega arith in
@@ -232,3 +232,51 @@ ChecksumHolds-put16 covered bytes i n even within small other before after =
     let first : covered + word_sum bytes ≡ 65535 * k = before.2 in
     let second : covered + word_sum (put16 bytes i n) ≡ 65535 * j = after.2 in
     classes (be16 bytes i) n k j (omega arith) other
+
+-- a folded sum with its bytes exchanged
+pub folded-swapped : (n : ℕ) → folded n % 256 * 256 + folded n / 256 % 256 ≡ folded (256 * n)
+folded-swapped zero = refl
+folded-swapped (suc n) = let e : 256 * suc n ≡ suc (256 * n + 255) = omega arith in rw e (omega arith)
+
+-- bytes behind one that lie the other way round in their words, since 65536 is 1 modulo 65535
+folded-behind_one : (b : ℕ) (bytes : List ℕ) → folded (word_sum (b ∷ bytes)) ≡ folded (256 * b + 256 * word_sum bytes)
+folded-behind_one b [] = ap folded (omega arith)
+folded-behind_one b (c ∷ []) =
+    let whole : 256 * b + c + 65535 * c ≡ 256 * b + 256 * (256 * c) = omega arith in
+    let last : 256 * b + c + 0 ≡ 256 * b + c = omega arith in
+    ap folded last ∙ sym (folded-more (256 * b + c) c 1 (omega arith)) ∙ ap folded whole
+folded-behind_one b (c ∷ d ∷ bytes) =
+    let inner : folded (word_sum (d ∷ bytes)) ≡ folded (256 * d + 256 * word_sum bytes) = folded-behind_one d bytes in
+    let whole : 256 * b + c + (256 * d + 256 * word_sum bytes) + 65535 * c ≡ 256 * b + 256 * (256 * c + d + word_sum bytes) = omega arith in
+    folded-both (256 * b + c) (256 * b + c) _ _ refl inner
+    ∙ sym (folded-more (256 * b + c + (256 * d + 256 * word_sum bytes)) c 1 (omega arith)) ∙ ap folded whole
+
+-- bytes behind others of an odd length
+folded-behind_odd : (front back : List ℕ) → length front % 2 ≡ 1 → folded (word_sum (front ++ back)) ≡ folded (word_sum front + 256 * word_sum back)
+folded-behind_odd [] back odd = absurd (omega arith)
+folded-behind_odd (b ∷ []) back odd = folded-behind_one b back
+folded-behind_odd (b ∷ c ∷ front) back odd =
+    let whole : 256 * b + c + (word_sum front + 256 * word_sum back) ≡ 256 * b + c + word_sum front + 256 * word_sum back = omega arith in
+    folded-both (256 * b + c) (256 * b + c) _ _ refl (folded-behind_odd front back (omega arith)) ∙ ap folded whole
+
+-- sums that fold alike fold alike behind another
+folded-sums : (a b : ℕ) → folded (folded a + folded b) ≡ folded (a + b)
+folded-sums a b =
+    let turned : a + folded b ≡ folded b + a = omega arith in
+    let back : b + a ≡ a + b = omega arith in
+    folded-folded a (folded b) ∙ ap folded turned ∙ folded-folded b a ∙ ap folded back
+
+-- the sum of joined strings, the first of odd length, is made of the sum of the second with its bytes exchanged
+pub folded-append_odd : (front back : List ℕ) (x y z : ℕ) → length front % 2 ≡ 1 → x ≡ folded (word_sum front) → y ≡ folded (word_sum back)
+    → z ≡ y % 256 * 256 + y / 256 % 256
+    → folded (x + z) ≡ folded (word_sum (front ++ back))
+folded-append_odd front back x y z odd first second exchanged =
+    let other : z ≡ folded (256 * word_sum back) = exchanged ∙ ap (λ n. n % 256 * 256 + n / 256 % 256) second ∙ folded-swapped (word_sum back) in
+    ap (λ n. folded (n + z)) first ∙ ap (λ n. folded (folded (word_sum front) + n)) other
+    ∙ folded-sums (word_sum front) (256 * word_sum back) ∙ sym (folded-behind_odd front back odd)
+
+-- the same with the first of even length
+pub folded-append_even : (front back : List ℕ) (x y : ℕ) → length front % 2 ≡ 0 → x ≡ folded (word_sum front) → y ≡ folded (word_sum back)
+    → folded (x + y) ≡ folded (word_sum (front ++ back))
+folded-append_even front back x y even first second =
+    ap (λ n. folded (n + y)) first ∙ ap (λ n. folded (folded (word_sum front) + n)) second ∙ sym (folded-append front back even)

@@ -39,6 +39,7 @@ pub fn copy(to: &mut [u8], from: &[u8]) -> u16
     while done < whole {
         let bytes = u8x64::from_slice(&from[done..]);
         bytes.copy_to_slice(&mut to[done..]);
+        // The halves of each word are added, since 2^32 is 1 modulo 65535: so no lane overflows.
         let words = u64x8::from_le_bytes(bytes);
         total += (words & u64x8::splat(0xffff_ffff)) + (words >> u64x8::splat(32));
         done += 64;
