@@ -88,14 +88,12 @@ sum-words (suc n) _ len small = absurd (omega arith)
 abbrev pub step_lanes : List ℕ → List ℕ
 step_lanes bytes = map halves (digits_l 18446744073709551616 8 (number_l 256 bytes))
 
--- what a loop over the bytes keeps: the first of them stand, and the lanes sum to theirs
-pub record IsCopiedSoFar (to from total : List ℕ) (whole done : ℕ) : Type 0 where
+-- what a loop over the bytes keeps: the lanes sum to what the first of them do
+pub record IsSummedSoFar (from total : List ℕ) (whole done : ℕ) : Type 0 where
   pub place : done ≤ whole
   pub within : whole ≤ length from
   pub ends : whole % 64 ≡ 0
   pub steps : done % 64 ≡ 0
-  pub as_long : length to ≡ length from
-  pub copied : take done to ≡ take done from
   pub lanes : length total ≡ 8
   pub room : sum_l total ≤ done * 2 ^ 30
   pub same : folded (256 * sum_l total) ≡ folded (word_sum (take done from))
@@ -125,16 +123,20 @@ take_chunk (suc i) n (x ∷ xs) le =
     let e : suc i + n ≡ suc (i + n) = omega arith in
     ap (λ k. take k (x ∷ xs)) e ∙ ap (λ ys. x ∷ ys) (take_chunk i n xs (omega arith))
 
--- the step of the loop
-pub IsCopiedSoFar-step : (to from total : List ℕ) (whole done : ℕ) → IsCopiedSoFar to from total whole done → done < whole → length from < 2 ^ 32
-    → Each1 (λ b. b < 256) (chunk done 64 from)
-    → IsCopiedSoFar (put_chunk done to (chunk done 64 from)) from (zip2 added total (step_lanes (chunk done 64 from))) whole (done + 64)
-IsCopiedSoFar-step to from total whole done before less fits small =
+-- and they are copied
+pub record IsCopiedSoFar (to from total : List ℕ) (whole done : ℕ) : Type 0 where
+  pub summed : IsSummedSoFar from total whole done
+  pub as_long : length to ≡ length from
+  pub copied : take done to ≡ take done from
+
+-- the step of a loop that sums
+pub IsSummedSoFar-step : (from total : List ℕ) (whole done : ℕ) → IsSummedSoFar from total whole done → done < whole → length from < 2 ^ 32
+    → Each1 (λ b. b < 256) (chunk done 64 from) → IsSummedSoFar from (zip2 added total (step_lanes (chunk done 64 from))) whole (done + 64)
+IsSummedSoFar-step from total whole done before less fits small =
     let place : done ≤ whole = before.place in
     let within : whole ≤ length from = before.within in
     let ends : whole % 64 ≡ 0 = before.ends in
     let steps : done % 64 ≡ 0 = before.steps in
-    let as_long : length to ≡ length from = before.as_long in
     let next : done + 64 ≤ whole = omega arith in
     let bytes : List ℕ = chunk done 64 from in
     let long : length bytes ≡ 64 = length-chunk done 64 from (omega arith) in
@@ -147,11 +149,30 @@ IsCopiedSoFar-step to from total whole done before less fits small =
       within = within;
       ends = ends;
       steps = omega arith;
-      as_long = length-put_chunk done to bytes ∙ as_long;
-      copied = take_more_put_chunk done to bytes (done + 64) (omega arith) (omega arith) ∙ ap (λ xs. xs ++ bytes) before.copied ∙ sym joined;
       lanes = added'.0;
       room = let r = added'.1 in omega (arith, r);
       same = added'.2 ∙ ap (λ xs. folded (word_sum xs)) (sym joined);
+    }
+
+-- that of one that copies, too
+pub IsCopiedSoFar-step : (to from total : List ℕ) (whole done : ℕ) → IsCopiedSoFar to from total whole done → done < whole → length from < 2 ^ 32
+    → Each1 (λ b. b < 256) (chunk done 64 from)
+    → IsCopiedSoFar (put_chunk done to (chunk done 64 from)) from (zip2 added total (step_lanes (chunk done 64 from))) whole (done + 64)
+IsCopiedSoFar-step to from total whole done before less fits small =
+    let place : done ≤ whole = before.summed.place in
+    let within : whole ≤ length from = before.summed.within in
+    let ends : whole % 64 ≡ 0 = before.summed.ends in
+    let steps : done % 64 ≡ 0 = before.summed.steps in
+    let as_long : length to ≡ length from = before.as_long in
+    let next : done + 64 ≤ whole = omega arith in
+    let bytes : List ℕ = chunk done 64 from in
+    let long : length bytes ≡ 64 = length-chunk done 64 from (omega arith) in
+    record {
+      summed = IsSummedSoFar-step from total whole done before.summed less fits small;
+      as_long = length-put_chunk done to bytes ∙ as_long;
+      copied =
+          take_more_put_chunk done to bytes (done + 64) (omega arith) (omega arith) ∙ ap (λ xs. xs ++ bytes) before.copied
+          ∙ sym (take_chunk done 64 from (omega arith));
     }
 
 -- the lanes summed with room
@@ -162,14 +183,14 @@ fold-added a (x ∷ xs) room =
     ap (λ s. fold_l added s xs) now ∙ fold-added (a + x) xs (omega arith) ∙ omega arith
 
 -- the sum of the lanes and that of the last bytes make that of all
-pub IsCopiedSoFar-sum : (to from total : List ℕ) (whole done last sum front result : ℕ) → IsCopiedSoFar to from total whole done → length from < 2 ^ 32
+pub IsSummedSoFar-sum : (from total : List ℕ) (whole done last sum front result : ℕ) → IsSummedSoFar from total whole done → length from < 2 ^ 32
     → folded (256 * last) ≡ folded (word_sum (drop done from)) → folded sum ≡ folded (fold_l added 0 total + last) → front ≡ folded sum
     → result ≡ front % 256 * 256 + front / 256 % 256 → result ≡ folded (word_sum from)
-IsCopiedSoFar-sum to from total whole done last sum front result copied fits behind summed is exchanged =
-    let place : done ≤ whole = copied.place in
-    let within : whole ≤ length from = copied.within in
-    let steps : done % 64 ≡ 0 = copied.steps in
-    let room : sum_l total ≤ done * 2 ^ 30 = copied.room in
+IsSummedSoFar-sum from total whole done last sum front result so_far fits behind summed is exchanged =
+    let place : done ≤ whole = so_far.place in
+    let within : whole ≤ length from = so_far.within in
+    let steps : done % 64 ≡ 0 = so_far.steps in
+    let room : sum_l total ≤ done * 2 ^ 30 = so_far.room in
     let lanes : fold_l added 0 total ≡ 0 + sum_l total = fold-added 0 total (omega arith) in
     let front_len : length (take done from) ≡ done = omega (arith, length-take done from) in
     let even : length (take done from) % 2 ≡ 0 = rw front_len (omega arith) in
@@ -178,4 +199,4 @@ IsCopiedSoFar-sum to from total whole done last sum front result copied fits beh
     sym (word_sum-append (take done from) (drop done from) even) ∙ ap word_sum (take-append-drop done from) in
     exchanged ∙ ap (λ n. n % 256 * 256 + n / 256 % 256) is ∙ folded-swapped sum
     ∙ folded-times 256 sum (fold_l added 0 total + last) summed
-    ∙ ap folded parts ∙ folded-both _ _ _ _ copied.same behind ∙ ap folded split
+    ∙ ap folded parts ∙ folded-both _ _ _ _ so_far.same behind ∙ ap folded split

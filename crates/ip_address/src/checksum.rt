@@ -19,11 +19,31 @@ use std::simd::prelude::*;
 pub fn data(bytes: &[u8]) -> u16
     ensures { result ≡ folded (word_sum bytes.now) }
 {
-    fold(sum_low_first(bytes)).swap_bytes()
+    if WORTH_COPYING <= bytes.len() && bytes.len() < 0x1_0000_0000 {
+        sum_in_vectors(bytes)
+    } else {
+        fold(sum_low_first(bytes)).swap_bytes()
+    }
 }
 
 /// Below so many bytes a copy, and then the sum of the whole packet, is quicker than `copy`.
 pub const WORTH_COPYING: usize = 256;
+
+/// The sum by eight words a step, as `copy` has it.
+fn sum_in_vectors(bytes: &[u8]) -> u16
+    requires fits { length bytes.now < 2 ^ 32 }
+    ensures { result ≡ folded (word_sum bytes.now) }
+{
+    let whole = bytes.len() / 64 * 64;
+    let mut total = u64x8::splat(0);
+    let mut done = 0;
+    while done < whole {
+        let words = u64x8::from_le_bytes(u8x64::from_slice(&bytes[done..]));
+        total += (words & u64x8::splat(0xffff_ffff)) + (words >> u64x8::splat(32));
+        done += 64;
+    }
+    fold(add_u128(total.reduce_sum() as u128, sum_low_first(&bytes[done..]))).swap_bytes()
+}
 
 /// Copies the bytes and answers their sum, as `data` does, in one pass over them. It is for payloads
 /// that are written into a frame.

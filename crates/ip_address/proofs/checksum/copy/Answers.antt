@@ -3,7 +3,7 @@ use Rattle.std.specs.Simd.Lanes.{chunk}
 use Rattle.std.proofs.lemmas.List.{take_rest}
 use Rattle.std.proofs.lemmas.Simd.{chunk-fits, below_from_Fits}
 use Rattle.ip_address.specs.Sum.{word_sum, folded}
-use Rattle.ip_address.proofs.Vectors.{IsCopiedSoFar-step, IsCopiedSoFar-sum}
+use Rattle.ip_address.proofs.Vectors.{IsCopiedSoFar-step, IsSummedSoFar-sum}
 use Rattle.ip_address.proofs.checksum.copy.Goals as goal
 
 pub loop-done-preserved : goal.loop-done-preserved
@@ -11,5 +11,5 @@ loop-done-preserved c = IsCopiedSoFar-step c.loop-done.to c.args.from.now c.loop
     (below_from_Fits w8 (chunk c.loop-done.done 64 c.args.from.now) (chunk-fits w8 c.loop-done.done 64 c.args.from.now c.type_inv.from))
 
 pub returns-clause-sum : goal.returns-clause-sum
-returns-clause-sum c = IsCopiedSoFar-sum _ c.args.from.now _ _ _ _ _ _ _ c.loop-done.invariant c.requires.fits
+returns-clause-sum c = IsSummedSoFar-sum c.args.from.now _ _ _ _ _ _ _ c.loop-done.invariant.summed c.requires.fits
     (c.sum_low_first.ensures ∙ ap (λ xs. folded (word_sum xs)) (take_rest c.args.from.now c.loop-done.done)) c.add_u128.ensures c.fold.ensures c.swap_bytes.ensures
