@@ -10,3 +10,4 @@ pub mod Runs
 pub mod QuotedLaws
 pub mod IpLaws
 pub mod Lengths
+pub mod Apart

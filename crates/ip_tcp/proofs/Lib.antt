@@ -13,3 +13,4 @@ pub mod Told
 pub mod Widths
 pub mod Written
 pub mod Lengths
+pub mod Apart

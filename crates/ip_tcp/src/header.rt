@@ -1,9 +1,9 @@
 //! The header of a segment as a value.
-ghost use Rattle.std.specs.Prelude.{◌≡◌, ◌+◌, ◌-◌, ◌<◌, ◌≤◌, ◌^◌, ◌++◌, IfOk, length};
+ghost use Rattle.std.specs.Prelude.{◌≡◌, ℕ, ◌+◌, ◌-◌, ◌%◌, ◌<◌, ◌≤◌, ◌^◌, true, List, ◌++◌, IfOk, length};
 ghost use Rattle.ip_address.specs.Address.{version_of};
 ghost use Rattle.net_devices.specs.Capabilities.{verifies, computes};
 ghost use Rattle.ip_address.specs.Fields.{put16};
-ghost use Rattle.ip_address.specs.Sum.{folded, complement};
+ghost use Rattle.ip_address.specs.Sum.{word_sum, folded, complement};
 ghost use Rattle.ip_address.specs.Pseudo.{covered};
 ghost use Rattle.ip_tcp.specs.Tcp.{IsTcp, IsWhole, Fits, bytes_of, bytes_in, name_of, acknowledged, acknowledges, sent_ack, sent_flags, header_len};
 ghost use Rattle.ip_tcp.specs.Tcp.{fixed_fields, sent_fields, spelling, written};
@@ -15,7 +15,7 @@ use crate::option::TcpOptions;
 use crate::packet::TcpPacket;
 use crate::packet_mut::TcpPacketMut;
 use ip_address::network_order::write_u16;
-use ip_address::{Error, IpAddress, SeqNumber};
+use ip_address::{Error, IpAddress, IpProtocol, SeqNumber, checksum};
 use net_devices::ChecksumCapabilities;
 
 /// A segment but for its payload. It holds no borrowed bytes, so it can be kept.
@@ -117,9 +117,13 @@ impl TcpHeader {
         ensures bytes { bytes_in packet.new
             ≡ written source.now destination.now (computes checksum_caps.now.tcp) self.now (first.now ++ rest.now) }
     {
-        self.spell(packet.buffer, first, rest);
-        if checksum_caps.tcp.tx() {
+        if !checksum_caps.tcp.tx() {
+            self.spell(packet.buffer, first, rest);
+        } else if first.len() + rest.len() < checksum::WORTH_COPYING {
+            self.spell(packet.buffer, first, rest);
             seal(packet.buffer, source, destination);
+        } else {
+            self.spell_sealed(packet.buffer, source, destination, first, rest);
         }
     }
 
@@ -129,11 +133,39 @@ impl TcpHeader {
         requires fits { header_len self.now ≤ 60 }
         ensures { bytes.new ≡ spelling self.now 0 (first.now ++ rest.now) }
     {
-        let (front, behind) = bytes.split_at_mut(field::HEADER_LEN);
-        front.copy_from_slice(&self.fixed_fields());
-        let (area, body) = behind.split_at_mut(self.options.buffer_len());
-        self.options.emit(area, acknowledges(self.ack_number));
+        let (header, body) = bytes.split_at_mut(self.header_len());
+        self.spell_header(header);
         put_parts(body, first, rest);
+    }
+
+    /// Writes the segment with its checksum, in one pass over the payload.
+    fn spell_sealed(
+        &self,
+        bytes: &mut [u8],
+        source: &IpAddress,
+        destination: &IpAddress,
+        first: &[u8],
+        rest: &[u8],
+    )
+        requires room { length bytes.old ≡ header_len self.now + length (first.now ++ rest.now) }
+        requires fits { Fits source.now destination.now self.now (first.now ++ rest.now) }
+        ensures { bytes.new ≡ written source.now destination.now true self.now (first.now ++ rest.now) }
+    {
+        let (header, body) = bytes.split_at_mut(self.header_len());
+        self.spell_header(header);
+        let text = put_parts_with_sum(body, first, rest);
+        seal_header(header, source, destination, body.len(), text);
+    }
+
+    /// Writes the header with 0 for the checksum.
+    fn spell_header(&self, bytes: &mut [u8])
+        requires room { length bytes.old ≡ header_len self.now }
+        requires fits { header_len self.now ≤ 60 }
+        ensures { (payload : List ℕ) → bytes.new ++ payload ≡ spelling self.now 0 payload }
+    {
+        let (front, area) = bytes.split_at_mut(field::HEADER_LEN);
+        front.copy_from_slice(&self.fixed_fields());
+        self.options.emit(area, acknowledges(self.ack_number));
     }
 
     /// The fixed fields, with 0 for the checksum.
@@ -195,6 +227,19 @@ fn put_parts(body: &mut [u8], first: &[u8], rest: &[u8])
     behind.copy_from_slice(rest);
 }
 
+/// Writes the parts so, and answers the sum of both together.
+fn put_parts_with_sum(body: &mut [u8], first: &[u8], rest: &[u8]) -> u16
+    requires room { length body.old ≡ length (first.now ++ rest.now) }
+    requires fits { length (first.now ++ rest.now) < 2 ^ 16 }
+    ensures copied { body.new ≡ first.now ++ rest.now }
+    ensures sum { result ≡ folded (word_sum (first.now ++ rest.now)) }
+{
+    let (front, behind) = body.split_at_mut(first.len());
+    let front_sum = checksum::copy(front, first);
+    let behind_sum = checksum::copy(behind, rest);
+    checksum::join(front_sum, first.len(), behind_sum)
+}
+
 /// Whether there is an acknowledgement number.
 const fn acknowledges(ack_number: Option<SeqNumber>) -> bool
     ensures { result ≡ acknowledges ack_number }
@@ -225,6 +270,30 @@ fn seal(bytes: &mut [u8], source: &IpAddress, destination: &IpAddress)
 {
     let sum = TcpPacket::new_unchecked(bytes).sum(source, destination);
     write_u16(bytes, field::CHECKSUM.start, 0xffff - sum);
+}
+
+/// Puts the checksum of a segment into its header, whose field holds 0. Of the payload the length
+/// and the sum are known.
+fn seal_header(
+    header: &mut [u8],
+    source: &IpAddress,
+    destination: &IpAddress,
+    payload_len: usize,
+    payload_sum: u16,
+)
+    requires header { 20 ≤ length header.old }
+    requires even { length header.old % 2 ≡ 0 }
+    requires fits { length header.old + payload_len < 2 ^ 16 }
+    requires family { version_of source.now ≡ version_of destination.now }
+    ensures { (payload : List ℕ) → length payload ≡ payload_len → payload_sum ≡ folded (word_sum payload)
+        → header.new ++ payload
+        ≡ put16 (header.old ++ payload) 16 (complement (covered source.now destination.now 6 (header.old ++ payload))) }
+{
+    let length = (header.len() + payload_len) as u32;
+    let pseudo = checksum::pseudo_header(source, destination, IpProtocol::Tcp, length);
+    let front = checksum::add(pseudo, checksum::data(header));
+    let sum = checksum::add(front, payload_sum);
+    write_u16(header, field::CHECKSUM.start, 0xffff - sum);
 }
 
 /// The acknowledgement number, where the segment acknowledges.

@@ -11,6 +11,7 @@ mod ipv6;
 mod ipv6_fragment;
 mod laws;
 mod link;
+mod long_payloads;
 mod names;
 mod numbers;
 mod samples;

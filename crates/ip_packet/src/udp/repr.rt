@@ -1,10 +1,11 @@
 //! The header of a datagram as a value.
-ghost use Rattle.std.specs.Prelude.{◌≡◌, ℕ, ◌+◌, ◌<◌, ◌≤◌, ◌^◌, IfOk, List, ◌++◌, length, drop};
+ghost use Rattle.std.specs.Prelude.{◌≡◌, ℕ, ◌+◌, ◌<◌, ◌≤◌, ◌^◌, true, IfOk, List, ◌++◌, length, drop};
 ghost use Rattle.std.specs.Fn.{FnOnceTakesAtMut, FnOnceReturnsAtMut};
 ghost use Rattle.ip_address.specs.Address.{version_of};
 ghost use Rattle.ip_address.specs.Fields.{put16};
 ghost use Rattle.ip_address.specs.declared.ip.IpAddress.{IpAddress};
 ghost use Rattle.ip_address.specs.Pseudo.{covered};
+ghost use Rattle.ip_address.specs.Sum.{word_sum, folded};
 ghost use Rattle.net_devices.specs.Capabilities.{verifies, computes};
 ghost use Rattle.ip_packet.specs.Udp.{IsUdp, Fits, bytes_of, bytes_in, name_of, spelling, written, nonzero_complement};
 ghost use Rattle.ip_packet.specs.declared.udp.repr.UdpRepr.{UdpRepr};
@@ -14,7 +15,7 @@ use super::packet::UdpPacket;
 use super::packet_mut::UdpPacketMut;
 use crate::pseudo_sums;
 use ip_address::network_order::write_u16;
-use ip_address::{Error, IpAddress, IpProtocol};
+use ip_address::{Error, IpAddress, IpProtocol, checksum};
 use net_devices::ChecksumCapabilities;
 
 /// The header of a datagram; length and checksum follow from the payload and the addresses.
@@ -84,9 +85,13 @@ impl UdpRepr {
         ensures bytes { bytes_in packet.new
             ≡ written source.now destination.now (computes checksum_caps.now.udp) self.now payload.now }
     {
-        self.spell(packet.buffer, payload);
-        if checksum_caps.udp.tx() {
+        if !checksum_caps.udp.tx() {
+            self.spell(packet.buffer, payload);
+        } else if payload.len() < checksum::WORTH_COPYING {
+            self.spell(packet.buffer, payload);
             seal(packet.buffer, source, destination);
+        } else {
+            self.spell_sealed(packet.buffer, source, destination, payload);
         }
     }
 
@@ -127,6 +132,24 @@ impl UdpRepr {
         let (header, rest) = bytes.split_at_mut(HEADER_LEN);
         header.copy_from_slice(&self.header(payload.len()));
         rest.copy_from_slice(payload);
+    }
+
+    /// Writes the datagram with its checksum, in one pass over the payload.
+    fn spell_sealed(
+        &self,
+        bytes: &mut [u8],
+        source: &IpAddress,
+        destination: &IpAddress,
+        payload: &[u8],
+    )
+        requires room { length bytes.old ≡ 8 + length payload.now }
+        requires fits { Fits source.now destination.now payload.now }
+        ensures { bytes.new ≡ written source.now destination.now true self.now payload.now }
+    {
+        let (header, rest) = bytes.split_at_mut(HEADER_LEN);
+        header.copy_from_slice(&self.header(payload.len()));
+        let sum = checksum::copy(rest, payload);
+        seal_header(header, source, destination, payload.len(), sum);
     }
 
     /// Writes the datagram without a checksum, its payload by the closure.
@@ -183,6 +206,33 @@ fn seal(bytes: &mut [u8], source: &IpAddress, destination: &IpAddress)
     let sum = pseudo_sums::sum(source, destination, IpProtocol::Udp, bytes);
     write_u16(
         bytes,
+        field::CHECKSUM.start,
+        pseudo_sums::sent_complement(sum),
+    );
+}
+
+/// Puts the checksum of a datagram into its header, whose field holds 0. Of the payload the length
+/// and the sum are known.
+fn seal_header(
+    header: &mut [u8],
+    source: &IpAddress,
+    destination: &IpAddress,
+    payload_len: usize,
+    payload_sum: u16,
+)
+    requires header { length header.old ≡ 8 }
+    requires fits { 8 + payload_len < 2 ^ 16 }
+    requires family { version_of source.now ≡ version_of destination.now }
+    ensures { (payload : List ℕ) → length payload ≡ payload_len → payload_sum ≡ folded (word_sum payload)
+        → header.new ++ payload
+        ≡ put16 (header.old ++ payload) 6 (nonzero_complement (covered source.now destination.now 17 (header.old ++ payload))) }
+{
+    let length = (HEADER_LEN + payload_len) as u32;
+    let pseudo = checksum::pseudo_header(source, destination, IpProtocol::Udp, length);
+    let front = checksum::add(pseudo, checksum::data(header));
+    let sum = checksum::add(front, payload_sum);
+    write_u16(
+        header,
         field::CHECKSUM.start,
         pseudo_sums::sent_complement(sum),
     );
