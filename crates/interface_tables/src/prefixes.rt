@@ -136,6 +136,7 @@ fn later(
     }
 }
 
+/// The key of a route's prefix.
 fn route_key(route: &Route) -> u64
     ensures { result ≡ route_key route.now }
 {
@@ -152,6 +153,7 @@ fn prefix_key(len: u8, address: &IpAddress) -> u64
     }
 }
 
+/// The first bits of an IPv4 address, the whole where it has no more.
 #[tactic(auto, unfolding(ip_address::specs::Address::v4_number))]
 fn first_bits_v4(address: &Ipv4Address, len: u8) -> u64
     ensures { result ≡ v4_number address.now / 2 ^ (32 - len) }
@@ -160,6 +162,7 @@ fn first_bits_v4(address: &Ipv4Address, len: u8) -> u64
     u64::from(bits) >> 32u8.saturating_sub(len)
 }
 
+/// The same of an IPv6 address.
 #[tactic(auto, unfolding(ip_address::specs::Address::v6_number))]
 fn first_bits_v6(address: &Ipv6Address, len: u8) -> u128
     ensures { result ≡ v6_number address.now / 2 ^ (128 - len) }
@@ -178,6 +181,7 @@ fn leading_bits(bits: u128, count: u8) -> u128
     }
 }
 
+/// The sum of a number's 64-bit halves, without its carry.
 fn sum_of_halves(number: u128) -> u64
     ensures { result ≡ sum_of_halves number }
 {

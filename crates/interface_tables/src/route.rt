@@ -19,8 +19,8 @@ use std::alloc::{AllocError, Global};
 use std::fmt;
 use std::marker::Model;
 
-/// Up to so many routes are all looked at: that takes no longer than a search by prefixes.
-const FEW: usize = 4;
+/// Up to so many routes are all looked at, which takes no longer than a search by prefixes.
+const FEW: usize = 2;
 
 /// There is no room for another route.
 #[derive(Clone, Copy, Debug, PartialEq, Eq)]
@@ -93,6 +93,7 @@ impl Route {
     }
 
     /// Whether a packet may take this route at this moment.
+    #[inline]
     pub(crate) fn serves(&self, address: &IpAddress, timestamp: Instant) -> bool
         ensures { result ≡ serves address.now timestamp self.now }
     {
