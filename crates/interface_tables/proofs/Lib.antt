@@ -1,5 +1,6 @@
 pub mod Apart
 pub mod BestOf
+pub mod ByPrefix
 pub mod Changed
 pub mod ErrorLimit
 pub mod Orders

@@ -7,6 +7,7 @@ pub mod Neighbor
 pub mod PathMtu
 pub mod Searches
 pub mod Pieces
+pub mod Prefixes
 pub mod Reassembly
 pub mod Route
 pub mod Settings

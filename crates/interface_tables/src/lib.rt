@@ -15,6 +15,7 @@ mod look;
 mod neighbor;
 pub mod path_laws;
 mod path_mtu;
+mod prefixes;
 mod route;
 mod slots;
 pub mod source;

@@ -8,12 +8,19 @@ ghost use Rattle.interface_tables.specs.Best.{at_place, first_that, better_of};
 ghost use Rattle.interface_tables.specs.Route.{no_routes, is_expired, serves, serving, is_longer, best_route, router_of, is_gateway_v4, is_gateway_v6, IsGateway};
 ghost use Rattle.interface_tables.specs.Route.{without_at, without, has_room, IsAdded};
 
+use crate::indexed::index_for;
+use crate::prefixes::{LENGTHS, best_by_prefix, tell_prefixes};
+use agenda::Index;
+use arrayvec::ArrayVec;
 use ip_wire::{IpAddress, IpCidr, Ipv4Address, Ipv4Cidr, Ipv6Address, Ipv6Cidr};
 use net_base::Instant;
 use socket_base::addresses::are_of_one_family;
 use std::alloc::{AllocError, Global};
 use std::fmt;
 use std::marker::Model;
+
+/// Up to so many routes are all looked at, which takes no longer than a search by prefixes.
+const FEW: usize = 2;
 
 /// There is no room for another route.
 #[derive(Clone, Copy, Debug, PartialEq, Eq)]
@@ -86,7 +93,8 @@ impl Route {
     }
 
     /// Whether a packet may take this route at this moment.
-    fn serves(&self, address: &IpAddress, timestamp: Instant) -> bool
+    #[inline]
+    pub(crate) fn serves(&self, address: &IpAddress, timestamp: Instant) -> bool
         ensures { result ≡ serves address.now timestamp self.now }
     {
         self.cidr.contains_addr(address)
@@ -107,21 +115,26 @@ impl Default for Route {
     }
 }
 
-/// Routes, up to a number. Their memory is taken when the table is made.
+/// Routes, up to a number. Their memory is taken when the table is made. A route is found by a key of its prefix, once for each prefix length
+/// that occurs, without a look at the others; a change of the table tells the prefixes of all anew.
 #[derive(Debug, Drop)]
 pub struct Routes {
     storage: Vec<Route>,
+    keys: Index,
+    lengths: ArrayVec<u8, LENGTHS>,
 }
 
 impl Model for Routes {
-    ghost use Rattle.std.specs.Prelude.{◌≤◌, vec_len, vec_capacity};
+    ghost use Rattle.std.specs.Prelude.{◌≤◌, length, vec_len, vec_capacity};
+    ghost use Rattle.interface_tables.specs.Prefixes.{AreKeyed, AreLengths};
     ghost use Rattle.interface_tables.specs.Route.{RoutesValue};
 
     ghost Value = { RoutesValue };
 
     ghost view = { λ r. record { entries = r.storage.items; room = vec_capacity r.storage } };
 
-    ghost invariant = { λ r. vec_len r.storage ≤ vec_capacity r.storage };
+    ghost invariant = { λ r. (vec_len r.storage ≤ vec_capacity r.storage) × (vec_capacity r.storage ≤ length r.keys)
+        × AreKeyed r.storage.items r.keys × AreLengths r.storage.items r.lengths.items };
 }
 
 impl Routes {
@@ -130,7 +143,12 @@ impl Routes {
         ensures { IfOk result (λ r. r ≡ no_routes count) }
     {
         let storage = Vec::with_capacity(alloc, count)?;
-        Ok(Routes { storage })
+        let keys = index_for(alloc, count)?;
+        Ok(Routes {
+            storage,
+            keys,
+            lengths: ArrayVec::new(),
+        })
     }
 
     /// The routes, in the order in which they were added.
@@ -166,7 +184,7 @@ impl Routes {
         ensures none { IfNone result (self.new ≡ self.old) }
     {
         if at < self.storage.len() {
-            Some(self.storage.remove(at))
+            self.take(Some(at))
         } else {
             None
         }
@@ -177,6 +195,7 @@ impl Routes {
         ensures { self.new ≡ no_routes self.old.room }
     {
         self.storage.clear();
+        tell_prefixes(self.storage.as_slice(), &mut self.keys, &mut self.lengths);
     }
 
     /// Makes this the router of all other IPv4 packets, and answers the route of which it takes the place.
@@ -256,7 +275,11 @@ impl Routes {
         ensures after { self.new ≡ record self.old { entries = without_at place self.old.entries } }
     {
         match place {
-            Some(at) => Some(self.storage.remove(at)),
+            Some(at) => {
+                let route = self.storage.remove(at);
+                tell_prefixes(self.storage.as_slice(), &mut self.keys, &mut self.lengths);
+                Some(route)
+            }
             None => None,
         }
     }
@@ -277,6 +300,7 @@ impl Routes {
             Some(at) => {
                 let old = self.storage.remove(at);
                 self.storage.push_reserved(route);
+                tell_prefixes(self.storage.as_slice(), &mut self.keys, &mut self.lengths);
                 Ok(Some(old))
             }
             None => {
@@ -284,6 +308,7 @@ impl Routes {
                     return Err(RouteTableFull);
                 }
                 self.storage.push_reserved(route);
+                tell_prefixes(self.storage.as_slice(), &mut self.keys, &mut self.lengths);
                 Ok(None)
             }
         }
@@ -293,7 +318,26 @@ impl Routes {
     pub fn lookup(&self, addr: &IpAddress, timestamp: Instant) -> Option<IpAddress>
         ensures { result ≡ router_of (best_route self.now.entries addr.now timestamp) }
     {
-        best_route(self.storage.as_slice(), addr, timestamp).map(|route| route.via_router)
+        self.best_route(addr, timestamp)
+            .map(|route| route.via_router)
+    }
+
+    /// The last of the routes with the longest prefix that serve this destination.
+    fn best_route(&self, address: &IpAddress, timestamp: Instant) -> Option<Route>
+        ensures { result ≡ best_route self.now.entries address.now timestamp }
+    {
+        let routes = self.storage.as_slice();
+        if routes.len() <= FEW {
+            best_route(routes, address, timestamp)
+        } else {
+            best_by_prefix(
+                routes,
+                &self.keys,
+                self.lengths.as_slice(),
+                address,
+                timestamp,
+            )
+        }
     }
 }
 

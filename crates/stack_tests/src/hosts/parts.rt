@@ -4,6 +4,8 @@
 mod fragmentation;
 mod neighbor;
 mod places;
+mod prefix_lines;
+mod prefixes;
 mod routes;
 mod socket_meta;
 mod socket_set;

@@ -8,5 +8,6 @@ mod made;
 mod replies;
 mod resting;
 pub mod streams;
+mod tables;
 mod transfer;
 mod wire;
