@@ -16,4 +16,4 @@ invariant_of-self g c = (c.self.invariant.0, rw noted filed) where
       c.rest.new.self
       (slice_get_read c.self.inside.storage.items (length c.self.inside.storage.items) c.args.at c.index.result.now refl
       (omega (arith, c.if-at-len.false, c.len.ensures, c.self.inside.storage.ok)) c.index.ensures)
-      (c.note.ensures.is_place c.if-note.true) c.rest.ensures
+      (c.note.ensures.is_place c.if-note.true) c.rest.ensures.added
