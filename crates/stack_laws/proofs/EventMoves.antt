@@ -54,7 +54,8 @@ use Rattle.lan.proofs.Worlds.Link.Sufficient.{numbers_grow, polled_few}
 use Rattle.lan.proofs.Worlds.Moves.Calls.{IsCalled, names}
 use Rattle.lan.proofs.Worlds.Moves.Events.{call_comes, call_steps, still_comes, still_steps}
 use Rattle.lan.proofs.Worlds.Moves.Fits.{worlds_fit}
-use Rattle.lan.proofs.Worlds.Moves.Held.{AreHeld, IsHeld, IsSeenAs, IsShownAt, all_so, hosts_same}
+use Rattle.lan.proofs.Worlds.Moves.Frames.{left_narrowed}
+use Rattle.lan.proofs.Worlds.Moves.Held.{AreHeld, IsHeld, IsSeenAs, IsShownAt, Stays, all_so, hosts_same}
 use Rattle.lan.proofs.Worlds.Moves.Nets.{either_side, step_of}
 use Rattle.lan.proofs.Worlds.Moves.Worlds.{fresh_net}
 use Rattle.lan.proofs.Worlds.PolledJoins as Polled
@@ -420,7 +421,12 @@ module _ (starts : Starts) (fresh : IsFreshWorld starts) (past : List Entry) (ol
           are = subst (λ (x : Kind). AreOfEvent e x (shown_in starts past) c.steps) (sym is) its;
           sent_off = subst (λ (x : Kind). AreSentOff x new c.steps) (sym is) goes_off;
           taken = subst (λ (x : Kind). AreTaken x old new net c.steps) (sym is) (pol.frames.taken, pol.waited, pol.took);
-          went = subst (λ (x : Kind). AreGone x old new c.steps) (sym is) (pol.frames.gone, pol.are_sent, pol.left);
+          went = subst (λ (x : Kind). AreGone x old new c.steps) (sym is) (
+            pol.frames.gone,
+            pol.are_sent,
+            left_narrowed (station old side).host.inner t (Stays (station old side).host.inner (station new side).host.inner)
+                ((station new side).host.inner.paths ≡ []) pol.frames.gone (λ none. (none, (all side).errors ∙ sym (was side).errors)) c.steps pol.left,
+          );
         }
 
   by_kind : (k : Kind) → kind_of e.event ≡ k → IsTyped k → Happens old k e.answer e.found new → Goes starts past old e new net

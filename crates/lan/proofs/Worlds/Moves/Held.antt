@@ -113,7 +113,7 @@ module _ (i0 i : InnerValue) (seen : IsSeenAs i0 i) where
   strays source destination = ap (λ (bs : List IpCidr). (is_loopback source && not (list_any (is_loopback_of source) bs))
       || (is_loopback destination && not (list_any (is_loopback_of destination) bs))) seen.addresses
 
-  may_come : (source destination : IpAddress) → may_come_from i source destination ≡ may_come_from i0 source destination
+  pub may_come : (source destination : IpAddress) → may_come_from i source destination ≡ may_come_from i0 source destination
   may_come source destination =
       ap (λ (all : Bool). not (all || is_multicast source) && (not (is_loopback source) || is_loopback destination)) (broadcasts source)
 

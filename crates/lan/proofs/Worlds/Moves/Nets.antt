@@ -82,7 +82,7 @@ module _ (names : List ℕ → Bool) (side : Side) (C G : Type 0) (i0 : InnerVal
 module _ (names : List ℕ → Bool) (side : Side) (C G : Type 0) (F : Frames) (i0 : InnerValue) (t : ℤ) where
   abbrev pub goes_on : (net now : Net) (move : Move) → Reaches names side C G F i0 t net now → May names now side move → history_after now.history move ≡ now.history
       → Grows (party now side) (party_after (party now side) move) → (C → IsHeld i0 t now side move) → (C → G → IsLet i0 t move) →
-      HasLeft i0 t F.gone move → Reaches names side C G F i0 t net (after now (step_of side move))
+      HasLeft i0 t C F.gone move → Reaches names side C G F i0 t net (after now (step_of side move))
   goes_on net now move r may same grows held goes left = record {
     steps = r.steps ++ step_of side move ∷ [];
     may = IsRun-append names net r.steps (step_of side move ∷ []) r.may (subst (λ n. IsRun names n (step_of side move ∷ [])) (sym r.ends) (may, tt));
@@ -95,7 +95,7 @@ module _ (names : List ℕ → Bool) (side : Side) (C G : Type 0) (F : Frames) (
         (subst (λ n. AreHeld i0 t side n (step_of side move ∷ [])) (sym r.ends) ((refl, held c), tt));
     went = λ c g. let-append i0 t r.steps (step_of side move ∷ []) (r.went c g) (goes c g, tt);
     took = all_moved_on side i0 t net F.taken r.steps (step_of side move ∷ []) r.took;
-    left = left-append i0 t F.gone r.steps (step_of side move ∷ []) r.left (left, tt);
+    left = left-append i0 t C F.gone r.steps (step_of side move ∷ []) r.left (left, tt);
   }
 
 -- ONE MOVE
@@ -113,7 +113,7 @@ module _ (names : List ℕ → Bool) (side : Side) (C G : Type 0) (F : Frames) (
 
   abbrev pub moves_by : (move : Move) (sockets : List (Option Socket)) → May names now side move → history_after now.history move ≡ now.history
       → (party_after (party now side) move).sockets ≡ sockets → Grows (party now side) (party_after (party now side) move) →
-      (C → IsHeld i0 t now side move) → (C → G → IsLet i0 t move) → HasLeft i0 t F.gone move → Moved names side C G F i0 t net now sockets
+      (C → IsHeld i0 t now side move) → (C → G → IsLet i0 t move) → HasLeft i0 t C F.gone move → Moved names side C G F i0 t net now sockets
   moves_by move sockets may same sockets_are grows held goes left = record {
     next = after now (step_of side move);
     reaches = goes_on names side C G F i0 t net now move r may same grows held goes left;

@@ -48,7 +48,7 @@ pub record Polled (i0 : InnerValue) (waits sent : List (List ℕ)) (t : ℤ) (ne
   pub waited : waits ≡ frames.taken ++ (station new side).link.waiting
   pub took : AreMoved side i0 t net frames.taken comes.steps
   pub are_sent : (station new side).link.sent ≡ sent ++ frames.gone
-  pub left : HaveLeft i0 t frames.gone comes.steps
+  pub left : HaveLeft i0 t (Stays i0 (station new side).host.inner) frames.gone comes.steps
   pub went : Stays i0 (station new side).host.inner → IsTrue (has_leave (station new side).link) → AreLet i0 t comes.steps
 
 module _ (net : Net) (old new : Stations) (past : List Entry) (e : Entry) (side : Side) (t : ℤ) (budget n : ℕ) (L : ℕ → State PortValue → Party →
@@ -92,7 +92,7 @@ module _ (net : Net) (old new : Stations) (past : List Entry) (e : Entry) (side 
     waited = f.taken.0 ∙ ap (λ (l : LinkEnd). f.frames.taken ++ l.waiting) end;
     took = all_moved_on side i0 t net f.frames.taken f.reaches.steps (step_of side (Moves.Passes e) ∷ []) f.reaches.took;
     are_sent = sym (ap (λ (l : LinkEnd). l.sent) end) ∙ f.taken.1;
-    left = left-append i0 t f.frames.gone f.reaches.steps (step_of side (Moves.Passes e) ∷ []) f.reaches.left (tt, tt);
+    left = left-append i0 t (Stays i0 (station new side).host.inner) f.frames.gone f.reaches.steps (step_of side (Moves.Passes e) ∷ []) f.reaches.left (tt, tt);
     went = λ c given. let-append i0 t f.reaches.steps (step_of side (Moves.Passes e) ∷ []) (f.reaches.went c (gave p end none given)) (tt, tt);
   }
 

@@ -158,7 +158,7 @@ module _ (names : List ℕ → Bool) (side : Side) (C G : Type 0) (F : Frames) (
       → IfSome (offer_of cx v).socket.offered (λ o. LeavesFrom cx from o.header)
       → (C → IsShownAt i0 t cx × IfSome (offer_of cx v).socket.offered (λ o. from ≡ source_by i0 o.header))
       → (C → G → IfSome (offer_of cx v).socket.offered (λ o. (sent ≡ true) ⊎ IsHindered i0 t (λ i. leaving_by i o.header)))
-      → (sent ≡ true → IfSome (offered_packet (offer_of cx v).socket) (λ x. LeftFrom i0 t F.gone cx (Is.Tcp v) from x)) → Has m (Is.Tcp v) →
+      → (sent ≡ true → IfSome (offered_packet (offer_of cx v).socket) (λ x. LeftFrom i0 t C F.gone cx (Is.Tcp v) from x)) → Has m (Is.Tcp v) →
       To m' (settled sent (Is.Tcp (offer_of cx v).socket)) sent (offered_packet (offer_of cx v).socket)
   tcp_gives m m' cx v true leaves held goes left has = record {
     moved =
@@ -206,7 +206,7 @@ module _ (names : List ℕ → Bool) (side : Side) (C G : Type 0) (F : Frames) (
         → IfSome (offered_by offered) (λ x. LeavesFrom cx from x.header)
         → (C → IsShownAt i0 t cx × IfSome (offered_by offered) (λ x. from ≡ source_of (sourced i x).header))
         → (C → G → IfSome (offered_by offered) (λ x. (sent ≡ true) ⊎ IsHindered i0 t (λ i. (sourced i x).header)))
-        → (sent ≡ true → IfSome (offered_by offered) (λ x. LeftFrom i0 t F.gone cx s from x)) → Has m s
+        → (sent ≡ true → IfSome (offered_by offered) (λ x. LeftFrom i0 t C F.gone cx s from x)) → Has m s
         → To m' (settled sent offered) sent (offered_by offered)
     gives m m' cx (Is.Raw v) (Is.Raw v') answer sent fit offers leaves held goes left has = raw_gives m m' cx v v' answer sent offers has
     gives m m' cx (Is.Icmp v) (Is.Icmp v') answer sent fit offers leaves held goes left has = icmp_gives m m' cx v v' answer sent offers has
@@ -223,7 +223,7 @@ module _ (names : List ℕ → Bool) (side : Side) (C G : Type 0) (F : Frames) (
         ))
         (λ c g. way_so sent o queue (subst (λ (w : TcpValue). IfSome (offered_packet w) (λ x. (sent ≡ true) ⊎ IsHindered i0 t (λ j. (sourced j x).header)))
         offers.1 (goes c g)))
-        (λ done. subst (λ (w : TcpValue). IfSome (offered_packet w) (λ x. LeftFrom i0 t F.gone cx (Is.Tcp v) from x)) offers.1 (left done)) has)
+        (λ done. subst (λ (w : TcpValue). IfSome (offered_packet w) (λ x. LeftFrom i0 t C F.gone cx (Is.Tcp v) from x)) offers.1 (left done)) has)
     gives m m' cx (Is.Dhcpv4 v) offered answer sent fit offers leaves held goes left has = absurd fit.0
     gives m m' cx (Is.Dns v) offered answer sent fit offers leaves held goes left has = absurd fit.0
     gives m m' cx s offered answer sent fit offers leaves held goes left has = absurd offers
@@ -367,8 +367,8 @@ module _ {D : Type 0} (moves : D → Move → D → Type 0) (turn_of : Option Ip
       let back : Gives x'.device → Gives x.device =
       device_leaves moves (λ (d : D). Gives d → Gives x.device) (λ d d' m none moved had given. had (giving.had d d' m moved given)) turn_of x x' (λ g. g)
       item.meta leaving sent goes.1 in
-      let way : Left moves Taken taking f.frames i0 t x.inner leaving (plan_at x leaving) sent x'.device =
-      left_by moves Taken taking f.frames i0 t turn_of x x' item.meta leaving sent goes.1 f.taken in
+      let way : Left moves Taken taking f.frames i0 t (Stays i0 x.inner) x.inner leaving (plan_at x leaving) sent x'.device =
+      left_by moves Taken taking f.frames i0 t (Stays i0 x.inner) turn_of x x' item.meta leaving sent goes.1 f.taken in
       let frames : Frames = and_gone f.frames way.out.more in
       let reaches = narrowed names side (Stays i0 x.inner) (Stays i0 x.inner) (Gives x.device) (Gives x'.device) frames i0 t net f.now (λ c. c) back
       (sent_more names side (Stays i0 x.inner) (Gives x.device) f.frames i0 t net f.now way.out.more f.reaches) in
@@ -380,17 +380,18 @@ module _ {D : Type 0} (moves : D → Move → D → Type 0) (turn_of : Option Ip
       ))
       (λ c g. subst (λ (o : Option PacketValue). IfSome o (λ y. (is_done sent ≡ true) ⊎ IsHindered i0 t (λ j. (sourced j y).header))) is
       (or_hindered x leaving packet (is_done sent) sending.1 like c.0 (leaves_so moves Since Gives giving turn_of x x' item.meta leaving sent goes.1 since g)))
-      (λ done. subst (λ (o : Option PacketValue). IfSome o (λ y. LeftFrom i0 t frames.gone cx item.socket from y)) is (record {
+      (λ done. subst (λ (o : Option PacketValue). IfSome o (λ y. LeftFrom i0 t (Stays i0 x.inner) frames.gone cx item.socket from y)) is (record {
         i = x.inner;
         settings = like.settings;
         moment = like.moment;
         ident = like.ident;
+        paths = λ c. c.0;
         shown = refl;
         formed = sending.2;
         source = refl;
         leaving_formed = subst IsWellFormed sending.1 goes.4;
         busy = is_some x.left;
-        went = subst (λ (q : PacketValue). WentBy i0 t frames.gone x.inner q (plan_of x.inner (is_some x.left) q.header)) sending.1 (way.went done);
+        went = subst (λ (q : PacketValue). WentBy i0 t (Stays i0 x.inner) frames.gone x.inner q (plan_of x.inner (is_some x.left) q.header)) sending.1 (way.went done);
       }))
       f.sockets in
       let linked : L n (sending_as h x places) (party given.moved.next side) =
