@@ -22,6 +22,7 @@ pub mod EventAsked
 pub mod EventQuiet
 pub mod EventTurns
 pub mod EventReads
+pub mod EventStreams
 pub mod EventPartners
 pub mod Blocks
 pub mod MovedEvents
