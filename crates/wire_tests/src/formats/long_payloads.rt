@@ -1,6 +1,6 @@
 //! Payloads of 300 bytes, whose sum is taken while they are copied. The checksums are from outside.
 ghost use Rattle.std.specs.Prelude.{◌≡◌};
-ghost use Rattle.ip_address.specs.Address.{version_of};
+ghost use Rattle.ip_wire.specs.Address.{version_of};
 
 use crate::cases::all;
 use crate::formats::samples::{LEFT, RIGHT, behind, first, is_same};
