@@ -21,6 +21,8 @@ pub mod EventAsked
 pub mod EventQuiet
 pub mod EventTurns
 pub mod EventReads
+pub mod EventCarried
+pub mod EventMade
 pub mod EventPartners
 pub mod Blocks
 pub mod MovedEvents

@@ -26,6 +26,7 @@ pub mod Events
 pub mod Takings
 pub mod OneClock
 pub mod Serving
+pub mod Carried
 pub mod ByEvents
 pub mod Edges
 pub mod EdgesMet
