@@ -7,3 +7,4 @@ pub mod Raws
 pub mod Protocols
 pub mod Fit
 pub mod Taken
+pub mod Went

@@ -19,6 +19,7 @@ use Rattle.lan.specs.Worlds.AtLink.Station.{Stations, station}
 use Rattle.lan.specs.Worlds.Moves.Follows.{IsNetOf}
 use Rattle.lan.specs.Worlds.Moves.Joined.{first_net}
 use Rattle.lan.specs.Worlds.Moves.Taken.{AreMoved}
+use Rattle.lan.specs.Worlds.Moves.Went.{HasLeft}
 use Rattle.lan.specs.Worlds.Still.{MovePlainly, StillRun, seats_of}
 use Rattle.lan_base.specs.Carried.{names_tcp_or_udp}
 use Rattle.lan_base.specs.Medium.TheVariants as Medium
@@ -91,11 +92,19 @@ AreTaken (OfHost side (Polls moment budget)) old new net steps =
     × AreMoved side (station old side).host.inner moment net frames steps
 AreTaken kind old new net steps = Unit {0}
 
+-- The link of its host took these frames in a poll, and whatever TCP sockets offered in it, and were told that it went, left so.
+abbrev pub AreGone : Kind → Stations → Stations → List Step → Type 0
+AreGone (OfHost side (Polls moment budget)) old new steps =
+    (gone : List (List ℕ)) × ((station new side).link.sent ≡ (station old side).link.sent ++ gone)
+    × AllByRecursion (λ step. HasLeft (station old side).host.inner moment gone step.move) steps
+AreGone kind old new steps = Unit {0}
+
 -- These moves are an event's own, and lead on from a net of the hosts before it to one of those behind it.
 pub record HappensBy (starts : Starts) (past : List Entry) (e : Entry) (old new : Stations) (net : Net) (steps : List Step) : Type 0 where
   pub are : AreOfEvent e (kind_of e.event) (shown_in starts past) steps
   pub sent_off : AreSentOff (kind_of e.event) new steps
   pub taken : AreTaken (kind_of e.event) old new net steps
+  pub went : AreGone (kind_of e.event) old new steps
   pub may : IsRun (names_tcp_or_udp Medium.Ip) net steps
   pub of : IsNetOf (run net steps) new (e ∷ past)
 

@@ -114,7 +114,7 @@ free : SocketStorage Socket
 free = record { inner = None }
 
 -- moves lead to these sockets, and a packet that answers was made
-pub record Answered (names : List ℕ → Bool) (side : Side) (C G : Type 0) (F : List (List ℕ)) (i0 : InnerValue) (t : ℤ) (net now : Net) (sockets : List (Option Parties.Socket)) (reply : Option PacketValue) : Type 0 where
+pub record Answered (names : List ℕ → Bool) (side : Side) (C G : Type 0) (F : Frames) (i0 : InnerValue) (t : ℤ) (net now : Net) (sockets : List (Option Parties.Socket)) (reply : Option PacketValue) : Type 0 where
   pub moved : Moved names side C G F i0 t net now sockets
   pub made : IfSome reply (IsMade (party moved.next side))
 
@@ -124,7 +124,7 @@ reply_made p before (Some reply) is =
     let last = get_last before (made_by reply) [] in
     record { written = reply.segment; among = (last.0, ap (λ (xs : List Made). slice_get xs last.0) is ∙ last.1); read = refl }
 
-module _ (names : List ℕ → Bool) (side : Side) (C G : Type 0) (F : List (List ℕ)) (i0 : InnerValue) (t : ℤ) (net now : Net) (r : Reaches names side C G F i0 t net now) (places : Places) (has : (party now side).sockets ≡
+module _ (names : List ℕ → Bool) (side : Side) (C G : Type 0) (F : Frames) (i0 : InnerValue) (t : ℤ) (net now : Net) (r : Reaches names side C G F i0 t net now) (places : Places) (has : (party now side).sockets ≡
     sockets_of places) where
   abbrev Ends : List (Option Parties.Socket) → Option PacketValue → Type 0
   Ends sockets reply = Answered names side C G F i0 t net now sockets reply

@@ -69,7 +69,7 @@ passed net B e A = refl
 passed net B e B = refl
 
 -- moves of a host, and then an event that is no call
-abbrev pub reached_comes : (C G : Type 0) (F : List (List ℕ)) (i0 : InnerValue) (t : ℤ) (net now : Net) (new : Stations) (past : List Entry) (e : Entry) (side : Side) → Reaches names side C G F i0 t net now → net.history ≡ past →
+abbrev pub reached_comes : (C G : Type 0) (F : Frames) (i0 : InnerValue) (t : ℤ) (net now : Net) (new : Stations) (past : List Entry) (e : Entry) (side : Side) → Reaches names side C G F i0 t net now → net.history ≡ past →
     IsNoCall (kind_of e.event)
     → ((s : Side) → (party now s).sockets ≡ sockets_of (station new s).places) → Comes names net new (e ∷ past)
 reached_comes C G F i0 t net now new past e side r was none sockets = record {

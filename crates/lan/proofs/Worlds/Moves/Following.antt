@@ -10,13 +10,14 @@ use Rattle.lan.specs.Worlds.AtLink.Parties.{Party, Net, party}
 use Rattle.lan.specs.Worlds.Moves.Made.{Grows}
 use Rattle.lan.specs.Worlds.Moves.Follows.{sockets_of}
 use Rattle.lan.specs.Worlds.Moves.Taken.{AreMoved, IsMoved}
-use Rattle.lan.proofs.Worlds.Moves.Frames.{one_moved}
+use Rattle.lan.proofs.Worlds.Moves.Frames.{Frames, HaveLeft, all_left, and_gone, and_taken, one_moved}
 use Rattle.lan.proofs.Worlds.Moves.Held.{AreHeld, Stays}
 use Rattle.lan.proofs.Worlds.Moves.Leave.{AreLet}
 
 -- Moves lead from one net to another, and neither the other host nor the history is touched. Under the condition C the host showed itself at this
--- moment as it was, and made no reset; and if its device gives leave, as G says, too, then what its sockets offered went, or had to stay. The frames F were taken.
-pub record Reaches (names : List ℕ → Bool) (side : Side) (C G : Type 0) (F : List (List ℕ)) (i0 : InnerValue) (t : ℤ) (net now : Net) : Type 0 where
+-- moment as it was, and made no reset; and if its device gives leave, as G says, too, then what its sockets offered went, or had to stay. The frames F were taken
+-- and sent.
+pub record Reaches (names : List ℕ → Bool) (side : Side) (C G : Type 0) (F : Frames) (i0 : InnerValue) (t : ℤ) (net now : Net) : Type 0 where
   pub steps : List Step
   pub may : IsRun names net steps
   pub ends : run net steps ≡ now
@@ -25,20 +26,21 @@ pub record Reaches (names : List ℕ → Bool) (side : Side) (C G : Type 0) (F :
   pub grows : Grows (party net side) (party now side)
   pub held : C → AreHeld i0 t side net steps
   pub went : C → G → AreLet i0 t steps
-  pub took : AreMoved side i0 t net F steps
+  pub took : AreMoved side i0 t net F.taken steps
+  pub left : HaveLeft i0 t F.gone steps
 
 -- moves of this host lead to a net with these sockets, of which L holds with what was made, where Gives says what a device is that gives leave,
--- and Taken from which frames it came
-pub record Follows {D : Type 0} (names : List ℕ → Bool) (side : Side) (Gives : D → Type 0) (Taken : List (List ℕ) → D → Type 0) (i0 : InnerValue) (t : ℤ) (L : State D → Party → Type 0) (net : Net) (s : State D) : Type 0 where
+-- and Taken by which frames it came to be so
+pub record Follows {D : Type 0} (names : List ℕ → Bool) (side : Side) (Gives : D → Type 0) (Taken : Frames → D → Type 0) (i0 : InnerValue) (t : ℤ) (L : State D → Party → Type 0) (net : Net) (s : State D) : Type 0 where
   pub now : Net
-  pub frames : List (List ℕ)
+  pub frames : Frames
   pub taken : Taken frames s.device
   pub reaches : Reaches names side (Stays i0 s.host.inner) (Gives s.device) frames i0 t net now
   pub sockets : (party now side).sockets ≡ sockets_of s.places
   pub link : L s (party now side)
 
 -- the conditions may be narrower ones
-pub narrowed : (names : List ℕ → Bool) (side : Side) (C C' G G' : Type 0) (F : List (List ℕ)) (i0 : InnerValue) (t : ℤ) (net now : Net) → (C' → C) → (G' → G) →
+pub narrowed : (names : List ℕ → Bool) (side : Side) (C C' G G' : Type 0) (F : Frames) (i0 : InnerValue) (t : ℤ) (net now : Net) → (C' → C) → (G' → G) →
     Reaches names side C G F i0 t net now →
     Reaches names side C' G' F i0 t net now
 narrowed names side C C' G G' F i0 t net now back gives r = record {
@@ -51,12 +53,13 @@ narrowed names side C C' G G' F i0 t net now back gives r = record {
   held = λ c. r.held (back c);
   went = λ c g. r.went (back c) (gives g);
   took = r.took;
+  left = r.left;
 }
 
 -- one frame more was taken
-pub took_one : (names : List ℕ → Bool) (side : Side) (C G : Type 0) (F : List (List ℕ)) (i0 : InnerValue) (t : ℤ) (net now : Net) (frame : List ℕ)
+pub took_one : (names : List ℕ → Bool) (side : Side) (C G : Type 0) (F : Frames) (i0 : InnerValue) (t : ℤ) (net now : Net) (frame : List ℕ)
     (r : Reaches names side C G F i0 t net now) → (is_read frame ≡ true → IsMoved side i0 t net frame r.steps) →
-    Reaches names side C G (F ++ frame ∷ []) i0 t net now
+    Reaches names side C G (and_taken F frame) i0 t net now
 took_one names side C G F i0 t net now frame r moved = record {
   steps = r.steps;
   may = r.may;
@@ -66,5 +69,22 @@ took_one names side C G F i0 t net now frame r moved = record {
   grows = r.grows;
   held = r.held;
   went = r.went;
-  took = one_moved side i0 t net F frame r.steps r.took moved;
+  took = one_moved side i0 t net F.taken frame r.steps r.took moved;
+  left = r.left;
+}
+
+-- more frames were sent
+pub sent_more : (names : List ℕ → Bool) (side : Side) (C G : Type 0) (F : Frames) (i0 : InnerValue) (t : ℤ) (net now : Net) (more : List (List ℕ)) →
+    Reaches names side C G F i0 t net now → Reaches names side C G (and_gone F more) i0 t net now
+sent_more names side C G F i0 t net now more r = record {
+  steps = r.steps;
+  may = r.may;
+  ends = r.ends;
+  rests = r.rests;
+  history = r.history;
+  grows = r.grows;
+  held = r.held;
+  went = r.went;
+  took = r.took;
+  left = all_left i0 t F.gone more r.steps r.left;
 }

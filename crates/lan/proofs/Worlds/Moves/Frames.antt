@@ -1,31 +1,91 @@
--- Frames that are taken in a poll, the oldest first, of which each segment that it brings comes by a move.
-use Rattle.std.proofs.Common.{◌≡◌, ℕ, ℤ, true, List, [], ◌∷◌, ◌++◌, Option, Some, None, ap, ◌∙◌, append_assoc}
+-- Frames that are taken and sent in a poll, the oldest first: each segment that one brings comes by a move, and each that a socket offers goes in one.
+use Rattle.std.proofs.Common.{◌≡◌, ℕ, ℤ, Bool, true, false, List, [], ◌∷◌, ◌++◌, append-nil, Option, Some, None, IfSome, sym, ap, ◌∙◌, subst, append_assoc}
+use Rattle.std.specs.List.{AllByRecursion}
 use Rattle.ip_tcp.specs.declared.header.TcpHeader.{TcpHeader}
-use Rattle.lan_base.specs.Device.{Move, Took}
-use Rattle.sockets.specs.Packet.{PayloadValue, ControlV4, ControlV6, Bytes, Datagram, Segment}
+use Rattle.lan_base.specs.Device.{Move, Took, Empty, Allowed, Emitted, Denied}
+use Rattle.sockets.specs.Context.{ContextValue}
+use Rattle.sockets.specs.Packet.{PacketValue, PayloadValue, ControlV4, ControlV6, Bytes, Datagram, Segment}
+use Rattle.sockets.specs.declared.socket.Socket.{Socket}
+use Rattle.sockets.specs.declared.socket.Socket.TheVariants as Is
+use Rattle.tcp_model.specs.Offers.{offer_of, offered_packet}
 use Rattle.interface.specs.Ingress.{is_read}
 use Rattle.interface.specs.IpRepr.{IpRepr}
 use Rattle.interface.specs.IpRepr.TheVariants as Ip
+use Rattle.interface.specs.Turn.{sourced}
+use Rattle.interface_egress.specs.Departure.{Whole}
+use Rattle.interface_egress.specs.Fragments.{departure_from}
+use Rattle.interface_egress.specs.GoesOut.{cut_of, frame_of, numbered}
+use Rattle.interface_egress.specs.Plan.{plan_of}
+use Rattle.interface_egress.specs.declared.plan.Plan.{Plan}
+use Rattle.interface_egress.specs.declared.plan.Plan.TheVariants as Way
+use Rattle.interface_ingress.specs.IpAddress.{IpAddress}
 use Rattle.interface_ingress.specs.Arrives.{whole_after}
 use Rattle.interface_ingress.specs.Incoming.{IncomingValue, Arp, Ip4, Ip6}
 use Rattle.interface_ingress.specs.Reassembled.{taken_in}
 use Rattle.interface_tables.specs.Inner.{InnerValue}
 use Rattle.lan.specs.Worlds.AtLink.Side.{Side}
+use Rattle.lan.specs.Worlds.AtLink.Moves as Moves
 use Rattle.lan.specs.Worlds.AtLink.Moves.{Step}
+use Rattle.lan.specs.Worlds.AtLink.Moves.Move.{Invokes, Passes, Offers, Gives, Takes, Receives, Resets, Changes}
 use Rattle.lan.specs.Worlds.AtLink.Parties.{Net}
 use Rattle.lan.specs.Worlds.Moves.Taken.{AreMoved, BringsIn, ComesIn, ComesNext, IfSegment, IsMoved}
+use Rattle.lan.specs.Worlds.Moves.Went.{HasLeft, IsGone, LeftFrom, WentBy}
+use Rattle.lan.proofs.Worlds.Moves.Places.{get_more}
 
--- DEVICES: which frames were taken, the oldest first, so that it came to be this device
+-- the frames that a host took in a poll so far, and those that its device took of it
+pub record Frames : Type 0 where
+  pub taken : List (List ℕ)
+  pub gone : List (List ℕ)
+
+abbrev pub no_frames : Frames
+no_frames = record { taken = []; gone = [] }
+
+abbrev pub and_taken : Frames → List ℕ → Frames
+and_taken F frame = record F { taken = F.taken ++ frame ∷ [] }
+
+abbrev pub and_gone : Frames → List (List ℕ) → Frames
+and_gone F more = record F { gone = F.gone ++ more }
+
+-- DEVICES: which frames were taken and sent, the oldest first, so that it came to be this device
 
 -- no frame is taken
 abbrev pub IsNoTake : Move → Type 0
 IsNoTake (Took t frame) = ⊥
 IsNoTake move = Unit {0}
 
-pub record IsTaking {D : Type 0} (moves : D → Move → D → Type 0) (Taken : List (List ℕ) → D → Type 0) : Type 0 where
-  pub takes : (old new : D) (t : ℤ) (frame : List ℕ) (frames : List (List ℕ)) → moves old (Took t frame) new → Taken frames old →
-      Taken (frames ++ frame ∷ []) new
-  pub rests : (old new : D) (m : Move) (frames : List (List ℕ)) → IsNoTake m → moves old m new → Taken frames old → Taken frames new
+-- and none is sent
+abbrev pub IsNoFrame : Move → Type 0
+IsNoFrame (Took t frame) = ⊥
+IsNoFrame (Emitted frame) = ⊥
+IsNoFrame move = Unit {0}
+
+pub record IsTaking {D : Type 0} (moves : D → Move → D → Type 0) (Taken : Frames → D → Type 0) : Type 0 where
+  pub takes : (old new : D) (t : ℤ) (frame : List ℕ) (F : Frames) → moves old (Took t frame) new → Taken F old → Taken (and_taken F frame) new
+  pub sends : (old new : D) (frame : List ℕ) (F : Frames) → moves old (Emitted frame) new → Taken F old → Taken (and_gone F (frame ∷ [])) new
+  pub rests : (old new : D) (m : Move) (F : Frames) → IsNoFrame m → moves old m new → Taken F old → Taken F new
+
+-- it came to be this device, as more frames were sent
+pub record Sent {D : Type 0} (Taken : Frames → D → Type 0) (F : Frames) (d : D) : Type 0 where
+  pub more : List (List ℕ)
+  pub taken : Taken (and_gone F more) d
+
+module _ {D : Type 0} (moves : D → Move → D → Type 0) (Taken : Frames → D → Type 0) (taking : IsTaking moves Taken) (F : Frames) where
+  pub none_sent : (d : D) → Taken F d → Sent Taken F d
+  none_sent d taken = record { more = []; taken = subst (λ (xs : List (List ℕ)). Taken (record F { gone = xs }) d) (sym (append-nil F.gone)) taken }
+
+  still_sent : (old new : D) (m : Move) → IsNoFrame m → moves old m new → Sent Taken F old → Sent Taken F new
+  still_sent old new m none moved s = record { more = s.more; taken = taking.rests old new m (and_gone F s.more) none moved s.taken }
+
+  pub sent_on : (old new : D) (m : Move) → IsNoTake m → moves old m new → Sent Taken F old → Sent Taken F new
+  sent_on old new (Took t frame) none moved s = absurd none
+  sent_on old new (Empty t) none moved s = still_sent old new (Empty t) tt moved s
+  sent_on old new (Allowed t leave) none moved s = still_sent old new (Allowed t leave) tt moved s
+  sent_on old new (Emitted frame) none moved s = record {
+    more = s.more ++ frame ∷ [];
+    taken = subst (λ (xs : List (List ℕ)). Taken (record F { gone = xs }) new) (append_assoc F.gone s.more (frame ∷ []))
+        (taking.sends old new frame (and_gone F s.more) moved s.taken);
+  }
+  sent_on old new (Denied len) none moved s = still_sent old new (Denied len) tt moved s
 
 module _ (side : Side) (i0 : InnerValue) (t : ℤ) (net : Net) where
   -- MORE STEPS
@@ -88,3 +148,62 @@ module _ (side : Side) (i0 : InnerValue) (t : ℤ) (net : Net) where
       AreMoved side i0 t net (frames ++ frame ∷ []) steps
   one_moved [] frame steps all one = (one, tt)
   one_moved (first ∷ frames) frame steps all one = (all.0, one_moved frames frame steps all.1 one)
+
+-- WHAT WENT
+
+module _ (i0 : InnerValue) (t : ℤ) where
+  -- as each of these moves says
+  abbrev pub HaveLeft : List (List ℕ) → List Step → Type 0
+  HaveLeft gone steps = AllByRecursion (λ step. HasLeft i0 t gone step.move) steps
+
+  pub left-append : (gone : List (List ℕ)) (steps more : List Step) → HaveLeft gone steps → HaveLeft gone more → HaveLeft gone (steps ++ more)
+  left-append gone [] more first second = second
+  left-append gone (step ∷ steps) more first second = (first.0, left-append gone steps more first.1 second)
+
+  module _ (gone more : List (List ℕ)) where
+    still_gone : (frame : List ℕ) → IsGone i0 t gone frame → IsGone i0 t (gone ++ more) frame
+    still_gone frame is = (is.0, get_more gone more is.0 frame is.1)
+
+    still_went : (i : InnerValue) (p : PacketValue) (plan : Plan) → WentBy i0 t gone i p plan → WentBy i0 t (gone ++ more) i p plan
+    still_went i p (Way.Go to) went = still_gone (frame_of i (Whole to (numbered i p))) went
+    still_went i p (Way.Cut to) went = still_gone (frame_of i (departure_from i (cut_of i to p))) went
+    still_went i p Way.Drop went = tt
+    still_went i p Way.NoRoute went = went
+    still_went i p Way.Wait went = went
+    still_went i p Way.Busy went = went
+    still_went i p (Way.Ask question) went = went
+
+    still_from : (cx : ContextValue) (s : Socket) (from : IpAddress) (p : PacketValue) → LeftFrom i0 t gone cx s from p → LeftFrom i0 t (gone ++ more) cx s from p
+    still_from cx s from p l = record {
+      i = l.i;
+      settings = l.settings;
+      moment = l.moment;
+      ident = l.ident;
+      shown = l.shown;
+      formed = l.formed;
+      source = l.source;
+      leaving_formed = l.leaving_formed;
+      busy = l.busy;
+      went = still_went l.i (sourced l.i p) (plan_of l.i l.busy (sourced l.i p).header) l.went;
+    }
+
+    still_offered : (cx : ContextValue) (s : Socket) (from : IpAddress) (o : Option PacketValue) → IfSome o (λ p. LeftFrom i0 t gone cx s from p) →
+        IfSome o (λ p. LeftFrom i0 t (gone ++ more) cx s from p)
+    still_offered cx s from None left = tt
+    still_offered cx s from (Some p) left = still_from cx s from p left
+
+    still_left : (move : Moves.Move) → HasLeft i0 t gone move → HasLeft i0 t (gone ++ more) move
+    still_left (Offers at cx v from true) left = still_offered cx (Is.Tcp v) from (offered_packet (offer_of cx v).socket) left
+    still_left (Offers at cx v from false) left = tt
+    still_left (Invokes at cx old entry call new) left = tt
+    still_left (Passes entry) left = tt
+    still_left (Gives at cx v answer new sent) left = tt
+    still_left (Takes at cx v ip header bytes) left = tt
+    still_left (Receives at cx v ip udp bytes) left = tt
+    still_left (Resets x) left = tt
+    still_left (Changes at old new) left = tt
+
+    -- as more frames went
+    pub all_left : (steps : List Step) → HaveLeft gone steps → HaveLeft (gone ++ more) steps
+    all_left [] left = tt
+    all_left (step ∷ steps) left = (still_left step.move left.0, all_left steps left.1)

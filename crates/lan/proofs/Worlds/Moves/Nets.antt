@@ -77,7 +77,7 @@ module _ (names : List ℕ → Bool) (side : Side) (C G : Type 0) (i0 : InnerVal
     took = tt;
   }
 
-module _ (names : List ℕ → Bool) (side : Side) (C G : Type 0) (F : List (List ℕ)) (i0 : InnerValue) (t : ℤ) where
+module _ (names : List ℕ → Bool) (side : Side) (C G : Type 0) (F : Frames) (i0 : InnerValue) (t : ℤ) where
   abbrev pub goes_on : (net now : Net) (move : Move) → Reaches names side C G F i0 t net now → May names now side move → history_after now.history move ≡ now.history
       → Grows (party now side) (party_after (party now side) move) → (C → IsHeld i0 t now side move) → (C → G → IsLet i0 t move) →
       Reaches names side C G F i0 t net (after now (step_of side move))
@@ -98,13 +98,13 @@ module _ (names : List ℕ → Bool) (side : Side) (C G : Type 0) (F : List (Lis
 -- ONE MOVE
 
 -- moves of this host lead on, to a net with these sockets
-pub record Moved (names : List ℕ → Bool) (side : Side) (C G : Type 0) (F : List (List ℕ)) (i0 : InnerValue) (t : ℤ) (net now : Net) (sockets : List (Option Socket)) : Type 0 where
+pub record Moved (names : List ℕ → Bool) (side : Side) (C G : Type 0) (F : Frames) (i0 : InnerValue) (t : ℤ) (net now : Net) (sockets : List (Option Socket)) : Type 0 where
   pub next : Net
   pub reaches : Reaches names side C G F i0 t net next
   pub sockets_are : (party next side).sockets ≡ sockets
   pub grows : Grows (party now side) (party next side)
 
-module _ (names : List ℕ → Bool) (side : Side) (C G : Type 0) (F : List (List ℕ)) (i0 : InnerValue) (t : ℤ) (net now : Net) (r : Reaches names side C G F i0 t net now) where
+module _ (names : List ℕ → Bool) (side : Side) (C G : Type 0) (F : Frames) (i0 : InnerValue) (t : ℤ) (net now : Net) (r : Reaches names side C G F i0 t net now) where
   abbrev pub stays : (sockets : List (Option Socket)) → (party now side).sockets ≡ sockets → Moved names side C G F i0 t net now sockets
   stays sockets same = record { next = now; reaches = r; sockets_are = same; grows = grows_not (party now side) }
 

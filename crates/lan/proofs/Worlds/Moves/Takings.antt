@@ -50,7 +50,7 @@ use Rattle.lan.proofs.Worlds.Moves.Places.{Places}
 use Rattle.lan.proofs.Worlds.Moves.Replies.{control_v4_made, control_v6_made, port_error_made, unread_made, answered_made, told_made}
 
 -- moves lead to these sockets, what answers was made, and the moves bring what K says
-pub record Ended (names : List ℕ → Bool) (side : Side) (C G : Type 0) (F : List (List ℕ)) (i0 : InnerValue) (t : ℤ) (net now : Net) (places : Places) (reply : Option ReplyValue)
+pub record Ended (names : List ℕ → Bool) (side : Side) (C G : Type 0) (F : Frames) (i0 : InnerValue) (t : ℤ) (net now : Net) (places : Places) (reply : Option ReplyValue)
     (K : List Step → Type 0) : Type 0 where
   pub moved : Moved names side C G F i0 t net now (sockets_of places)
   pub made : IfSome reply (IsMadeReply (party moved.next side))
@@ -71,7 +71,7 @@ counted_later : (i0 i after now : InnerValue) → i0.errors_until ≤ℤ i.error
 counted_later i0 i after now low same is still = past_it i0.errors_until i.errors_until after.moment low
     (ap (λ (u : ℤ). answered_at u after.moment) (sym same) ∙ ap (λ (x : InnerValue). x.errors_until) (sym is) ∙ still)
 
-module _ (names : List ℕ → Bool) (side : Side) (C G : Type 0) (F : List (List ℕ)) (i0 : InnerValue) (t : ℤ) (net now : Net) (r : Reaches names side C G F i0 t net now) where
+module _ (names : List ℕ → Bool) (side : Side) (C G : Type 0) (F : Frames) (i0 : InnerValue) (t : ℤ) (net now : Net) (r : Reaches names side C G F i0 t net now) where
   -- A PAYLOAD
 
   module _ (i : InnerValue) (places : Places) (ip : IpRepr) (payload : List ℕ) (taken : Bool) (has : (party now side).sockets ≡ sockets_of places)

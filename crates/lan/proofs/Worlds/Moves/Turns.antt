@@ -80,11 +80,11 @@ CanBeWide x = IsWellFormed x → IsWide x
 
 -- moves lead to these sockets, and a packet that is done with was made, as it leaves from this address
 pub record Gives (names : List ℕ →
-    Bool) (side : Side) (C G : Type 0) (F : List (List ℕ)) (i0 : InnerValue) (t : ℤ) (net now : Net) (sockets : List (Option Parties.Socket)) (from : IpAddress) (sent : Bool) (packet : Option PacketValue) : Type 0 where
+    Bool) (side : Side) (C G : Type 0) (F : Frames) (i0 : InnerValue) (t : ℤ) (net now : Net) (sockets : List (Option Parties.Socket)) (from : IpAddress) (sent : Bool) (packet : Option PacketValue) : Type 0 where
   pub moved : Moved names side C G F i0 t net now sockets
   pub made : sent ≡ true → IfSome packet (IsMadeFrom (party moved.next side) from)
 
-module _ (names : List ℕ → Bool) (side : Side) (C G : Type 0) (F : List (List ℕ)) (i0 : InnerValue) (t : ℤ) (net now : Net) (r : Reaches names side C G F i0 t net now) (before after : Places) (from : IpAddress) where
+module _ (names : List ℕ → Bool) (side : Side) (C G : Type 0) (F : Frames) (i0 : InnerValue) (t : ℤ) (net now : Net) (r : Reaches names side C G F i0 t net now) (before after : Places) (from : IpAddress) where
   -- the party has the sockets of the places, of which one holds this socket
   abbrev Has : Meta → Socket → Type 0
   Has m s = (party now side).sockets ≡ sockets_of (before ++ holding m s ∷ after)

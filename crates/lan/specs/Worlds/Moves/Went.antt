@@ -1,0 +1,55 @@
+-- Of each segment that a TCP socket offers in a poll, and is told that it is done with: it went in a frame, or its host dropped it.
+use Rattle.std.specs.Prelude.{◌≡◌, ℕ, ◌^◌, ◌<◌, ℤ, Bool, true, List, slice_get, Some, IfSome}
+use Rattle.sockets.specs.Context.{ContextValue}
+use Rattle.sockets.specs.Packet.{PacketValue}
+use Rattle.sockets.specs.WellFormed.{IsWellFormed}
+use Rattle.sockets.specs.declared.socket.Socket.{Socket}
+use Rattle.sockets.specs.declared.socket.Socket.TheVariants as Is
+use Rattle.tcp_model.specs.Offers.{offer_of, offered_packet}
+use Rattle.interface.specs.Ip.{source_of, destination_of}
+use Rattle.interface.specs.Remote.{context_for}
+use Rattle.interface.specs.Turn.{is_given_up, sourced}
+use Rattle.interface_egress.specs.Departing.{HasSettingsOf}
+use Rattle.interface_egress.specs.Departure.{Whole}
+use Rattle.interface_egress.specs.Fragments.{departure_from}
+use Rattle.interface_egress.specs.GoesOut.{cut_of, frame_of, numbered}
+use Rattle.interface_egress.specs.Plan.{plan_of}
+use Rattle.interface_egress.specs.declared.plan.Plan.{Plan}
+use Rattle.interface_egress.specs.declared.plan.Plan.TheVariants as Way
+use Rattle.interface_egress.specs.declared.socket_meta.Meta.{Meta}
+use Rattle.interface_ingress.specs.IpAddress.{IpAddress}
+use Rattle.interface_tables.specs.Inner.{InnerValue}
+use Rattle.lan.specs.Worlds.AtLink.Moves.{Move}
+use Rattle.lan.specs.Worlds.AtLink.Moves.Move.{Offers}
+
+-- A poll of a host at this moment: what the host was before it, and the frames that its device took in it, the oldest first.
+module _ (i0 : InnerValue) (t : ℤ) (gone : List (List ℕ)) where
+  -- this frame is among them
+  abbrev pub IsGone : List ℕ → Type 0
+  IsGone frame = (n : ℕ) × (slice_get gone n ≡ Some frame)
+
+  -- What became of a packet that its host is done with, as it planned: it went whole, or was cut, and its first piece went; it was dropped; or it had
+  -- waited for its next hop, and was given up.
+  abbrev pub WentBy : InnerValue → PacketValue → Plan → Type 0
+  WentBy i p (Way.Go to) = IsGone (frame_of i (Whole to (numbered i p)))
+  WentBy i p (Way.Cut to) = IsGone (frame_of i (departure_from i (cut_of i to p)))
+  WentBy i p Way.Drop = Unit {0}
+  WentBy i p plan = (meta : Meta) × (is_given_up meta i (destination_of p.header) plan ≡ true)
+
+  -- The host was so when it showed itself to this socket, whose packet left from this address.
+  pub record LeftFrom (cx : ContextValue) (s : Socket) (from : IpAddress) (p : PacketValue) : Type 0 where
+    pub i : InnerValue
+    pub settings : HasSettingsOf i0 i
+    pub moment : i.moment ≡ t
+    pub ident : i0.ident < 2 ^ 16 → i.ident < 2 ^ 16
+    pub shown : cx ≡ context_for i s
+    pub formed : IsWellFormed p
+    pub source : from ≡ source_of (sourced i p).header
+    pub leaving_formed : IsWellFormed (sourced i p)
+    pub busy : Bool
+    pub went : WentBy i (sourced i p) (plan_of i busy (sourced i p).header)
+
+  -- so each packet that a TCP socket offers, and is told that it went
+  abbrev pub HasLeft : Move → Type 0
+  HasLeft (Offers at cx v from true) = IfSome (offered_packet (offer_of cx v).socket) (λ p. LeftFrom cx (Is.Tcp v) from p)
+  HasLeft move = Unit {0}
