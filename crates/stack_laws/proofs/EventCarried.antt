@@ -13,6 +13,7 @@ use Rattle.lan.specs.Worlds.AtLink.Runs.{Starts}
 use Rattle.lan.specs.Worlds.AtLink.Station.{Stations}
 use Rattle.lan.specs.Worlds.Still.{StillRun}
 use Rattle.lan.proofs.Worlds.AtLink.Extended.{run-append}
+use Rattle.lan.proofs.Worlds.AtLink.Paired.Wires.{all_get}
 use Rattle.stack_laws.proofs.EventMoves.{untimed_append}
 use Rattle.stack_laws.specs.Progress.Carried.{AreCarried, IsOnItsWay, SendsIn, TakesIn}
 use Rattle.stack_laws.specs.Progress.Events.{MoveBy, all_at, clock_in, untimed}
@@ -28,13 +29,7 @@ no_earlier t = omega (arith, ints)
 
 -- this frame is among these
 abbrev pub IsAmong : List (List ℕ) → List ℕ → Type 0
-IsAmong [] frame = ⊥
-IsAmong (f ∷ frames) frame = (f ≡ frame) ⊎ IsAmong frames frame
-
-of_all : (P : List ℕ → Type 0) (frames : List (List ℕ)) (frame : List ℕ) → AllByRecursion P frames → IsAmong frames frame → P frame
-of_all P [] frame all among = absurd among
-of_all P (f ∷ frames) frame all (inl is) = subst P is all.0
-of_all P (f ∷ frames) frame all (inr among) = of_all P frames frame all.1 among
+IsAmong frames frame = (n : ℕ) × (slice_get frames n ≡ Some frame)
 
 -- A step may bring a segment of a side to the other, and a frame may be one of a segment of a side; and these are the segments of a side so far.
 module _ (Brings : Side → Made → Step → Type 0) (IsFrameOf : Side → Made → List ℕ → Type 0) (sent : Net → Side → List Made) where
@@ -141,7 +136,7 @@ module _ (Brings : Side → Made → Step → Type 0) (IsFrameOf : Side → Made
         let now : AreBrought delay mid (all_at t these ++ rest) =
         all_brought delay t on_way (λ side frame. (frames : List (List ℕ)) × SendsIn (kind_of e.event) still.0 hosts side frames × IsAmong frames frame) mid these
         rest
-        (λ side frame goes. of_all (λ f. IsOnItsWay (on_way side) (t +ℤ pos delay) f) goes.0 frame (carried.3 side goes.0 goes.1) goes.2)
+        (λ side frame goes. all_get (λ f. IsOnItsWay (on_way side) (t +ℤ pos delay) f) goes.0 goes.2.0 frame (carried.3 side goes.0 goes.1) goes.2.1)
         facts.1.goes onward (subst (λ (n : Net). AreBrought delay n rest) ends are) in
         subst (AreBrought delay net) (sym (ap (λ (xs : List (ℤ × Step)). xs ++ rest) by.2 ∙ append_assoc before (all_at t these) rest))
         (all more still.0 still.1 before (all_at t these ++ rest) carried.0 by.3 facts.0 carried.1 then_on now)

@@ -23,6 +23,7 @@ pub mod EventTurns
 pub mod EventReads
 pub mod EventCarried
 pub mod EventMade
+pub mod EventFrames
 pub mod EventPartners
 pub mod Blocks
 pub mod MovedEvents

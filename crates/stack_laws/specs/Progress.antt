@@ -27,6 +27,7 @@ pub mod Takings
 pub mod OneClock
 pub mod Serving
 pub mod Carried
+pub mod Ends
 pub mod ByEvents
 pub mod Edges
 pub mod EdgesMet
