@@ -34,13 +34,13 @@ module _ (starts : Starts) where
   first_link A = refl
   first_link B = refl
 
-  same_link : (history : List Entry) (hosts : Stations) → StillRun starts history hosts → (s : Side) →
+  pub same_link : (history : List Entry) (hosts : Stations) → StillRun starts history hosts → (s : Side) →
       (station hosts s).link.capabilities ≡ (start starts s).capabilities
   same_link [] hosts still s = ap (λ (h : Stations). (station h s).link.capabilities) still.0 ∙ first_link s
   same_link (e ∷ past) hosts (before, still, leads, all) s =
       (happens_stays before hosts (kind_of e.event) e.answer e.found s leads.happens).link.capabilities ∙ same_link past before still s
 
-  on_ip : IsFreshWorld starts → starts.a.capabilities.medium ≡ Medium.Ip → (s : Side) → (start starts s).capabilities.medium ≡ Medium.Ip
+  pub on_ip : IsFreshWorld starts → starts.a.capabilities.medium ≡ Medium.Ip → (s : Side) → (start starts s).capabilities.medium ≡ Medium.Ip
   on_ip fresh ip A = ip
   on_ip fresh ip B = sym fresh.medium ∙ ip
 

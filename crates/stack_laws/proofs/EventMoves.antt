@@ -54,7 +54,8 @@ use Rattle.lan.proofs.Worlds.Link.Sufficient.{numbers_grow, polled_few}
 use Rattle.lan.proofs.Worlds.Moves.Calls.{IsCalled, names}
 use Rattle.lan.proofs.Worlds.Moves.Events.{call_comes, call_steps, still_comes, still_steps}
 use Rattle.lan.proofs.Worlds.Moves.Fits.{worlds_fit}
-use Rattle.lan.proofs.Worlds.Moves.Held.{AreHeld, IsHeld, IsSeenAs, IsShownAt, all_so, hosts_same}
+use Rattle.lan.proofs.Worlds.Moves.Frames.{left_narrowed}
+use Rattle.lan.proofs.Worlds.Moves.Held.{AreHeld, IsHeld, IsSeenAs, IsShownAt, Stays, all_so, hosts_same}
 use Rattle.lan.proofs.Worlds.Moves.Nets.{either_side, step_of}
 use Rattle.lan.proofs.Worlds.Moves.Worlds.{fresh_net}
 use Rattle.lan.proofs.Worlds.PolledJoins as Polled
@@ -66,7 +67,7 @@ use Rattle.lan.proofs.Worlds.StillSources.{PairKeeps}
 use Rattle.lan.proofs.Worlds.StillSteps.{AreAllHeld, all-append, all-at, one-held, raised}
 use Rattle.lan.specs.Worlds.Still.{host_in}
 use Rattle.stack_laws.proofs.SentOff.{all_sent_off, is_ip, mtu_least}
-use Rattle.stack_laws.specs.Progress.Events.{AreOfEvent, AreSentOff, AreTaken, IsOfPoll, MoveBy, MoveByEvents, all_at, clock_in, shown_by, shown_in, untimed}
+use Rattle.stack_laws.specs.Progress.Events.{AreGone, AreOfEvent, AreSentOff, AreTaken, IsOfPoll, MoveBy, MoveByEvents, all_at, clock_in, shown_by, shown_in, untimed}
 
 -- WHAT CLOCKS SHOW
 
@@ -261,6 +262,7 @@ record Goes (starts : Starts) (past : List Entry) (old : Stations) (e : Entry) (
   pub are : AreOfEvent e (kind_of e.event) (shown_in starts past) comes.steps
   pub sent_off : AreSentOff (kind_of e.event) new comes.steps
   pub taken : AreTaken (kind_of e.event) old new net comes.steps
+  pub went : AreGone (kind_of e.event) old new comes.steps
 
 module _ (starts : Starts) (fresh : IsFreshWorld starts) (past : List Entry) (old new : Stations) (e : Entry) (still : StillRun starts past old)
     (leads : Leads past old e new) (typed : IsTyped (kind_of e.event)) (all : AreStill starts new) (net : Net) (w : AreWell starts past old net)
@@ -307,9 +309,9 @@ module _ (starts : Starts) (fresh : IsFreshWorld starts) (past : List Entry) (ol
 
   -- that moves no socket
   passes : (k : Kind) → kind_of e.event ≡ k → IsNoCall k → ((steps : List Step) → (side : Side) × (steps ≡ step_of side (Passes e) ∷ []) →
-      AreOfEvent e k (shown_in starts past) steps) → ((steps : List Step) → AreSentOff k new steps) → ((steps : List Step) → AreTaken k old new net steps)
+      AreOfEvent e k (shown_in starts past) steps) → ((steps : List Step) → AreSentOff k new steps) → ((steps : List Step) → AreTaken k old new net steps) → ((steps : List Step) → AreGone k old new steps)
       → ((s : Side) → sockets_of (station new s).places ≡ sockets_of (station old s).places) → AreJoined (firsts starts) w.most new net → Goes starts past old e new net
-  passes k is none as_its no_poll none_taken same joined =
+  passes k is none as_its no_poll none_taken none_gone same joined =
       let i0 = (station old A).host.inner in
       let none_there = subst IsNoCall (sym is) none in
       let c = still_comes i0 (pos 0) net old new past e of none_there same in
@@ -321,6 +323,7 @@ module _ (starts : Starts) (fresh : IsFreshWorld starts) (past : List Entry) (ol
         are = subst (λ (x : Kind). AreOfEvent e x (shown_in starts past) c.steps) (sym is) (as_its c.steps (A, steps));
         sent_off = subst (λ (x : Kind). AreSentOff x new c.steps) (sym is) (no_poll c.steps);
         taken = subst (λ (x : Kind). AreTaken x old new net c.steps) (sym is) (none_taken c.steps);
+        went = subst (λ (x : Kind). AreGone x old new c.steps) (sym is) (none_gone c.steps);
       }
 
   plain : IsPlain (kind_of e.event) → AreJoined (firsts starts) w.most new net
@@ -357,6 +360,7 @@ module _ (starts : Starts) (fresh : IsFreshWorld starts) (past : List Entry) (ol
           are = subst (λ (x : Kind). AreOfEvent e x (shown_in starts past) c.steps) (sym is) its;
           sent_off = subst (λ (x : Kind). AreSentOff x new c.steps) (sym is) tt;
           taken = subst (λ (x : Kind). AreTaken x old new net c.steps) (sym is) tt;
+          went = subst (λ (x : Kind). AreGone x old new c.steps) (sym is) tt;
         }
 
   -- a poll
@@ -416,24 +420,30 @@ module _ (starts : Starts) (fresh : IsFreshWorld starts) (past : List Entry) (ol
               (all_so (first starts side) (station old side).host.inner (seen side) t side net c.steps held);
           are = subst (λ (x : Kind). AreOfEvent e x (shown_in starts past) c.steps) (sym is) its;
           sent_off = subst (λ (x : Kind). AreSentOff x new c.steps) (sym is) goes_off;
-          taken = subst (λ (x : Kind). AreTaken x old new net c.steps) (sym is) (pol.frames, pol.waited, pol.took);
+          taken = subst (λ (x : Kind). AreTaken x old new net c.steps) (sym is) (pol.frames.taken, pol.waited, pol.took);
+          went = subst (λ (x : Kind). AreGone x old new c.steps) (sym is) (
+            pol.frames.gone,
+            pol.are_sent,
+            left_narrowed (station old side).host.inner t (Stays (station old side).host.inner (station new side).host.inner)
+                ((station new side).host.inner.paths ≡ []) pol.frames.gone (λ none. (none, (all side).errors ∙ sym (was side).errors)) c.steps pol.left,
+          );
         }
 
   by_kind : (k : Kind) → kind_of e.event ≡ k → IsTyped k → Happens old k e.answer e.found new → Goes starts past old e new net
   by_kind (OfHost side (Calls i call)) is so acts = invokes side i call is acts
   by_kind (OfHost side (Sets setting)) is so acts =
-      passes (OfHost side (Sets setting)) is tt (λ steps its. its) (λ steps. tt) (λ steps. tt)
+      passes (OfHost side (Sets setting)) is tt (λ steps its. its) (λ steps. tt) (λ steps. tt) (λ steps. tt)
       (same_sockets side acts.rests (ap (λ (x : StationValue). sockets_of x.places) acts.acts.0.3))
       (setting_joins (firsts starts) w.most old new net side setting e.answer w.joined so acts.acts.0 acts.rests)
   by_kind (OfHost side (Opens n)) is so acts =
-      passes (OfHost side (Opens n)) is tt (λ steps its. its) (λ steps. tt) (λ steps. tt)
+      passes (OfHost side (Opens n)) is tt (λ steps its. its) (λ steps. tt) (λ steps. tt) (λ steps. tt)
       (same_sockets side acts.rests (ap (λ (x : StationValue). sockets_of x.places) acts.acts.2)) (plain (subst IsPlain (sym is) tt))
   by_kind (OfHost side (Asks t)) is so acts =
-      passes (OfHost side (Asks t)) is tt (λ steps its. its) (λ steps. tt) (λ steps. tt)
+      passes (OfHost side (Asks t)) is tt (λ steps its. its) (λ steps. tt) (λ steps. tt) (λ steps. tt)
       (same_sockets side acts.rests (ap (λ (x : StationValue). sockets_of x.places) acts.acts.2)) (plain (subst IsPlain (sym is) tt))
   by_kind (OfHost side (Polls t budget)) is so acts = polls side t budget is acts
   by_kind (OfLink act) is so acts =
-      passes (OfLink act) is tt (λ steps its. its) (λ steps. tt) (λ steps. tt)
+      passes (OfLink act) is tt (λ steps its. its) (λ steps. tt) (λ steps. tt) (λ steps. tt)
       (λ s. ap (λ (h : Stations). sockets_of (station h s).places) acts.2 ∙ link_places old act s) (plain (subst IsPlain (sym is) tt))
 
   goes : Goes starts past old e new net
@@ -493,7 +503,7 @@ module _ (starts : Starts) (fresh : IsFreshWorld starts) where
             these,
             refl,
             so_far.by_events,
-            record { are = one.are; sent_off = one.sent_off; taken = one.taken; may = one.comes.may; of = subst (λ (n : Net). IsNetOf n new (e ∷ more ++ past)) ends one.comes.of },
+            record { are = one.are; sent_off = one.sent_off; taken = one.taken; went = one.went; may = one.comes.may; of = subst (λ (n : Net). IsNetOf n new (e ∷ more ++ past)) ends one.comes.of },
           );
         }
 

@@ -105,6 +105,7 @@ module _ (i : InnerValue) (t : ℤ) (moment : IsMoment t) (now : i.moment ≡ t)
     settings = record { hardware = refl; mtu = refl; checksums = refl; addresses = refl; isn_key = refl; any_ip = refl; routes = refl };
     moment = now;
     low = no_earlier i.errors_until;
+    ident = λ small. small;
   }
 
   unmarked_poll : (w : Option Waiting) (poll : PollAt) (known : Bool) → waits_by w known i.moment ≡ false → poll_by w poll known i.moment ≡ poll

@@ -16,6 +16,7 @@ pub mod EventMoves
 pub mod EventTakes
 pub mod EventPlaces
 pub mod EventLeave
+pub mod EventGoes
 pub mod EventClocks
 pub mod EventAsked
 pub mod EventQuiet

@@ -23,6 +23,7 @@ pub mod OnEthernet
 pub mod Partners
 pub mod Moving
 pub mod Events
+pub mod Gone
 pub mod Takings
 pub mod OneClock
 pub mod Serving

@@ -1,6 +1,8 @@
 -- What a host does is a run over packets.
 pub mod Devices
 pub mod Frames
+pub mod Idents
+pub mod Leaving
 pub mod Leave
 pub mod Following
 pub mod Held

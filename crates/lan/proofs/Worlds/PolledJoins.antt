@@ -86,7 +86,7 @@ module _ (firsts most : Side →
 
   -- what the poll led to, where the sockets offer what can be read
   module _ (fit : OfEach IsFit s.places) where
-    pub polled : Polled s.host.inner s.link.waiting t net new (e ∷ past) side (L then_most)
+    pub polled : Polled s.host.inner s.link.waiting s.link.sent t net new (e ∷ past) side (L then_most)
     polled = poll_comes net old new past e side t budget so_far L link of is acts linked fit
 
     abbrev pub next : Net

@@ -6,7 +6,7 @@ use Rattle.lan_base.specs.Device.{Move, Took, Empty, Allowed, Emitted, Denied, g
 use Rattle.lan.specs.Worlds.AtLink.Port.{PortValue, PortMove, has_leave}
 use Rattle.interface_egress.specs.Determined.{IsDetermined}
 use Rattle.interface.proofs.Unrefused.{IsCounting, head_is, none_waits, given_or_not}
-use Rattle.lan.proofs.Worlds.Moves.Frames.{IsNoTake, IsTaking}
+use Rattle.lan.proofs.Worlds.Moves.Frames.{Frames, IsNoFrame, IsTaking}
 use Rattle.lan.proofs.Worlds.Moves.Leave.{IsGiving}
 
 -- a port before a frame was taken
@@ -110,26 +110,36 @@ giving_ports refused = record {
   takes = λ old new len moved since gives. (let more = denied old new len moved in let few = gives.1 in absurd (omega (arith, more, since, few)));
 }
 
--- FRAMES THAT WERE TAKEN, of those that waited
+-- FRAMES THAT WERE TAKEN, of those that waited, and frames that were sent behind those before
 
 -- the others wait still
-abbrev pub TookOf : List (List ℕ) → List (List ℕ) → PortValue → Type 0
-TookOf waits frames p = waits ≡ frames ++ p.link.waiting
+abbrev pub TookOf : List (List ℕ) → List (List ℕ) → Frames → PortValue → Type 0
+TookOf waits sent F p = (waits ≡ F.taken ++ p.link.waiting) × (p.link.sent ≡ sent ++ F.gone)
 
-waits_on : (waits frames : List (List ℕ)) (old new : PortValue) → new.link.waiting ≡ old.link.waiting → TookOf waits frames old → TookOf waits frames new
-waits_on waits frames old new same took = took ∙ ap (λ (xs : List (List ℕ)). frames ++ xs) (sym same)
+same_end : (waits sent : List (List ℕ)) (F : Frames) (old new : PortValue) → new.link.waiting ≡ old.link.waiting → new.link.sent ≡ old.link.sent →
+    TookOf waits sent F old → TookOf waits sent F new
+same_end waits sent F old new waiting out took = (took.0 ∙ ap (λ (xs : List (List ℕ)). F.taken ++ xs) (sym waiting), out ∙ took.1)
 
-rests : (waits : List (List ℕ)) (old new : PortValue) (m : Move) (frames : List (List ℕ)) → IsNoTake m → PortMove old m new → TookOf waits frames old →
-    TookOf waits frames new
-rests waits old new (Took t frame) frames none goes took = absurd none
-rests waits old new (Empty t) frames none goes took = waits_on waits frames old new (ap (λ (p : PortValue). p.link.waiting) goes.0) took
-rests waits old new (Allowed t given) frames none goes took = waits_on waits frames old new (ap (λ (p : PortValue). p.link.waiting) goes.0) took
-rests waits old new (Emitted frame) frames none goes took = waits_on waits frames old new (ap (λ (p : PortValue). p.link.waiting) goes) took
-rests waits old new (Denied len) frames none goes took = waits_on waits frames old new (ap (λ (p : PortValue). p.link.waiting) goes.0) took
+rests : (waits sent : List (List ℕ)) (old new : PortValue) (m : Move) (F : Frames) → IsNoFrame m → PortMove old m new → TookOf waits sent F old →
+    TookOf waits sent F new
+rests waits sent old new (Took t frame) F none goes took = absurd none
+rests waits sent old new (Empty t) F none goes took =
+    same_end waits sent F old new (ap (λ (p : PortValue). p.link.waiting) goes.0) (ap (λ (p : PortValue). p.link.sent) goes.0) took
+rests waits sent old new (Allowed t given) F none goes took =
+    same_end waits sent F old new (ap (λ (p : PortValue). p.link.waiting) goes.0) (ap (λ (p : PortValue). p.link.sent) goes.0) took
+rests waits sent old new (Emitted frame) F none goes took = absurd none
+rests waits sent old new (Denied len) F none goes took =
+    same_end waits sent F old new (ap (λ (p : PortValue). p.link.waiting) goes.0) (ap (λ (p : PortValue). p.link.sent) goes.0) took
 
-pub taking_ports : (waits : List (List ℕ)) → IsTaking PortMove (TookOf waits)
-taking_ports waits = record {
-  takes = λ old new t frame frames goes took.
-      took ∙ ap (λ (p : PortValue). frames ++ p.link.waiting) goes.1 ∙ sym (append_assoc frames (frame ∷ []) new.link.waiting);
-  rests = rests waits;
+pub taking_ports : (waits sent : List (List ℕ)) → IsTaking PortMove (TookOf waits sent)
+taking_ports waits sent = record {
+  takes = λ old new t frame F goes took. (
+    took.0 ∙ ap (λ (p : PortValue). F.taken ++ p.link.waiting) goes.1 ∙ sym (append_assoc F.taken (frame ∷ []) new.link.waiting),
+    sym (ap (λ (p : PortValue). p.link.sent) goes.1) ∙ took.1,
+  );
+  sends = λ old new frame F goes took. (
+    took.0 ∙ ap (λ (p : PortValue). F.taken ++ p.link.waiting) (sym goes),
+    ap (λ (p : PortValue). p.link.sent) goes ∙ ap (λ (xs : List (List ℕ)). xs ++ frame ∷ []) took.1 ∙ append_assoc sent F.gone (frame ∷ []),
+  );
+  rests = rests waits sent;
 }

@@ -1,25 +1,19 @@
 -- The next identification stays a number of 16 bits in a socket's turn, and in a step of the way out.
-use Rattle.std.proofs.Common.{◌≡◌, ℕ, ◌+◌, ◌%◌, ◌^◌, ◌<◌, arith, Bool, true, false, ◌||◌, inl, inr, List, [], ◌∷◌, ◌++◌}
-use Rattle.std.proofs.Common.{Option, Some, None, is_some, sym, subst, cond}
-use Rattle.std.proofs.Math.Nat.{mod-lt}
+use Rattle.std.proofs.Common.{◌≡◌, ◌^◌, ◌<◌, Bool, true, false, ◌||◌, inl, inr, List, [], ◌∷◌, ◌++◌, Option, Some, None, is_some, sym, subst}
 use Rattle.net_base.specs.Device.{Move}
 use Rattle.ip_wire.specs.IpAddress.{IpAddress}
-use Rattle.ip_wire.specs.IpRepr.{IpRepr}
 use Rattle.interface_ingress.specs.Offer as Answer
 use Rattle.interface_ingress.specs.Offer.TheVariants as Offer
 use Rattle.interface_ingress.specs.Packet.{PacketValue}
 use Rattle.interface_ingress.specs.Socket.{Socket}
 use Rattle.interface_ingress.specs.Sockets.{offered_by}
 use Rattle.interface_tables.specs.Inner.{InnerValue}
-use Rattle.interface_egress.specs.Departing.{takes_number, ident_after}
 use Rattle.interface_egress.specs.Fragments.{LeftValue}
 use Rattle.interface_egress.specs.Plan.{plan_of}
-use Rattle.interface_egress.specs.declared.plan.Plan.{Plan}
 use Rattle.interface_egress.specs.declared.socket_meta.Meta.{Meta}
 use Rattle.interface_egress.specs.declared.socket_set.Item.{Item}
 use Rattle.interface_egress.specs.declared.socket_set.SocketStorage.{SocketStorage}
 use Rattle.interface_egress.specs.declared.way_out.Sent.{Sent}
-use Rattle.interface_egress.specs.declared.way_out.Sent.TheVariants as Outcome
 use Rattle.interface_egress.proofs.Changes.{changes}
 use Rattle.interface.specs.Awaited.{turn_of}
 use Rattle.interface.specs.Host.{Sender}
@@ -28,20 +22,10 @@ use Rattle.interface.specs.Turn.{Leaves, SendsBy, Answers, TurnsIf, ItemTurns, P
 use Rattle.interface.specs.WayOut.{Clears, Egress}
 use Rattle.interface.specs.declared.turn.Turned.{Turned}
 use Rattle.interface.specs.declared.turn.Turned.TheVariants as Turn
+use Rattle.lan.proofs.Worlds.Moves.Idents.{small_after}
 
 abbrev pub IsSmall : InnerValue → Type 0
 IsSmall i = i.ident < 2 ^ 16
-
-by_number : (n : ℕ) (takes : Bool) → n < 2 ^ 16 → cond takes ((n + 1) % 2 ^ 16) n < 2 ^ 16
-by_number n true small = mod-lt (n + 1) (omega arith)
-by_number n false small = small
-
-by_outcome : (n : ℕ) (plan : Plan) (sent : Sent) (h : IpRepr) → n < 2 ^ 16 → ident_after plan sent h n < 2 ^ 16
-by_outcome n plan Outcome.Gone h small = by_number n (takes_number plan h) small
-by_outcome n plan Outcome.Dropped h small = small
-by_outcome n plan Outcome.Waits h small = small
-by_outcome n plan Outcome.Busy h small = small
-by_outcome n plan Outcome.Refused h small = small
 
 module _ {D : Type 0} (moves : D → Move → D → Type 0) (turn : Option IpAddress) (x x' : Sender D) (small : IsSmall x.inner) where
   rests : x' ≡ x → IsSmall x'.inner
@@ -51,7 +35,7 @@ module _ {D : Type 0} (moves : D → Move → D → Type 0) (turn : Option IpAdd
   leaves m p sent (inl rests) = subst IsSmall (sym rests.2) small
   leaves m p sent (inr goes) =
       subst IsSmall (sym (changes moves goes.0 x'.device x.inner x'.inner x.left x'.left p (is_some x.left) sent goes.2).1)
-      (by_outcome x.inner.ident (plan_of x.inner (is_some x.left) p.header) sent p.header small)
+      (small_after x.inner.ident (plan_of x.inner (is_some x.left) p.header) sent p.header small)
 
   offers : (o : Option PacketValue) (item item' : Item Socket) (changed : Bool) (turned : Turned) → SendsBy moves turn o x item changed turned x' item'
       → IsSmall x'.inner

@@ -96,7 +96,7 @@ AreTaken kind old new net steps = Unit {0}
 abbrev pub AreGone : Kind → Stations → Stations → List Step → Type 0
 AreGone (OfHost side (Polls moment budget)) old new steps =
     (gone : List (List ℕ)) × ((station new side).link.sent ≡ (station old side).link.sent ++ gone)
-    × AllByRecursion (λ step. HasLeft (station old side).host.inner moment gone step.move) steps
+    × AllByRecursion (λ step. HasLeft (station old side).host.inner moment ((station new side).host.inner.paths ≡ []) gone step.move) steps
 AreGone kind old new steps = Unit {0}
 
 -- These moves are an event's own, and lead on from a net of the hosts before it to one of those behind it.

@@ -1,11 +1,15 @@
 //! The events of a world are moves of its hosts.
 
-ghost use Rattle.std.specs.Prelude.{◌≡◌, ◌∷◌, ◌++◌, ℕ, ℤ, pos, ◌+ℤ◌, ◌≤ℤ◌, true, IsTrue, List};
+ghost use Rattle.std.specs.Prelude.{◌≡◌, ◌≢◌, ◌∷◌, ◌++◌, ℕ, ℤ, pos, ◌+ℤ◌, ◌≤ℤ◌, Bool, true, false, IsTrue, List, Some};
 ghost use Rattle.ip_packet.specs.declared.ip.repr.IpRepr.{IpRepr};
 ghost use Rattle.ip_wire.specs.HardwareAddress.{HardwareAddress};
+ghost use Rattle.ip_wire.specs.IpAddress.{IpAddress};
 ghost use Rattle.ip_wire.specs.TcpHeader.{TcpHeader};
+ghost use Rattle.tcp_model.specs.Offers.{offer_of, offered_packet};
 ghost use Rattle.tcp_model.specs.Value.{TcpValue};
 ghost use Rattle.tcp_progress.specs.Arrivals.{is_synchronized};
+ghost use Rattle.interface_egress.specs.Plan.{never_leaves};
+ghost use Rattle.interface_ingress.specs.Context.{ContextValue};
 ghost use Rattle.interface_ingress.specs.Packet.{Segment, packet_of};
 ghost use Rattle.interface_ingress.specs.WellFormed.{IsWellFormed};
 ghost use Rattle.interface.specs.Taken.{CanRead, HasWidths};
@@ -19,6 +23,7 @@ ghost use Rattle.lan.specs.Worlds.AtLink.Kinds.{kind_of};
 ghost use Rattle.lan.specs.Worlds.AtLink.Kinds.Act.{Polls};
 ghost use Rattle.lan.specs.Worlds.AtLink.Kinds.Kind.{OfHost};
 ghost use Rattle.lan.specs.Worlds.AtLink.Moves.{IsRun, Step, run};
+ghost use Rattle.lan.specs.Worlds.AtLink.Moves.Move.{Offers};
 ghost use Rattle.lan.specs.Worlds.AtLink.Paired.{AreNew, HaveKeys, NewSocket, Seat};
 ghost use Rattle.lan.specs.Worlds.AtLink.Parties.{Net};
 ghost use Rattle.lan.specs.Worlds.AtLink.Partners.{ArePartners};
@@ -34,6 +39,7 @@ ghost use Rattle.lan_base.specs.Port.{has_leave};
 ghost use Rattle.stack_laws.specs.Progress.ByEvents.{GoOnByEvents};
 ghost use Rattle.stack_laws.specs.Progress.Delivered.{reader_of};
 ghost use Rattle.stack_laws.specs.Progress.Events.{HappensBy, MoveBy, MoveByEvents, clock_in};
+ghost use Rattle.stack_laws.specs.Progress.Gone.{GoesInFrame};
 ghost use Rattle.stack_laws.specs.Progress.Leave.{LiesAmong};
 ghost use Rattle.stack_laws.specs.Progress.Moving.{AreAsked, AreAtMoments, AreLetGo, IsReadInTime};
 ghost use Rattle.stack_laws.specs.Progress.OneClock.{KeepOneClock, timed};
@@ -85,6 +91,26 @@ pub fn offers_go_while_links_give_leave()
     ensures { (starts : Starts) (net : Net) (past more : List Entry) (hosts : Stations) (still : StillRun starts (more ++ past) hosts)
         (seats : Side → Seat) (moves : List (ℤ × Happening)) → IsFreshWorld starts → starts.a.capabilities.medium ≡ Medium.Ip
         → MoveBy starts net past more hosts still (timed moves) → GiveLeave starts past more hosts still → AreLetGo seats moves }
+{}
+
+/// Law: over such a medium, where the link of a host gives leave to send behind its poll, each segment that a TCP socket offers in a move of the poll, and
+/// that may leave the host, goes in a frame: it is one of those that the link took in the poll. Its host was so when the socket offered it, and its packet can
+/// be sent.
+pub fn what_goes_leaves_in_a_frame()
+    ensures { (starts : Starts) (past : List Entry) (e : Entry) (hosts : Stations) (net : Net) (before behind : List Step) (side : Side) (t : ℤ)
+        (budget place : ℕ) (cx : ContextValue) (v : TcpValue) (from : IpAddress) (sent : Bool) (ip : IpRepr) (header : TcpHeader) (bytes : List ℕ)
+        → IsFreshWorld starts
+        → starts.a.capabilities.medium ≡ Medium.Ip
+        → AreTyped past
+        → (still : StillRun starts (e ∷ past) hosts)
+        → HappensBy starts past e still.0 hosts net (before ++ record { side = side; move = Offers place cx v from sent } ∷ behind)
+        → kind_of e.event ≡ OfHost side (Polls t budget)
+        → IsTrue (has_leave (station hosts side).link)
+        → offered_packet (offer_of cx v).socket ≡ Some (packet_of ip (Segment header bytes))
+        → header.src_port ≢ 0
+        → header.dst_port ≢ 0
+        → never_leaves (station still.0 side).host.inner ip ≡ false
+        → GoesInFrame (station still.0 side).host.inner (station still.0 side).link (station hosts side).link v ip header bytes }
 {}
 
 /// Law: where a frame waits for a host, behind fewer others than its poll has steps, and its link gives leave to send behind that poll, the segment in the

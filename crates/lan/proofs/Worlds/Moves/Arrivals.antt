@@ -43,6 +43,7 @@ use Rattle.lan.specs.Worlds.AtLink.Safe.{seen}
 use Rattle.lan.specs.Worlds.Moves.Follows.{seen_place, sockets_of}
 use Rattle.interface_tables.specs.Inner.{InnerValue}
 use Rattle.lan.proofs.Worlds.Moves.Following.{Reaches}
+use Rattle.lan.proofs.Worlds.Moves.Frames.{Frames}
 use Rattle.lan.proofs.Worlds.Moves.Held.{IsBetweenHosts, IsShownAt}
 use Rattle.lan.specs.Worlds.Moves.Made.{Grows, IsMade, datagram_of}
 use Rattle.lan.proofs.Worlds.Moves.Nets.{Moved, stays, moves_by, step_of, there, grows_to, grows_by}
@@ -164,7 +165,7 @@ module _ (names : List ℕ → Bool) (side : Side) (C G : Type 0) (F : Frames) (
         subst (λ (x : Socket). Given (slice_set places at (record { inner = Some (record item { socket = x }) }))) (sym takes)
         (moves_by names side C G F i0 t net now r move _ (found at (record item { socket = Is.Udp v }) here, accepts, made) refl
         (set_there at (record { inner = Some (record item { socket = Is.Udp (Udps.process_after v ip udp bytes) }) }))
-        (grows_to (party now side) (Moves.party_after (party now side) move) refl refl) (λ c. tt) (λ c g. tt))
+        (grows_to (party now side) (Moves.party_after (party now side) move) refl refl) (λ c. tt) (λ c g. tt) tt)
       where
         move : Moves.Move
         move = Moves.Receives at cx v ip udp bytes
@@ -224,7 +225,7 @@ module _ (names : List ℕ → Bool) (side : Side) (C G : Type 0) (F : Frames) (
         moved =
             moves_by names side C G F i0 t net now r move _ (found at (record item { socket = Is.Tcp v }) here, accepts, came) refl
             (set_there at (with_change (with_segment cx ip header bytes) (record { inner = Some (record item { socket = Is.Tcp v }) })))
-            (grown (Moves.party_after (party now side) move) (arrives cx v ip header bytes).answer refl refl) (λ c. (shown, made, between)) (λ c g. tt);
+            (grown (Moves.party_after (party now side) move) (arrives cx v ip header bytes).answer refl refl) (λ c. (shown, made, between)) (λ c g. tt) tt;
         made = there now side move (λ (y : Party). IfSome (packet_by (arrives cx v ip header bytes).answer) (IsMade y))
             (reply_made (Moves.party_after (party now side) move) (party now side).segments (arrives cx v ip header bytes).answer refl);
       };
@@ -249,7 +250,7 @@ module _ (names : List ℕ → Bool) (side : Side) (C G : Type 0) (F : Frames) (
     reset none = record {
       moved =
           moves_by names side C G F i0 t net now r move (sockets_of places) refl refl has
-          (grows_by (party now side) (Moves.party_after (party now side) move) (x ∷ []) [] refl (sym (append-nil (party now side).datagrams))) none (λ c g. tt);
+          (grows_by (party now side) (Moves.party_after (party now side) move) (x ∷ []) [] refl (sym (append-nil (party now side).datagrams))) none (λ c g. tt) tt;
       made = there now side move (λ (y : Party). IfSome (packet_by (Some (rst_reply ip header (length bytes)))) (IsMade y))
           (reply_made (Moves.party_after (party now side) move) (party now side).segments (Some (rst_reply ip header (length bytes))) refl);
     } where

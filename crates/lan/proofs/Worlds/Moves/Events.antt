@@ -16,6 +16,7 @@ use Rattle.lan.specs.Worlds.AtLink.Steps.{ActsAt}
 use Rattle.lan.specs.Worlds.Moves.Follows.{sockets_of, IsNetOf, Comes}
 use Rattle.interface_tables.specs.Inner.{InnerValue}
 use Rattle.lan.proofs.Worlds.Moves.Following.{Reaches}
+use Rattle.lan.proofs.Worlds.Moves.Frames.{Frames, no_frames}
 use Rattle.lan.specs.Worlds.Moves.Made.{Grows}
 use Rattle.lan.proofs.Worlds.Moves.Calls.{IsCalled, call_is_called, call_allowed, names}
 use Rattle.lan.proofs.Worlds.Moves.Nets.{here, step_of, mine, theirs, either_side, there, grows_not, grows_to}
@@ -88,14 +89,14 @@ reached_comes C G F i0 t net now new past e side r was none sockets = record {
   passes = step_of side (Moves.Passes e)
 
 -- no move
-abbrev at_rest : (i0 : InnerValue) (t : ℤ) (net : Net) → Reaches names A (Unit {0}) (Unit {0}) [] i0 t net net
+abbrev at_rest : (i0 : InnerValue) (t : ℤ) (net : Net) → Reaches names A (Unit {0}) (Unit {0}) no_frames i0 t net net
 at_rest i0 t net = here names A (Unit {0}) (Unit {0}) i0 t net
 
 -- an event that leaves every socket as it was
 pub still_comes : (i0 : InnerValue) (t : ℤ) (net : Net) (old new : Stations) (past : List Entry) (e : Entry) → IsNetOf net old past → IsNoCall (kind_of e.event)
     → ((s : Side) → sockets_of (station new s).places ≡ sockets_of (station old s).places) → Comes names net new (e ∷ past)
 still_comes i0 t net old new past e of none same =
-    reached_comes (Unit {0}) (Unit {0}) [] i0 t net net new past e A (at_rest i0 t net) of.history none (λ s. of.sockets s ∙ sym (same s))
+    reached_comes (Unit {0}) (Unit {0}) no_frames i0 t net net new past e A (at_rest i0 t net) of.history none (λ s. of.sockets s ∙ sym (same s))
 
 pub still_steps : (i0 : InnerValue) (t : ℤ) (net : Net) (old new : Stations) (past : List Entry) (e : Entry) (of : IsNetOf net old past)
     (none : IsNoCall (kind_of e.event)) (same : (s : Side) → sockets_of (station new s).places ≡ sockets_of (station old s).places)

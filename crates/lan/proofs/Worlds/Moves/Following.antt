@@ -10,7 +10,7 @@ use Rattle.lan.specs.Worlds.AtLink.Parties.{Party, Net, party}
 use Rattle.lan.specs.Worlds.Moves.Made.{Grows}
 use Rattle.lan.specs.Worlds.Moves.Follows.{sockets_of}
 use Rattle.lan.specs.Worlds.Moves.Taken.{AreMoved, IsMoved}
-use Rattle.lan.proofs.Worlds.Moves.Frames.{Frames, HaveLeft, all_left, and_gone, and_taken, one_moved}
+use Rattle.lan.proofs.Worlds.Moves.Frames.{Frames, HaveLeft, and_gone, and_taken, left_more, left_narrowed, one_moved}
 use Rattle.lan.proofs.Worlds.Moves.Held.{AreHeld, Stays}
 use Rattle.lan.proofs.Worlds.Moves.Leave.{AreLet}
 
@@ -27,7 +27,7 @@ pub record Reaches (names : List ℕ → Bool) (side : Side) (C G : Type 0) (F :
   pub held : C → AreHeld i0 t side net steps
   pub went : C → G → AreLet i0 t steps
   pub took : AreMoved side i0 t net F.taken steps
-  pub left : HaveLeft i0 t F.gone steps
+  pub left : HaveLeft i0 t C F.gone steps
 
 -- moves of this host lead to a net with these sockets, of which L holds with what was made, where Gives says what a device is that gives leave,
 -- and Taken by which frames it came to be so
@@ -53,7 +53,7 @@ narrowed names side C C' G G' F i0 t net now back gives r = record {
   held = λ c. r.held (back c);
   went = λ c g. r.went (back c) (gives g);
   took = r.took;
-  left = r.left;
+  left = left_narrowed i0 t C C' F.gone back r.steps r.left;
 }
 
 -- one frame more was taken
@@ -86,5 +86,5 @@ sent_more names side C G F i0 t net now more r = record {
   held = r.held;
   went = r.went;
   took = r.took;
-  left = all_left i0 t F.gone more r.steps r.left;
+  left = left_more i0 t C F.gone more r.steps r.left;
 }

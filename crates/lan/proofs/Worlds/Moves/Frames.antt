@@ -153,32 +153,31 @@ module _ (side : Side) (i0 : InnerValue) (t : ℤ) (net : Net) where
 
 module _ (i0 : InnerValue) (t : ℤ) where
   -- as each of these moves says
-  abbrev pub HaveLeft : List (List ℕ) → List Step → Type 0
-  HaveLeft gone steps = AllByRecursion (λ step. HasLeft i0 t gone step.move) steps
+  abbrev pub HaveLeft : Type 0 → List (List ℕ) → List Step → Type 0
+  HaveLeft C gone steps = AllByRecursion (λ step. HasLeft i0 t C gone step.move) steps
 
-  pub left-append : (gone : List (List ℕ)) (steps more : List Step) → HaveLeft gone steps → HaveLeft gone more → HaveLeft gone (steps ++ more)
-  left-append gone [] more first second = second
-  left-append gone (step ∷ steps) more first second = (first.0, left-append gone steps more first.1 second)
+  pub left-append : (C : Type 0) (gone : List (List ℕ)) (steps more : List Step) → HaveLeft C gone steps → HaveLeft C gone more → HaveLeft C gone (steps ++ more)
+  left-append C gone [] more first second = second
+  left-append C gone (step ∷ steps) more first second = (first.0, left-append C gone steps more first.1 second)
 
-  module _ (gone more : List (List ℕ)) where
-    still_gone : (frame : List ℕ) → IsGone i0 t gone frame → IsGone i0 t (gone ++ more) frame
-    still_gone frame is = (is.0, get_more gone more is.0 frame is.1)
-
-    still_went : (i : InnerValue) (p : PacketValue) (plan : Plan) → WentBy i0 t gone i p plan → WentBy i0 t (gone ++ more) i p plan
-    still_went i p (Way.Go to) went = still_gone (frame_of i (Whole to (numbered i p))) went
-    still_went i p (Way.Cut to) went = still_gone (frame_of i (departure_from i (cut_of i to p))) went
+  -- under a narrower condition, as these frames are among those
+  module _ (C C' : Type 0) (gone gone' : List (List ℕ)) (back : C' → C) (among : (frame : List ℕ) → IsGone i0 t C gone frame → IsGone i0 t C' gone' frame) where
+    still_went : (i : InnerValue) (p : PacketValue) (plan : Plan) → WentBy i0 t C gone i p plan → WentBy i0 t C' gone' i p plan
+    still_went i p (Way.Go to) went = among (frame_of i (Whole to (numbered i p))) went
+    still_went i p (Way.Cut to) went = among (frame_of i (departure_from i (cut_of i to p))) went
     still_went i p Way.Drop went = tt
     still_went i p Way.NoRoute went = went
     still_went i p Way.Wait went = went
     still_went i p Way.Busy went = went
     still_went i p (Way.Ask question) went = went
 
-    still_from : (cx : ContextValue) (s : Socket) (from : IpAddress) (p : PacketValue) → LeftFrom i0 t gone cx s from p → LeftFrom i0 t (gone ++ more) cx s from p
+    still_from : (cx : ContextValue) (s : Socket) (from : IpAddress) (p : PacketValue) → LeftFrom i0 t C gone cx s from p → LeftFrom i0 t C' gone' cx s from p
     still_from cx s from p l = record {
       i = l.i;
       settings = l.settings;
       moment = l.moment;
       ident = l.ident;
+      paths = λ c. l.paths (back c);
       shown = l.shown;
       formed = l.formed;
       source = l.source;
@@ -187,12 +186,12 @@ module _ (i0 : InnerValue) (t : ℤ) where
       went = still_went l.i (sourced l.i p) (plan_of l.i l.busy (sourced l.i p).header) l.went;
     }
 
-    still_offered : (cx : ContextValue) (s : Socket) (from : IpAddress) (o : Option PacketValue) → IfSome o (λ p. LeftFrom i0 t gone cx s from p) →
-        IfSome o (λ p. LeftFrom i0 t (gone ++ more) cx s from p)
+    still_offered : (cx : ContextValue) (s : Socket) (from : IpAddress) (o : Option PacketValue) → IfSome o (λ p. LeftFrom i0 t C gone cx s from p) →
+        IfSome o (λ p. LeftFrom i0 t C' gone' cx s from p)
     still_offered cx s from None left = tt
     still_offered cx s from (Some p) left = still_from cx s from p left
 
-    still_left : (move : Moves.Move) → HasLeft i0 t gone move → HasLeft i0 t (gone ++ more) move
+    still_left : (move : Moves.Move) → HasLeft i0 t C gone move → HasLeft i0 t C' gone' move
     still_left (Offers at cx v from true) left = still_offered cx (Is.Tcp v) from (offered_packet (offer_of cx v).socket) left
     still_left (Offers at cx v from false) left = tt
     still_left (Invokes at cx old entry call new) left = tt
@@ -203,7 +202,14 @@ module _ (i0 : InnerValue) (t : ℤ) where
     still_left (Resets x) left = tt
     still_left (Changes at old new) left = tt
 
-    -- as more frames went
-    pub all_left : (steps : List Step) → HaveLeft gone steps → HaveLeft (gone ++ more) steps
+    all_left : (steps : List Step) → HaveLeft C gone steps → HaveLeft C' gone' steps
     all_left [] left = tt
     all_left (step ∷ steps) left = (still_left step.move left.0, all_left steps left.1)
+
+  pub left_narrowed : (C C' : Type 0) (gone : List (List ℕ)) → (C' → C) → (steps : List Step) → HaveLeft C gone steps → HaveLeft C' gone steps
+  left_narrowed C C' gone back steps left = all_left C C' gone gone back (λ frame is. is) steps left
+
+  -- as more frames went
+  pub left_more : (C : Type 0) (gone more : List (List ℕ)) (steps : List Step) → HaveLeft C gone steps → HaveLeft C (gone ++ more) steps
+  left_more C gone more steps left =
+      all_left C C gone (gone ++ more) (λ c. c) (λ frame is. (is.0, get_more gone more is.0 frame is.1)) steps left

@@ -1,5 +1,5 @@
 -- Steps in which a host shows itself as it was, takes what came whole, and makes no reset.
-use Rattle.std.proofs.Common.{◌≡◌, ℕ, ℤ, ◌≤ℤ◌, Bool, false, not, ◌&&◌, if◌then◌else◌, List, [], ◌∷◌, ◌++◌, IfSome, Option, Some, None, refl, sym, ap, ◌∙◌}
+use Rattle.std.proofs.Common.{◌≡◌, ℕ, ◌^◌, ◌<◌, ℤ, ◌≤ℤ◌, Bool, false, not, ◌&&◌, if◌then◌else◌, List, [], ◌∷◌, ◌++◌, IfSome, Option, Some, None, refl, sym, ap, ◌∙◌}
 use Rattle.std.specs.Prelude.{◌||◌}
 use Rattle.std.specs.List.{list_any}
 use Rattle.interface_egress.specs.Departing.{HasSettingsOf}
@@ -113,7 +113,7 @@ module _ (i0 i : InnerValue) (seen : IsSeenAs i0 i) where
   strays source destination = ap (λ (bs : List IpCidr). (is_loopback source && not (list_any (is_loopback_of source) bs))
       || (is_loopback destination && not (list_any (is_loopback_of destination) bs))) seen.addresses
 
-  may_come : (source destination : IpAddress) → may_come_from i source destination ≡ may_come_from i0 source destination
+  pub may_come : (source destination : IpAddress) → may_come_from i source destination ≡ may_come_from i0 source destination
   may_come source destination =
       ap (λ (all : Bool). not (all || is_multicast source) && (not (is_loopback source) || is_loopback destination)) (broadcasts source)
 
@@ -146,11 +146,13 @@ module _ (i0 i : InnerValue) (seen : IsSeenAs i0 i) where
   all_so t side net [] held = tt
   all_so t side net (step ∷ steps) held = ((held.0.0, held_so t net side step.move held.0.1), all_so t side (after net step) steps held.1)
 
--- THE HOST IN A POLL, at this moment: its settings are those that it had, and errors are counted up to no earlier moment
+-- THE HOST IN A POLL, at this moment: its settings are those that it had, errors are counted up to no earlier moment, and its next identification is a
+-- number of 16 bits where it was one
 pub record IsAsAt (i0 : InnerValue) (t : ℤ) (i : InnerValue) : Type 0 where
   pub settings : HasSettingsOf i0 i
   pub moment : i.moment ≡ t
   pub low : i0.errors_until ≤ℤ i.errors_until
+  pub ident : i0.ident < 2 ^ 16 → i.ident < 2 ^ 16
 
 module _ (i0 i : InnerValue) (t : ℤ) (like : IsAsAt i0 t i) where
   pub seen_at : IsSeenAs i0 i

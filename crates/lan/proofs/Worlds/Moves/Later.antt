@@ -1,5 +1,5 @@
 -- What an arrival makes of the paths that a host knows, and of the errors that it counts: neither is forgotten.
-use Rattle.std.proofs.Common.{◌≡◌, ℕ, ℤ, ◌≤ℤ◌, ◌^◌, ◌-◌, Bool, true, false, not, ◌&&◌, if◌then◌else◌, List, [], ◌∷◌, ◌++◌, length}
+use Rattle.std.proofs.Common.{◌≡◌, ℕ, ℤ, ◌≤ℤ◌, ◌^◌, ◌<◌, ◌-◌, Bool, true, false, not, ◌&&◌, if◌then◌else◌, List, [], ◌∷◌, ◌++◌, length}
 use Rattle.std.proofs.Common.{Option, Some, None, refl, sym, ap, ◌∙◌, subst, arith, zero, suc}
 use Rattle.std.specs.Prelude.{nat_lt, slice_set, remove}
 use Rattle.std.proofs.lemmas.Int.{ints, clamps}
@@ -327,5 +327,5 @@ since_out i0 i i' same since = (
   subst (λ (u : ℤ). i0.errors_until ≤ℤ u) (sym (ap (λ (x : InnerValue). x.errors_until) same)) since.1,
 )
 
-pub as_since : (i0 i : InnerValue) (t : ℤ) → i.moment ≡ t → IsSince i0 i → IsAsAt i0 t i
-as_since i0 i t is since = record { settings = since.0; moment = is; low = since.1 }
+pub as_since : (i0 i : InnerValue) (t : ℤ) → i.moment ≡ t → IsSince i0 i → (i0.ident < 2 ^ 16 → i.ident < 2 ^ 16) → IsAsAt i0 t i
+as_since i0 i t is since ident = record { settings = since.0; moment = is; low = since.1; ident = ident }

@@ -1,5 +1,5 @@
 -- A poll's event, as moves.
-use Rattle.std.proofs.Common.{◌≡◌, ◌+◌, ◌*◌, ◌≤◌, ℕ, [], ◌∷◌, ◌++◌, List, refl, sym, ap, ◌∙◌, subst, arith}
+use Rattle.std.proofs.Common.{◌≡◌, ◌+◌, ◌*◌, ◌≤◌, ℕ, [], ◌∷◌, ◌++◌, append-nil, List, refl, sym, ap, ◌∙◌, subst, arith}
 use Rattle.std.specs.Prelude.{ℤ, IsTrue}
 use Rattle.interface.specs.State.{State}
 use Rattle.lan.specs.Worlds.AtLink.History.{Entry}
@@ -17,7 +17,7 @@ use Rattle.lan.specs.Worlds.Moves.Follows.{IsNetOf, Comes, sockets_of}
 use Rattle.interface_tables.specs.Inner.{InnerValue}
 use Rattle.lan.specs.Worlds.AtLink.Moves as Moves
 use Rattle.lan.proofs.Worlds.Moves.Following.{Follows}
-use Rattle.lan.proofs.Worlds.Moves.Frames.{all_moved_on}
+use Rattle.lan.proofs.Worlds.Moves.Frames.{Frames, HaveLeft, all_moved_on, left-append, no_frames}
 use Rattle.lan.proofs.Worlds.Moves.Held.{AreHeld, Stays, held-append}
 use Rattle.lan.proofs.Worlds.Moves.Later.{since_itself}
 use Rattle.lan.proofs.Worlds.Moves.Leave.{AreLet, let-append}
@@ -36,17 +36,19 @@ abbrev pub AtPorts : (State PortValue → Type 0) → StationValue → Type 0
 AtPorts P s = (port : PortValue) → port.link ≡ s.link → P (at_port port s)
 
 -- moves lead to the hosts behind a poll, and what held of the host that was polled, with what it made, holds
--- still. The first of the frames that waited were taken.
-pub record Polled (i0 : InnerValue) (waits : List (List ℕ)) (t : ℤ) (net : Net) (new : Stations) (past : List Entry) (side : Side) (L : State PortValue → Party → Type 0) : Type 0 where
+-- still. The first of the frames that waited were taken, and others were sent.
+pub record Polled (i0 : InnerValue) (waits sent : List (List ℕ)) (t : ℤ) (net : Net) (new : Stations) (past : List Entry) (side : Side) (L : State PortValue → Party → Type 0) : Type 0 where
   pub comes : Comes names net new past
   pub port : PortValue
   pub end : port.link ≡ (station new side).link
   pub link : L (at_port port (station new side)) (party comes.next side)
   pub rests : party comes.next (other side) ≡ party net (other side)
   pub held : Stays i0 (station new side).host.inner → AreHeld i0 t side net comes.steps
-  pub frames : List (List ℕ)
-  pub waited : waits ≡ frames ++ (station new side).link.waiting
-  pub took : AreMoved side i0 t net frames comes.steps
+  pub frames : Frames
+  pub waited : waits ≡ frames.taken ++ (station new side).link.waiting
+  pub took : AreMoved side i0 t net frames.taken comes.steps
+  pub are_sent : (station new side).link.sent ≡ sent ++ frames.gone
+  pub left : HaveLeft i0 t (Stays i0 (station new side).host.inner) frames.gone comes.steps
   pub went : Stays i0 (station new side).host.inner → IsTrue (has_leave (station new side).link) → AreLet i0 t comes.steps
 
 module _ (net : Net) (old new : Stations) (past : List Entry) (e : Entry) (side : Side) (t : ℤ) (budget n : ℕ) (L : ℕ → State PortValue → Party →
@@ -67,12 +69,16 @@ module _ (net : Net) (old new : Stations) (past : List Entry) (e : Entry) (side 
   abbrev waits : List (List ℕ)
   waits = (station old side).link.waiting
 
+  -- and what was sent
+  abbrev sent : List (List ℕ)
+  sent = (station old side).link.sent
+
   gave : (p : PortValue) → p.link ≡ (station new side).link → (station new side).link.refusals ≡ refused → IsTrue (has_leave (station new side).link) →
       GivesLeave refused p
   gave p end none given = (subst (λ (l : LinkEnd). IsTrue (has_leave l)) (sym end) given, let same = ap (λ (l : LinkEnd). l.refusals) end in omega (arith, same, none))
 
   ended : (p : PortValue) → p.link ≡ (station new side).link → (station new side).link.refusals ≡ refused → station new (other side) ≡ station old (other side)
-      → Follows names side (GivesLeave refused) (TookOf waits) i0 t (L most) net (at_port p (station new side)) → Polled i0 waits t net new (e ∷ past) side (L most)
+      → Follows names side (GivesLeave refused) (TookOf waits sent) i0 t (L most) net (at_port p (station new side)) → Polled i0 waits sent t net new (e ∷ past) side (L most)
   ended p end none rests f = record {
     comes = reached_comes (Stays i0 (station new side).host.inner) (GivesLeave refused p) f.frames i0 t net f.now new past e side f.reaches of.history (subst IsNoCall (sym is) tt)
         (either_side side (λ s. (party f.now s).sockets ≡ sockets_of (station new s).places) f.sockets
@@ -83,18 +89,20 @@ module _ (net : Net) (old new : Stations) (past : List Entry) (e : Entry) (side 
     rests = passed f.now side e (other side) ∙ f.reaches.rests;
     held = λ c. held-append i0 t side net f.reaches.steps (step_of side (Moves.Passes e) ∷ []) (f.reaches.held c) ((refl, tt), tt);
     frames = f.frames;
-    waited = f.taken ∙ ap (λ (l : LinkEnd). f.frames ++ l.waiting) end;
-    took = all_moved_on side i0 t net f.frames f.reaches.steps (step_of side (Moves.Passes e) ∷ []) f.reaches.took;
+    waited = f.taken.0 ∙ ap (λ (l : LinkEnd). f.frames.taken ++ l.waiting) end;
+    took = all_moved_on side i0 t net f.frames.taken f.reaches.steps (step_of side (Moves.Passes e) ∷ []) f.reaches.took;
+    are_sent = sym (ap (λ (l : LinkEnd). l.sent) end) ∙ f.taken.1;
+    left = left-append i0 t (Stays i0 (station new side).host.inner) f.frames.gone f.reaches.steps (step_of side (Moves.Passes e) ∷ []) f.reaches.left (tt, tt);
     went = λ c given. let-append i0 t f.reaches.steps (step_of side (Moves.Passes e) ∷ []) (f.reaches.went c (gave p end none given)) (tt, tt);
   }
 
   pub poll_comes : ActsAt old side (Polls t budget) e.answer e.found new → AtPorts (λ s. L n s (party net side)) (station old side) →
-      OfEach IsFit (station old side).places → Polled i0 waits t net new (e ∷ past) side (L most)
+      OfEach IsFit (station old side).places → Polled i0 waits sent t net new (e ∷ past) side (L most)
   poll_comes acts holds fit =
       let polls = acts.acts.1 in
-      let start : Follows names side (GivesLeave refused) (TookOf waits) i0 t (L n) net (at_port polls.port (station old side)) =
-      record { now = net; frames = []; taken = ap (λ (l : LinkEnd). l.waiting) (sym polls.before); reaches = here names side (Stays i0 i0) (GivesLeave refused polls.port) i0 t net; sockets = of.sockets side; link = holds polls.port polls.before } in
+      let start : Follows names side (GivesLeave refused) (TookOf waits sent) i0 t (L n) net (at_port polls.port (station old side)) =
+      record { now = net; frames = no_frames; taken = (ap (λ (l : LinkEnd). l.waiting) (sym polls.before), ap (λ (l : LinkEnd). l.sent) polls.before ∙ sym (append-nil sent)); reaches = here names side (Stays i0 i0) (GivesLeave refused polls.port) i0 t net; sockets = of.sockets side; link = holds polls.port polls.before } in
       let none_before : refused ≤ polls.port.link.refusals = (let same = ap (λ (l : LinkEnd). l.refusals) polls.before in omega (arith, same)) in
       ended polls.port_after polls.after polls.none_denied acts.rests
-      (polls_follow PortMove t names side i0 net L link (λ p. refused ≤ p.link.refusals) (GivesLeave refused) (giving_ports refused) (TookOf waits) (taking_ports waits) budget n (at_port polls.port (station old side)) (at_port polls.port_after (station new side)) acts.acts.0
-      fit (since_itself i0) none_before start polls.polls).1
+      (polls_follow PortMove t names side i0 net L link (λ p. refused ≤ p.link.refusals) (GivesLeave refused) (giving_ports refused) (TookOf waits sent) (taking_ports waits sent) budget n (at_port polls.port (station old side)) (at_port polls.port_after (station new side)) acts.acts.0
+      fit (since_itself i0) none_before (λ small. small) start polls.polls).1

@@ -19,6 +19,7 @@ use Rattle.interface.specs.State.{sending_as}
 use Rattle.interface.proofs.Kept.{IsKept}
 use Rattle.interface.proofs.Kept.{IsPriced}
 use Rattle.interface.specs.Used.{sockets_in}
+use Rattle.interface.proofs.HostCounts.{hosts_priced}
 use Rattle.interface.proofs.Priced.{polls_cost}
 use Rattle.lan.specs.Worlds.AtLink.Side.{Side}
 use Rattle.lan.specs.Worlds.AtLink.Kinds.{other}
@@ -29,9 +30,10 @@ use Rattle.interface.proofs.SameHost.{place_same}
 use Rattle.interface_tables.specs.Inner.{InnerValue}
 use Rattle.lan.proofs.Worlds.Moves.Devices as Devices
 use Rattle.lan.proofs.Worlds.Moves.Devices.{piece_leaves, place_turns, takes}
-use Rattle.lan.proofs.Worlds.Moves.Following.{Follows, Reaches, narrowed, took_one}
-use Rattle.lan.proofs.Worlds.Moves.Frames.{IsNoTake, IsTaking}
+use Rattle.lan.proofs.Worlds.Moves.Following.{Follows, Reaches, narrowed, sent_more, took_one}
+use Rattle.lan.proofs.Worlds.Moves.Frames.{Frames, IsTaking, Sent, and_gone, and_taken, none_sent, sent_on}
 use Rattle.lan.proofs.Worlds.Moves.Held.{IsAsAt, Stays, stays_before}
+use Rattle.lan.proofs.Worlds.Moves.Idents.{StaysSmall, small_counted}
 use Rattle.lan.proofs.Worlds.Moves.Later.{IsSince, as_since, brings_later, brought_home, since_arrival, since_begun, since_out, stayed}
 use Rattle.lan.proofs.Worlds.Moves.Leave.{IsGiving}
 use Rattle.lan.specs.Worlds.Moves.Fit.{IsFit}
@@ -47,7 +49,7 @@ use Rattle.lan.proofs.Worlds.Moves.Wide.{CanBeWide, brings_wide}
 
 module _ {D : Type 0} (moves : D → Move → D → Type 0) (t : ℤ) (names : List ℕ → Bool) (side : Side) (i0 : InnerValue) (net : Net) (L : ℕ →
     State D → Party → Type 0) (link : IsLink moves (party net (other side)) L) (Begun Gives : D → Type 0)
-    (giving : IsGiving moves Begun Gives) (Taken : List (List ℕ) → D → Type 0) (taking : IsTaking moves Taken) where
+    (giving : IsGiving moves Begun Gives) (Taken : Frames → D → Type 0) (taking : IsTaking moves Taken) where
   abbrev At : ℕ → State D → Type 0
   At n s = Follows names side Gives Taken i0 t (L n) net s
 
@@ -57,10 +59,6 @@ module _ {D : Type 0} (moves : D → Move → D → Type 0) (t : ℤ) (names : L
 
   gave_back : (before d d' : D) (m : Move) → moves d m d' → GaveAt before d → GaveAt before d'
   gave_back before d d' m moved gave given = gave (giving.had d d' m moved given)
-
-  -- what is no take leaves what was taken
-  rests : (frames : List (List ℕ)) (old new : D) (m : Move) → IsNoTake m → moves old m new → Taken frames old → Taken frames new
-  rests frames old new m none moved taken = taking.rests old new m frames none moved taken
 
   more : (n m : ℕ) (s : State D) → n ≤ m → At n s → At m s
   more n m s up f = record { now = f.now; frames = f.frames; taken = f.taken; reaches = f.reaches; sockets = f.sockets; link = link.more n m s (party f.now side) up f.link }
@@ -88,15 +86,20 @@ module _ {D : Type 0} (moves : D → Move → D → Type 0) (t : ℤ) (names : L
 
   pieces : (n : ℕ) (h : HostValue) (ps : Places) (x x' : Sender D) (l : LeftValue) (gone : Bool) → x.left ≡ Some l → PieceLeaves moves l x gone x' →
       x'.inner ≡ x.inner → At n (sending_as h x ps) → At n (sending_as h x' ps)
-  pieces n h ps x x' l gone is leaves same f = record {
-    now = f.now;
-    frames = f.frames;
-    taken = piece_leaves moves (Taken f.frames) (rests f.frames) l x x' gone leaves f.taken;
-    reaches = narrowed names side (Stays i0 x.inner) (Stays i0 x'.inner) (Gives x.device) (Gives x'.device) f.frames i0 t net f.now (subst (Stays i0) same)
-        (piece_leaves moves (GaveAt x.device) (λ d d' m none. gave_back x.device d d' m) l x x' gone leaves (λ g. g)) f.reaches;
-    sockets = f.sockets;
-    link = left_link n h ps x x' l gone (party f.now side) is leaves same f.link;
-  }
+  pieces n h ps x x' l gone is leaves same f =
+      let out : Sent Taken f.frames x'.device =
+      piece_leaves moves (Sent Taken f.frames) (sent_on moves Taken taking f.frames) l x x' gone leaves (none_sent moves Taken taking f.frames x.device f.taken) in
+      let frames : Frames = and_gone f.frames out.more in
+      record {
+        now = f.now;
+        frames = frames;
+        taken = out.taken;
+        reaches = narrowed names side (Stays i0 x.inner) (Stays i0 x'.inner) (Gives x.device) (Gives x'.device) frames i0 t net f.now (subst (Stays i0) same)
+            (piece_leaves moves (GaveAt x.device) (λ d d' m none. gave_back x.device d d' m) l x x' gone leaves (λ g. g))
+            (sent_more names side (Stays i0 x.inner) (Gives x.device) f.frames i0 t net f.now out.more f.reaches);
+        sockets = f.sockets;
+        link = left_link n h ps x x' l gone (party f.now side) is leaves same f.link;
+      }
 
   -- A FRAME
 
@@ -136,6 +139,10 @@ module _ {D : Type 0} (moves : D → Move → D → Type 0) (t : ℤ) (names : L
       let made = link.brings n s p frame mid content took reads is f.link in
       let end = brings_moves names side (Stays i0 s'.host.inner) (Gives s'.device) f.frames i0 t net f.now so_far s.host.inner s.places f.sockets like (brought s content) a
       (brought_home s.host.inner s.host.timeout s.host.slots content) (λ c. (back c).1) receives.1.1 made in
+      let with_it : Frames = and_taken f.frames frame in
+      let out : Sent Taken with_it s'.device =
+      Devices.reads moves (Sent Taken with_it) (sent_on moves Taken taking with_it) s s' (frame, mid, took, reads, (content, is, receives))
+      (none_sent moves Taken taking with_it mid (taking.takes s.device mid s.host.inner.moment frame f.frames took f.taken)) in
       let p' = party end.moved.next side in
       let taken : L n (sending_as g x s.places) p = link.takes n s p frame mid content s'.host.slots a took reads is receives.1 f.link in
       let given : L n (sending_as g x s.places) p' = link.grown n (sending_as g x s.places) s.places p p' end.moved.grows taken in
@@ -150,25 +157,25 @@ module _ {D : Type 0} (moves : D → Move → D → Type 0) (t : ℤ) (names : L
       λ k. state s'.device (record { inner = s'.host.inner; left = s'.host.left; slots = s'.host.slots; timeout = sym receives.4 k }) s'.places in
       record {
         now = end.moved.next;
-        frames = f.frames ++ frame ∷ [];
-        taken = Devices.reads moves (Taken (f.frames ++ frame ∷ [])) (rests (f.frames ++ frame ∷ [])) s s' (frame, mid, took, reads, (content, is, receives))
-            (taking.takes s.device mid s.host.inner.moment frame f.frames took f.taken);
-        reaches = took_one names side (Stays i0 s'.host.inner) (Gives s'.device) f.frames i0 t net end.moved.next frame end.moved.reaches (λ read. record {
-          i = s.host.inner;
-          settings = like.settings;
-          moment = like.moment;
-          timeout = s.host.timeout;
-          slots = s.host.slots;
-          content = content;
-          is = is;
-          brings = end.brings;
-        });
+        frames = and_gone with_it out.more;
+        taken = out.taken;
+        reaches = sent_more names side (Stays i0 s'.host.inner) (Gives s'.device) with_it i0 t net end.moved.next out.more
+            (took_one names side (Stays i0 s'.host.inner) (Gives s'.device) f.frames i0 t net end.moved.next frame end.moved.reaches (λ read. record {
+              i = s.host.inner;
+              settings = like.settings;
+              moment = like.moment;
+              timeout = s.host.timeout;
+              slots = s.host.slots;
+              content = content;
+              is = is;
+              brings = end.brings;
+            }));
         sockets = end.moved.sockets_are ∙ ap (λ (ps : Places). sockets_of ps) (sym receives.2);
         link = subst (λ (u : State D). L (n + 1) u p') there placed;
       }
 
   -- a move of the device alone
-  looked : (frames : List (List ℕ)) (s s' : State D) (m : Move) → moves s.device m s'.device → (now : Net) →
+  looked : (frames : Frames) (s s' : State D) (m : Move) → moves s.device m s'.device → (now : Net) →
       Reaches names side (Stays i0 s.host.inner) (Gives s.device) frames i0 t net now →
       Reaches names side (Stays i0 s.host.inner) (Gives s'.device) frames i0 t net now
   looked frames s s' m moved now r =
@@ -182,14 +189,14 @@ module _ {D : Type 0} (moves : D → Move → D → Type 0) (t : ℤ) (names : L
   arrivals n s s' None like f took = more n (n + 1) s' (omega arith) (subst (At n) (sym took.1) (record {
     now = f.now;
     frames = f.frames;
-    taken = rests f.frames s.device s'.device (Empty s.host.inner.moment) tt took.0 f.taken;
+    taken = taking.rests s.device s'.device (Empty s.host.inner.moment) f.frames tt took.0 f.taken;
     reaches = looked f.frames s s' (Empty s.host.inner.moment) took.0 f.now f.reaches;
     sockets = f.sockets;
     link = link.looks n s (party f.now side) s'.device took.0 f.link;
   }))
   arrivals n s s' (Some false) like f took = more n (n + 1) s' (omega arith) (subst (At n) (sym took.3) (record {
     now = f.now;
-    frames = f.frames ++ took.0 ∷ [];
+    frames = and_taken f.frames took.0;
     taken = taking.takes s.device s'.device s.host.inner.moment took.0 f.frames took.1 f.taken;
     reaches = took_one names side (Stays i0 s.host.inner) (Gives s'.device) f.frames i0 t net f.now took.0
         (looked f.frames s s' (Took s.host.inner.moment took.0) took.1 f.now f.reaches) (unread took.0 _ took.2);
@@ -218,20 +225,32 @@ module _ {D : Type 0} (moves : D → Move → D → Type 0) (t : ℤ) (names : L
       since_out i0 receives.0.inner s'.host.inner same.1 (since_arrival i0 s.host.inner receives.0.inner same.0
       (brings_later s.host.inner s.places (brought s content) receives.0 receives.1.1) since)
 
+  abbrev Small : ℕ → State D → Type 0
+  Small n s = StaysSmall i0 s.host.inner
+
+  small_priced : IsPriced moves t 0 Small
+  small_priced = hosts_priced moves t (λ n i. StaysSmall i0 i) (small_counted i0 t)
+
   abbrev Both : ℕ → State D → Type 0
-  Both n s = Fit s × (Since s × (Begun s.device × At n s))
+  Both n s = Fit s × (Since s × (Begun s.device × (Small n s × At n s)))
 
   all_priced : IsPriced moves t 0 Both
   all_priced = record {
-    more = λ n m s up both. (both.0, (both.1.0, (both.1.1.0, more n m s up both.1.1.1)));
-    maintenance = λ n s both. (fit_kept.maintenance s both.0, (since_begun i0 s.host.inner t both.1.0, (both.1.1.0, maintenance n s both.1.1.1)));
+    more = λ n m s up both. (both.0, (both.1.0, (both.1.1.0, (both.1.1.1.0, more n m s up both.1.1.1.1))));
+    maintenance = λ n s both. (
+      fit_kept.maintenance s both.0,
+      (since_begun i0 s.host.inner t both.1.0, (both.1.1.0, (small_priced.maintenance n s both.1.1.1.0, maintenance n s both.1.1.1.1))),
+    );
     arrivals = λ n s s' answer runs both took. (
       fit_kept.arrivals s s' answer runs both.0 took,
       (
         since_arrivals s s' answer both.1.0 took,
         (
           takes moves Begun giving.since s s' answer took both.1.1.0,
-          arrivals n s s' answer (as_since i0 s.host.inner t runs.0 both.1.0) both.1.1.1 took,
+          (
+            small_priced.arrivals n s s' answer runs both.1.1.1.0 took,
+            arrivals n s s' answer (as_since i0 s.host.inner t runs.0 both.1.0 both.1.1.1.0) both.1.1.1.1 took,
+          ),
         ),
       ),
     );
@@ -241,7 +260,10 @@ module _ {D : Type 0} (moves : D → Move → D → Type 0) (t : ℤ) (names : L
         subst (IsSince i0) (sym same) both.1.0,
         (
           piece_leaves moves Begun (λ d d' m none. giving.since d d' m) l x x' gone leaves both.1.1.0,
-          more n (n + 0) (sending_as h x' ps) (omega arith) (pieces n h ps x x' l gone is leaves same both.1.1.1),
+          (
+            small_priced.pieces n h ps x x' l gone runs is both.1.1.1.0 leaves same,
+            more n (n + 0) (sending_as h x' ps) (omega arith) (pieces n h ps x x' l gone is leaves same both.1.1.1.1),
+          ),
         ),
       ),
     );
@@ -251,8 +273,11 @@ module _ {D : Type 0} (moves : D → Move → D → Type 0) (t : ℤ) (names : L
         since_out i0 x.inner x'.inner (place_same moves turn x x' p p' turned took) both.1.0,
         (
           place_turns moves Begun (λ d d' m none. giving.since d d' m) turn x x' both.1.1.0 p p' turned took,
-          turn_follows moves turn names side i0 t net (party net (other side)) L link Begun Gives giving Taken taking n h before after p p' x x' turned took both.1.1.0
-              (as_since i0 x.inner t runs.0 both.1.0) (middle IsFit before after p both.0) both.1.1.1,
+          (
+            small_priced.turns turn n h before after p p' x x' turned used runs both.1.1.1.0 took,
+            turn_follows moves turn names side i0 t net (party net (other side)) L link Begun Gives giving Taken taking n h before after p p' x x' turned took both.1.1.0
+                (as_since i0 x.inner t runs.0 both.1.0 both.1.1.1.0) (middle IsFit before after p both.0) both.1.1.1.1,
+          ),
         ),
       ),
     );
@@ -260,10 +285,10 @@ module _ {D : Type 0} (moves : D → Move → D → Type 0) (t : ℤ) (names : L
 
   -- What holds before a poll holds behind it, where moves of this host have led to its sockets. It counted no more packets than one for
   -- each frame that it took and each socket's turn.
-  pub polls_follow : (budget n : ℕ) (s s' : State D) (changed : Bool) → OfEach IsFit s.places → Since s → Begun s.device → Follows names side Gives Taken i0 t (L n) net s →
+  pub polls_follow : (budget n : ℕ) (s s' : State D) (changed : Bool) → OfEach IsFit s.places → Since s → Begun s.device → StaysSmall i0 s.host.inner → Follows names side Gives Taken i0 t (L n) net s →
       Polls moves t budget s changed s'
       → OfEach IsFit s'.places × Follows names side Gives Taken i0 t (L (n + budget * (1 + sockets_in s.places))) net s'
-  polls_follow budget n s s' changed fit since begins f polls =
-      let both = (polls_cost moves t 0 Both all_priced budget n s s' changed (fit, (since, (begins, f))) polls).0 in
+  polls_follow budget n s s' changed fit since begins small f polls =
+      let both = (polls_cost moves t 0 Both all_priced budget n s s' changed (fit, (since, (begins, (small, f)))) polls).0 in
       let most : budget * (1 + (0 + sockets_in s.places)) ≤ budget * (1 + sockets_in s.places) = mul-le-mul_left budget (omega arith) in
-      (both.0, more (n + budget * (1 + (0 + sockets_in s.places))) (n + budget * (1 + sockets_in s.places)) s' (omega (arith, most)) both.1.1.1)
+      (both.0, more (n + budget * (1 + (0 + sockets_in s.places))) (n + budget * (1 + sockets_in s.places)) s' (omega (arith, most)) both.1.1.1.1)

@@ -38,6 +38,7 @@ use Rattle.lan.specs.Worlds.AtLink.Moves.{Step}
 use Rattle.lan.specs.Worlds.AtLink.Parties.{Party, Net, party, WasMade}
 use Rattle.lan.specs.Worlds.Moves.Follows.{sockets_of}
 use Rattle.lan.proofs.Worlds.Moves.Following.{Reaches}
+use Rattle.lan.proofs.Worlds.Moves.Frames.{Frames}
 use Rattle.lan.proofs.Worlds.Moves.Held.{IsAsAt, IsBetweenHosts, nobodies, seen_at, shows, strays}
 use Rattle.lan.proofs.Worlds.Moves.Later.{IsHome, past_it, segment_errors}
 use Rattle.lan.specs.Worlds.Moves.Made.{IsMade, HandsMade, BringsMade, datagram_of}
@@ -267,6 +268,7 @@ module _ (names : List ℕ → Bool) (side : Side) (C G : Type 0) (F : Frames) (
     };
     moment = like.moment;
     low = like.low;
+    ident = like.ident;
   }
 
   renewal_if : (direct : Bool) (i : InnerValue) (link : Option EthernetRepr) (sender : IpAddress) → IsAsAt i0 t i →

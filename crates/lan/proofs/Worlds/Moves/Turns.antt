@@ -32,6 +32,7 @@ use Rattle.sockets.specs.declared.socket.Socket.{Socket}
 use Rattle.sockets.specs.declared.socket.Socket.TheVariants as Is
 use Rattle.sockets.proofs.AnyKind.{has_packet}
 use Rattle.interface_egress.specs.Meta.{unmarked}
+use Rattle.interface_egress.specs.Plan.{plan_of}
 use Rattle.interface_egress.specs.declared.socket_meta.Meta.{Meta}
 use Rattle.interface_egress.specs.declared.socket_set.Item.{Item}
 use Rattle.interface_egress.specs.declared.socket_set.SocketStorage.{SocketStorage}
@@ -54,14 +55,16 @@ use Rattle.interface.proofs.SameHost.{place_same}
 use Rattle.interface.specs.SameHost.{IsSameHost}
 use Rattle.interface_tables.specs.Inner.{InnerValue}
 use Rattle.lan.proofs.Worlds.Moves.Devices.{leaves as device_leaves}
-use Rattle.lan.proofs.Worlds.Moves.Following.{Reaches, Follows, narrowed}
-use Rattle.lan.proofs.Worlds.Moves.Frames.{IsTaking}
+use Rattle.lan.proofs.Worlds.Moves.Following.{Reaches, Follows, narrowed, sent_more}
+use Rattle.lan.proofs.Worlds.Moves.Frames.{Frames, IsTaking, and_gone}
+use Rattle.lan.proofs.Worlds.Moves.Leaving.{Left, left_by}
 use Rattle.lan.proofs.Worlds.Moves.Held.{IsAsAt, IsShownAt, Stays, seen_at, shows_towards, source_by, sources, stays_before}
 use Rattle.lan.proofs.Worlds.Moves.Leave.{IsGiving, IsHindered, IsHindrance, leaves_so, leaving_by}
 use Rattle.lan.specs.Worlds.Moves.Fit.{IsFit}
 use Rattle.lan.specs.Worlds.Moves.Link.{IsLink}
 use Rattle.lan.specs.Worlds.Moves.Made.{Grows, MadeBy, IsMade, IsWide}
 use Rattle.lan.specs.Worlds.Moves.Raws.{OfItem}
+use Rattle.lan.specs.Worlds.Moves.Went.{LeftFrom, WentBy}
 use Rattle.lan.proofs.Worlds.Moves.Nets.{Moved, stays, moves_by, there, grows_to, grows_not, grows_by}
 use Rattle.lan.proofs.Worlds.Moves.Sourced.{sourced_wide, leaves_from, sourced_made}
 use Rattle.lan.proofs.Worlds.Moves.Offering.{IsMadeFrom, if_some, some_so, takes_one, message_made, udp_made, tcp_made}
@@ -134,7 +137,7 @@ module _ (names : List ℕ → Bool) (side : Side) (C G : Type 0) (F : Frames) (
         moves_by names side C G F i0 t net now r move (sockets_of (before ++ holding m' (settled sent (Is.Udp v')) ∷ after)) (found m (Is.Udp v) has, offers) refl
         (changed m m' (Is.Udp v) (settled sent (Is.Udp v')) has)
         (grows_by (party now side) (Moves.party_after (party now side) move) [] (datagrams_of v'.offered) (sym (append-nil (party now side).segments)) refl)
-        (λ c. tt) (λ c g. tt);
+        (λ c. tt) (λ c g. tt) tt;
     made = λ done. there now side move (λ (y : Party). IfSome v'.offered (IsMadeFrom y from))
         (if_some v'.offered (IsMadeFrom (Moves.party_after (party now side) move) from) (λ x is.
         let took = takes_one (Udps.TakesDatagram cx) v (first v.queued) answer v' x offers is in
@@ -154,26 +157,27 @@ module _ (names : List ℕ → Bool) (side : Side) (C G : Type 0) (F : Frames) (
   tcp_gives : (m m' : Meta) (cx : ContextValue) (v : TcpValue) (sent : Bool)
       → IfSome (offer_of cx v).socket.offered (λ o. LeavesFrom cx from o.header)
       → (C → IsShownAt i0 t cx × IfSome (offer_of cx v).socket.offered (λ o. from ≡ source_by i0 o.header))
-      → (C → G → IfSome (offer_of cx v).socket.offered (λ o. (sent ≡ true) ⊎ IsHindered i0 t (λ i. leaving_by i o.header))) → Has m (Is.Tcp v) →
+      → (C → G → IfSome (offer_of cx v).socket.offered (λ o. (sent ≡ true) ⊎ IsHindered i0 t (λ i. leaving_by i o.header)))
+      → (sent ≡ true → IfSome (offered_packet (offer_of cx v).socket) (λ x. LeftFrom i0 t C F.gone cx (Is.Tcp v) from x)) → Has m (Is.Tcp v) →
       To m' (settled sent (Is.Tcp (offer_of cx v).socket)) sent (offered_packet (offer_of cx v).socket)
-  tcp_gives m m' cx v true leaves held goes has = record {
+  tcp_gives m m' cx v true leaves held goes left has = record {
     moved =
         moves_by names side C G F i0 t net now r move (sockets_of (before ++ holding m' (settled true (Is.Tcp (offer_of cx v).socket)) ∷ after))
         (found m (Is.Tcp v) has, leaves) refl
         (changed m m' (Is.Tcp v) (settled true (Is.Tcp (offer_of cx v).socket)) has)
-        (more_offered (Moves.party_after (party now side) move) (offer_of cx v).socket.offered (offer_of cx v).socket.queued.queue refl refl) held goes;
+        (more_offered (Moves.party_after (party now side) move) (offer_of cx v).socket.offered (offer_of cx v).socket.queued.queue refl refl) held goes (left refl);
     made = λ done. there now side move (λ (y : Party). IfSome (offered_packet (offer_of cx v).socket) (IsMadeFrom y from))
         (if_some (offered_packet (offer_of cx v).socket) (IsMadeFrom (Moves.party_after (party now side) move) from) (λ x is.
         tcp_made (Moves.party_after (party now side) move) from (party now side).segments cx v x refl is));
   } where
     move : Moves.Move
     move = Moves.Offers (length before) cx v from true
-  tcp_gives m m' cx v false leaves held goes has = record {
+  tcp_gives m m' cx v false leaves held goes left has = record {
     moved =
         moves_by names side C G F i0 t net now r move (sockets_of (before ++ holding m' (settled false (Is.Tcp (offer_of cx v).socket)) ∷ after))
         (found m (Is.Tcp v) has, leaves) refl
         (changed m m' (Is.Tcp v) (settled false (Is.Tcp (offer_of cx v).socket)) has)
-        (grows_to (party now side) (Moves.party_after (party now side) move) refl refl) held goes;
+        (grows_to (party now side) (Moves.party_after (party now side) move) refl refl) held goes tt;
     made = λ done. absurd (cc);
   } where
     move : Moves.Move
@@ -201,12 +205,13 @@ module _ (names : List ℕ → Bool) (side : Side) (C G : Type 0) (F : Frames) (
     pub gives : (m m' : Meta) (cx : ContextValue) (s offered : Socket) (answer : Answer.Offer) (sent : Bool) → IsFit s → Offers cx s answer offered
         → IfSome (offered_by offered) (λ x. LeavesFrom cx from x.header)
         → (C → IsShownAt i0 t cx × IfSome (offered_by offered) (λ x. from ≡ source_of (sourced i x).header))
-        → (C → G → IfSome (offered_by offered) (λ x. (sent ≡ true) ⊎ IsHindered i0 t (λ i. (sourced i x).header))) → Has m s
+        → (C → G → IfSome (offered_by offered) (λ x. (sent ≡ true) ⊎ IsHindered i0 t (λ i. (sourced i x).header)))
+        → (sent ≡ true → IfSome (offered_by offered) (λ x. LeftFrom i0 t C F.gone cx s from x)) → Has m s
         → To m' (settled sent offered) sent (offered_by offered)
-    gives m m' cx (Is.Raw v) (Is.Raw v') answer sent fit offers leaves held goes has = raw_gives m m' cx v v' answer sent offers has
-    gives m m' cx (Is.Icmp v) (Is.Icmp v') answer sent fit offers leaves held goes has = icmp_gives m m' cx v v' answer sent offers has
-    gives m m' cx (Is.Udp v) (Is.Udp v') answer sent fit offers leaves held goes has = udp_gives m m' cx v v' answer sent offers has
-    gives m m' cx (Is.Tcp v) (Is.Tcp v') answer sent fit offers leaves held goes has =
+    gives m m' cx (Is.Raw v) (Is.Raw v') answer sent fit offers leaves held goes left has = raw_gives m m' cx v v' answer sent offers has
+    gives m m' cx (Is.Icmp v) (Is.Icmp v') answer sent fit offers leaves held goes left has = icmp_gives m m' cx v v' answer sent offers has
+    gives m m' cx (Is.Udp v) (Is.Udp v') answer sent fit offers leaves held goes left has = udp_gives m m' cx v v' answer sent offers has
+    gives m m' cx (Is.Tcp v) (Is.Tcp v') answer sent fit offers leaves held goes left has =
         let o = (offer_of cx v).socket.offered in
         let queue = (offer_of cx v).socket.queued.queue in
         subst (λ (w : TcpValue). To m' (settled sent (Is.Tcp w)) sent (offered_packet w)) (sym offers.1) (tcp_gives m m' cx v sent
@@ -217,10 +222,11 @@ module _ (names : List ℕ → Bool) (side : Side) (C G : Type 0) (F : Frames) (
               (subst (λ (w : TcpValue). IfSome (offered_packet w) (λ x. from ≡ source_of (sourced i x).header)) offers.1 (held c).1),
         ))
         (λ c g. way_so sent o queue (subst (λ (w : TcpValue). IfSome (offered_packet w) (λ x. (sent ≡ true) ⊎ IsHindered i0 t (λ j. (sourced j x).header)))
-        offers.1 (goes c g))) has)
-    gives m m' cx (Is.Dhcpv4 v) offered answer sent fit offers leaves held goes has = absurd fit.0
-    gives m m' cx (Is.Dns v) offered answer sent fit offers leaves held goes has = absurd fit.0
-    gives m m' cx s offered answer sent fit offers leaves held goes has = absurd offers
+        offers.1 (goes c g)))
+        (λ done. subst (λ (w : TcpValue). IfSome (offered_packet w) (λ x. LeftFrom i0 t C F.gone cx (Is.Tcp v) from x)) offers.1 (left done)) has)
+    gives m m' cx (Is.Dhcpv4 v) offered answer sent fit offers leaves held goes left has = absurd fit.0
+    gives m m' cx (Is.Dns v) offered answer sent fit offers leaves held goes left has = absurd fit.0
+    gives m m' cx s offered answer sent fit offers leaves held goes left has = absurd offers
 
 -- an offer that is silent leaves none open
 none_open : (o : Option OpenOffer) (queue : List ℕ) → packet_with o queue ≡ None → o ≡ None
@@ -255,7 +261,7 @@ nowhere = Address.Ipv4 (record { 0 = [] })
 
 module _ {D : Type 0} (moves : D → Move → D → Type 0) (turn_of : Option IpAddress) (names : List ℕ → Bool) (side : Side) (i0 : InnerValue) (t : ℤ) (net : Net) (q : Party) (L : ℕ →
     State D → Party → Type 0) (link : IsLink moves q L) (Since Gives : D → Type 0) (giving : IsGiving moves Since Gives)
-    (Taken : List (List ℕ) → D → Type 0) (taking : IsTaking moves Taken) (n : ℕ) (h : HostValue) (before after : Places) where
+    (Taken : Frames → D → Type 0) (taking : IsTaking moves Taken) (n : ℕ) (h : HostValue) (before after : Places) where
   abbrev At : Sender D → Option (Item Socket) → State D
   At x o = sending_as h x (before ++ record { inner = o } ∷ after)
 
@@ -322,7 +328,8 @@ module _ {D : Type 0} (moves : D → Move → D → Type 0) (turn_of : Option Ip
       (λ c. (
         shows_towards i0 x.inner t like (remote_of item.socket) c.0,
         subst (λ (o : Option PacketValue). IfSome o (λ y. nowhere ≡ source_of (sourced x.inner y).header)) (sym none) tt,
-      )) (λ c g. subst (λ (o : Option PacketValue). IfSome o (λ y. (false ≡ true) ⊎ IsHindered i0 t (λ j. (sourced j y).header))) (sym none) tt) f.sockets in
+      )) (λ c g. subst (λ (o : Option PacketValue). IfSome o (λ y. (false ≡ true) ⊎ IsHindered i0 t (λ j. (sourced j y).header))) (sym none) tt)
+      (λ done. absurd cc) f.sockets in
       let same : settled false offered ≡ offered = unsettled offered none in
       let still : Now (At x (Some (record { meta = unmarked; socket = offered }))) =
       subst (λ (s : Socket). Now (At x (Some (record { meta = unmarked; socket = s })))) same
@@ -360,8 +367,12 @@ module _ {D : Type 0} (moves : D → Move → D → Type 0) (turn_of : Option Ip
       let back : Gives x'.device → Gives x.device =
       device_leaves moves (λ (d : D). Gives d → Gives x.device) (λ d d' m none moved had given. had (giving.had d d' m moved given)) turn_of x x' (λ g. g)
       item.meta leaving sent goes.1 in
-      let reaches = narrowed names side (Stays i0 x.inner) (Stays i0 x.inner) (Gives x.device) (Gives x'.device) f.frames i0 t net f.now (λ c. c) back f.reaches in
-      let given = gives names side (Stays i0 x.inner) (Gives x'.device) f.frames i0 t net f.now reaches before after from x.inner like item.meta meta cx item.socket
+      let way : Left moves Taken taking f.frames i0 t (Stays i0 x.inner) x.inner leaving (plan_at x leaving) sent x'.device =
+      left_by moves Taken taking f.frames i0 t (Stays i0 x.inner) turn_of x x' item.meta leaving sent goes.1 f.taken in
+      let frames : Frames = and_gone f.frames way.out.more in
+      let reaches = narrowed names side (Stays i0 x.inner) (Stays i0 x.inner) (Gives x.device) (Gives x'.device) frames i0 t net f.now (λ c. c) back
+      (sent_more names side (Stays i0 x.inner) (Gives x.device) f.frames i0 t net f.now way.out.more f.reaches) in
+      let given = gives names side (Stays i0 x.inner) (Gives x'.device) frames i0 t net f.now reaches before after from x.inner like item.meta meta cx item.socket
       offered (Offer.Packet changed) (is_done sent) fit offers (subst (λ (o : Option PacketValue). IfSome o (λ y. LeavesFrom cx from y.header)) is from_it)
       (λ c. (
         shows_towards i0 x.inner t like (remote_of item.socket) c.0,
@@ -369,14 +380,27 @@ module _ {D : Type 0} (moves : D → Move → D → Type 0) (turn_of : Option Ip
       ))
       (λ c g. subst (λ (o : Option PacketValue). IfSome o (λ y. (is_done sent ≡ true) ⊎ IsHindered i0 t (λ j. (sourced j y).header))) is
       (or_hindered x leaving packet (is_done sent) sending.1 like c.0 (leaves_so moves Since Gives giving turn_of x x' item.meta leaving sent goes.1 since g)))
+      (λ done. subst (λ (o : Option PacketValue). IfSome o (λ y. LeftFrom i0 t (Stays i0 x.inner) frames.gone cx item.socket from y)) is (record {
+        i = x.inner;
+        settings = like.settings;
+        moment = like.moment;
+        ident = like.ident;
+        paths = λ c. c.0;
+        shown = refl;
+        formed = sending.2;
+        source = refl;
+        leaving_formed = subst IsWellFormed sending.1 goes.4;
+        busy = is_some x.left;
+        went = subst (λ (q : PacketValue). WentBy i0 t (Stays i0 x.inner) frames.gone x.inner q (plan_of x.inner (is_some x.left) q.header)) sending.1 (way.went done);
+      }))
       f.sockets in
       let linked : L n (sending_as h x places) (party given.moved.next side) =
       link.grown n (At x (Some item)) places (party f.now side) (party given.moved.next side) given.moved.grows f.link in
       let told : Next (sending_as h x' places) = record {
         now = given.moved.next;
-        frames = f.frames;
-        taken = device_leaves moves (Taken f.frames) (λ d d' m none. taking.rests d d' m f.frames none) turn_of x x' f.taken item.meta leaving sent goes.1;
-        reaches = narrowed names side (Stays i0 x.inner) (Stays i0 x'.inner) (Gives x'.device) (Gives x'.device) f.frames i0 t net given.moved.next
+        frames = frames;
+        taken = way.out.taken;
+        reaches = narrowed names side (Stays i0 x.inner) (Stays i0 x'.inner) (Gives x'.device) (Gives x'.device) frames i0 t net given.moved.next
             (stays_before i0 x.inner x'.inner same) (λ g. g) given.moved.reaches;
         sockets = given.moved.sockets_are;
         link = leaves x x' places (party given.moved.next side) item.meta leaving sent

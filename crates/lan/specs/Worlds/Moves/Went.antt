@@ -1,5 +1,5 @@
 -- Of each segment that a TCP socket offers in a poll, and is told that it is done with: it went in a frame, or its host dropped it.
-use Rattle.std.specs.Prelude.{◌≡◌, ℕ, ◌^◌, ◌<◌, ℤ, Bool, true, List, slice_get, Some, IfSome}
+use Rattle.std.specs.Prelude.{◌≡◌, ℕ, ◌^◌, ◌<◌, ℤ, Bool, true, List, [], slice_get, Some, IfSome}
 use Rattle.sockets.specs.Context.{ContextValue}
 use Rattle.sockets.specs.Packet.{PacketValue}
 use Rattle.sockets.specs.WellFormed.{IsWellFormed}
@@ -22,8 +22,9 @@ use Rattle.interface_tables.specs.Inner.{InnerValue}
 use Rattle.lan.specs.Worlds.AtLink.Moves.{Move}
 use Rattle.lan.specs.Worlds.AtLink.Moves.Move.{Offers}
 
--- A poll of a host at this moment: what the host was before it, and the frames that its device took in it, the oldest first.
-module _ (i0 : InnerValue) (t : ℤ) (gone : List (List ℕ)) where
+-- A poll of a host at this moment: what the host was before it, how one says behind it that it knows of no path on which less is carried than in a
+-- frame, and the frames that its device took in it, the oldest first.
+module _ (i0 : InnerValue) (t : ℤ) (knows_none : Type 0) (gone : List (List ℕ)) where
   -- this frame is among them
   abbrev pub IsGone : List ℕ → Type 0
   IsGone frame = (n : ℕ) × (slice_get gone n ≡ Some frame)
@@ -42,6 +43,7 @@ module _ (i0 : InnerValue) (t : ℤ) (gone : List (List ℕ)) where
     pub settings : HasSettingsOf i0 i
     pub moment : i.moment ≡ t
     pub ident : i0.ident < 2 ^ 16 → i.ident < 2 ^ 16
+    pub paths : knows_none → i.paths ≡ []
     pub shown : cx ≡ context_for i s
     pub formed : IsWellFormed p
     pub source : from ≡ source_of (sourced i p).header
