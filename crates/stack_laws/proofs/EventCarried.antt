@@ -108,7 +108,7 @@ module _ (Brings : Side → Made → Step → Type 0) (IsFrameOf : Side → Made
 
   -- ALL EVENTS
 
-  module _ (starts : Starts) (delay : ℕ) (net : Net) (past : List Entry) where
+  module _ (starts : Starts) (net : Net) (past : List Entry) where
     -- so it is of each
     abbrev pub AreFacts : (more : List Entry) (hosts : Stations) (still : StillRun starts (more ++ past) hosts) (moves : List (ℤ × Step)) →
         MoveBy starts net past more hosts still moves → Type 0
@@ -116,13 +116,13 @@ module _ (Brings : Side → Made → Step → Type 0) (IsFrameOf : Side → Made
     AreFacts (e ∷ more) hosts still moves by =
         AreFacts more still.0 still.1 by.0 by.3 × IsFact (kind_of e.event) still.0 hosts (run net (untimed by.0)) by.1
 
-    all : (more : List Entry) (hosts : Stations) (still : StillRun starts (more ++ past) hosts) (moves rest : List (ℤ × Step)) (on_way : Side → List (ℤ × List ℕ))
+    all : (delay : ℕ) (more : List Entry) (hosts : Stations) (still : StillRun starts (more ++ past) hosts) (moves rest : List (ℤ × Step)) (on_way : Side → List (ℤ × List ℕ))
         (by : MoveBy starts net past more hosts still moves) → AreFacts more hosts still moves by → AreCarried starts delay past more hosts still on_way
         → Onward on_way rest → AreBrought delay (run net (untimed moves)) rest → AreBrought delay net (moves ++ rest)
-    all [] hosts still moves rest on_way by facts carried onward are =
+    all delay [] hosts still moves rest on_way by facts carried onward are =
         subst (λ (xs : List (ℤ × Step)). AreBrought delay net (xs ++ rest)) (sym by.0)
         (subst (λ (xs : List (ℤ × Step)). AreBrought delay (run net (untimed xs)) rest) by.0 are)
-    all (e ∷ more) hosts still moves rest on_way by facts carried onward are =
+    all delay (e ∷ more) hosts still moves rest on_way by facts carried onward are =
         let before : List (ℤ × Step) = by.0 in
         let these : List Step = by.1 in
         let t : ℤ = clock_in (e ∷ more ++ past) in
@@ -139,7 +139,7 @@ module _ (Brings : Side → Made → Step → Type 0) (IsFrameOf : Side → Made
         (λ side frame goes. all_get (λ f. IsOnItsWay (on_way side) (t +ℤ pos delay) f) goes.0 goes.2.0 frame (carried.3 side goes.0 goes.1) goes.2.1)
         facts.1.goes onward (subst (λ (n : Net). AreBrought delay n rest) ends are) in
         subst (AreBrought delay net) (sym (ap (λ (xs : List (ℤ × Step)). xs ++ rest) by.2 ∙ append_assoc before (all_at t these) rest))
-        (all more still.0 still.1 before (all_at t these ++ rest) carried.0 by.3 facts.0 carried.1 then_on now)
+        (all delay more still.0 still.1 before (all_at t these ++ rest) carried.0 by.3 facts.0 carried.1 then_on now)
       where
         goes_on : (side : Side) (x : Made) (frame : List ℕ) (due m : ℤ) → clock_in (e ∷ more ++ past) ≤ℤ m → due ≤ℤ m → IsFrameOf side x frame
             → IsOnItsWay (on_way side) due frame ⊎ TakesIn (kind_of e.event) still.0 (other side) frame
@@ -153,9 +153,9 @@ module _ (Brings : Side → Made → Step → Type 0) (IsFrameOf : Side → Made
     append_none [] = refl
     append_none (x ∷ xs) = ap (λ (ys : List (ℤ × Step)). x ∷ ys) (append_none xs)
 
-    pub all_are : (more : List Entry) (hosts : Stations) (still : StillRun starts (more ++ past) hosts) (moves : List (ℤ × Step)) (on_way : Side → List (ℤ × List ℕ))
+    pub all_are : (delay : ℕ) (more : List Entry) (hosts : Stations) (still : StillRun starts (more ++ past) hosts) (moves : List (ℤ × Step)) (on_way : Side → List (ℤ × List ℕ))
         (by : MoveBy starts net past more hosts still moves) → AreFacts more hosts still moves by → AreCarried starts delay past more hosts still on_way
         → AreBrought delay net moves
-    all_are more hosts still moves on_way by facts carried =
+    all_are delay more hosts still moves on_way by facts carried =
         subst (AreBrought delay net) (append_none moves)
-        (all more hosts still moves [] on_way by facts carried (λ side x frame due of among m lasts. tt) tt)
+        (all delay more hosts still moves [] on_way by facts carried (λ side x frame due of among m lasts. tt) tt)

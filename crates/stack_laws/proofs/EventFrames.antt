@@ -65,7 +65,7 @@ path_enough paths a now whole enough = by (path_to paths a) where
 -- A HOST whose addresses stayed
 
 -- the host as it was at first, on the medium that it is on
-abbrev with_routes : InnerValue → InnerValue → InnerValue
+abbrev pub with_routes : InnerValue → InnerValue → InnerValue
 with_routes first i = record first { hardware = i.hardware; routes = i.routes }
 
 pub stayed : (first i : InnerValue) → IsSeenAs first i → HasSettingsOf (with_routes first i) i

@@ -185,7 +185,7 @@ module _ (e : Entry) (t : ℤ) (side : Side) (place : ℕ) where
   moved net (Resets x) of may v is late = absurd of
   moved net (Changes at old new) of may v is late = absurd of
 
-  step_moved : (net : Net) (s : Side) (move : Move) → s ≡ side → IsOfPoll e t move → May names net s move → (v : TcpValue) → Stands (party net side) v →
+  pub step_moved : (net : Net) (s : Side) (move : Move) → s ≡ side → IsOfPoll e t move → May names net s move → (v : TcpValue) → Stands (party net side) v →
       is_early v.block.state ≡ false → Later (party (after net (step_of s move)) side) v
   step_moved net s move same of may v is late =
       subst (λ (x : Side). Later (party (after net (step_of x move)) side) v) (sym same)
@@ -268,7 +268,7 @@ module _ (e : Entry) (t : ℤ) (side : Side) (place : ℕ) where
 
 -- IN A WORLD
 
-is_tcp : (o : Option Socket) (P : TcpValue → Type 0) → IsTcp o P → (v : TcpValue) × (o ≡ Some (Tcp v)) × P v
+pub is_tcp : (o : Option Socket) (P : TcpValue → Type 0) → IsTcp o P → (v : TcpValue) × (o ≡ Some (Tcp v)) × P v
 is_tcp None P is = absurd is
 is_tcp (Some (Tcp v)) P is = (v, refl, is)
 is_tcp (Some (Udp v)) P is = absurd is
@@ -276,7 +276,7 @@ is_tcp (Some Icmp) P is = absurd is
 is_tcp (Some Raw) P is = absurd is
 
 -- the socket at a place of a host is that of a net of it
-at_net : (net : Net) (hosts : Stations) (past : List Entry) (side : Side) (place : ℕ) (P : TcpValue → Type 0) → IsNetOf net hosts past →
+pub at_net : (net : Net) (hosts : Stations) (past : List Entry) (side : Side) (place : ℕ) (P : TcpValue → Type 0) → IsNetOf net hosts past →
     IsAtHost place (station hosts side) P → (v : TcpValue) × (socket_at (party net side) place ≡ Some (Tcp v)) × P v
 at_net net hosts past side place P of is =
     is_tcp (socket_at (party net side) place) P (subst (λ (sockets : List (Option Socket)). IsTcp (slice_index_or sockets place None) P) (sym (of.sockets side)) is)

@@ -25,6 +25,9 @@ pub mod EventReads
 pub mod EventCarried
 pub mod EventMade
 pub mod EventFrames
+pub mod EventHeard
+pub mod EventHears
+pub mod EventFacts
 pub mod EventPartners
 pub mod Blocks
 pub mod MovedEvents
