@@ -1,19 +1,23 @@
 -- Events that happen at one moment, of which all but the last let both sockets be, in a course.
-use Rattle.std.proofs.Common.{◌≡◌, ◌⊎◌, inl, inr, ℕ, ◌+◌, ◌<◌, ◌≤◌, ℤ, pos, ◌+ℤ◌, ◌≤ℤ◌, ◌<ℤ◌, int_lt, Bool, true, false, List, [], ◌∷◌, ◌++◌, refl, sym, subst, arith}
+use Rattle.std.proofs.Common.{◌≡◌, ◌⊎◌, inl, inr, ℕ, ◌+◌, ◌<◌, ◌≤◌, ℤ, pos, ◌+ℤ◌, ◌≤ℤ◌, ◌<ℤ◌, int_lt, Bool, true, false, List, [], ◌∷◌, ◌++◌, Some, slice_get, refl, sym, subst, arith}
 use Rattle.std.proofs.lemmas.Int.{ints}
 use Rattle.socket_base.specs.Offers.{IsBefore}
 use Rattle.tcp_control.specs.PollAt.{PollAt}
 use Rattle.tcp_control.specs.PollAt.TheVariants as When
 use Rattle.tcp_model.specs.Due.{poll_of}
 use Rattle.tcp_model.specs.Value.{TcpValue, free_in}
+use Rattle.tcp_tie.specs.Pair.History.{pasts}
+use Rattle.tcp_tie.specs.Pair.Sides.{at}
 use Rattle.tcp_tie.specs.Pair.Values.{PairValue}
 use Rattle.tcp_tie.specs.declared.pair.event.PairEvent.{PairEvent}
+use Rattle.tcp_tie.specs.declared.pair.event.SentSegment.{SentSegment}
 use Rattle.tcp_tie.specs.declared.pair.event.Side.{Side}
-use Rattle.tcp_progress.specs.Course.{AreTaken, Asks, AsksWithin, DeliversWithin, IsAskedBy, IsAt, IsClocked, IsHeardBy, IsHeardWith, IsTaken, Wants, events_of}
-use Rattle.tcp_progress.specs.Pair.{mtu_of, next_sent, socket_of}
+use Rattle.tcp_progress.specs.Course.{AreTaken, Asks, AsksWithin, ComesAs, DeliversWithin, IsAskedBy, IsAt, IsClocked, IsHeardBy, IsHeardWith, IsTaken, Wants, events_of}
+use Rattle.tcp_progress.specs.Pair.{HasStream, mtu_of, next_sent, socket_of}
 use Rattle.tcp_progress.specs.Readers.{IsReadBy, Reads, ReadsWithin}
 use Rattle.tcp_progress.specs.Rounds.{takes}
 use Rattle.lan.proofs.Worlds.AtLink.Paired.Runs.{after_events}
+use Rattle.stack_laws.specs.Progress.Edges.{ArrivesBy, ArrivesWith, ArrivesWithin, KeepsStream}
 
 abbrev pub Course : Type 0
 Course = List (ℤ × PairEvent)
@@ -28,6 +32,7 @@ pub record IsQuiet (p : PairValue) (event : PairEvent) : Type 0 where
   pub socket : (d : Side) → socket_of (takes p event) d ≡ socket_of p d
   pub mtu : (d : Side) → mtu_of (takes p event) d ≡ mtu_of p d
   pub sent : (d : Side) → next_sent (takes p event) d ≡ next_sent p d
+  pub past : (d : Side) → at (pasts (takes p event).history) d ≡ at (pasts p.history) d
   pub asks : (d : Side) → Asks d event → ⊥
   pub reads : (d : Side) → Reads d event → ⊥
 
@@ -133,29 +138,79 @@ asks_at t wait rest p (event ∷ then ∷ events) since quiet later asked more =
       by (inr (inl not)) = absurd (not wants)
       by (inr (inr on)) = on
 
--- HEARD
-
-pub heard_at : (t last : ℤ) (side : Side) (k : ℕ) (rest : Course) (p : PairValue) (events : List PairEvent) → t ≤ℤ last
-    → OfLast (λ q e. IsHeardWith q side k e) p events ⊎ IsHeardBy last side k (after_events p events) rest
-    → IsHeardBy last side k p (all_at t events ++ rest)
-heard_at t last side k rest p [] upto (inl never) = absurd never
-heard_at t last side k rest p [] upto (inr on) = on
-heard_at t last side k rest p (event ∷ []) upto so = (upto, so)
-heard_at t last side k rest p (event ∷ then ∷ events) upto so = (upto, inr (heard_at t last side k rest (takes p event) (then ∷ events) upto so))
+-- SEGMENTS COME
 
 pub no_more : (k n m : ℕ) → m ≡ n → n ≤ k → k < m → ⊥
 no_more k n m same old new = omega (arith, same, old, new)
 
-pub delivers_at : (t : ℤ) (delay : ℕ) (rest : Course) (p : PairValue) (events : List PairEvent) → AreQuiet p events
-    → ((side : Side) (k : ℕ) → next_sent p side ≤ k → k < next_sent (after_events p events) side
-    → IsHeardBy (t +ℤ pos delay) side k (after_events p events) rest)
-    → DeliversWithin delay (after_events p events) rest → DeliversWithin delay p (all_at t events ++ rest)
-delivers_at t delay rest p [] quiet new more = more
-delivers_at t delay rest p (event ∷ []) quiet new more = (new, more)
-delivers_at t delay rest p (event ∷ then ∷ events) quiet new more = (
-  (λ side k old sent. absurd (no_more k (next_sent p side) (next_sent (takes p event) side) (quiet.0.sent side) old sent)),
-  delivers_at t delay rest (takes p event) (then ∷ events) quiet.1
-      (λ side k old sent. new side k (subst (λ (n : ℕ). n ≤ k) (quiet.0.sent side) old) sent) more,
+-- with this event the segment of a side of this number comes, or one that equals it, and so it is for the pair
+abbrev pub ComesSo : (PairValue → Side → SentSegment → Type 0) → PairValue → Side → ℕ → PairEvent → Type 0
+ComesSo Then p side k event = ComesAs p side k event × ((x : SentSegment) → slice_get (at p.sides side).sent k ≡ Some x → Then p side x)
+
+-- by an event with which a segment comes, in whichever way
+module _ (With : PairValue → Side → ℕ → PairEvent → Type 0) where
+  abbrev pub ComesBy : ℤ → Side → ℕ → PairValue → Course → Type 0
+  ComesBy last side k p [] = Unit {0}
+  ComesBy last side k p (x ∷ course) = (x.0 ≤ℤ last) × (With p side k x.1 ⊎ ComesBy last side k (takes p x.1) course)
+
+  abbrev pub AllCome : ℕ → PairValue → Course → Type 0
+  AllCome delay p [] = Unit {0}
+  AllCome delay p (x ∷ course) =
+      ((side : Side) (k : ℕ) → next_sent p side ≤ k → k < next_sent (takes p x.1) side → ComesBy (x.0 +ℤ pos delay) side k (takes p x.1) course)
+      × AllCome delay (takes p x.1) course
+
+  pub comes_at : (t last : ℤ) (side : Side) (k : ℕ) (rest : Course) (p : PairValue) (events : List PairEvent) → t ≤ℤ last
+      → OfLast (λ q e. With q side k e) p events ⊎ ComesBy last side k (after_events p events) rest
+      → ComesBy last side k p (all_at t events ++ rest)
+  comes_at t last side k rest p [] upto (inl never) = absurd never
+  comes_at t last side k rest p [] upto (inr on) = on
+  comes_at t last side k rest p (event ∷ []) upto so = (upto, so)
+  comes_at t last side k rest p (event ∷ then ∷ events) upto so = (upto, inr (comes_at t last side k rest (takes p event) (then ∷ events) upto so))
+
+  pub all_come_at : (t : ℤ) (delay : ℕ) (rest : Course) (p : PairValue) (events : List PairEvent) → AreQuiet p events
+      → ((side : Side) (k : ℕ) → next_sent p side ≤ k → k < next_sent (after_events p events) side
+      → ComesBy (t +ℤ pos delay) side k (after_events p events) rest)
+      → AllCome delay (after_events p events) rest → AllCome delay p (all_at t events ++ rest)
+  all_come_at t delay rest p [] quiet new more = more
+  all_come_at t delay rest p (event ∷ []) quiet new more = (new, more)
+  all_come_at t delay rest p (event ∷ then ∷ events) quiet new more = (
+    (λ side k old sent. absurd (no_more k (next_sent p side) (next_sent (takes p event) side) (quiet.0.sent side) old sent)),
+    all_come_at t delay rest (takes p event) (then ∷ events) quiet.1
+        (λ side k old sent. new side k (subst (λ (n : ℕ). n ≤ k) (quiet.0.sent side) old) sent) more,
+  )
+
+-- what is heard so is heard
+heard_by : (last : ℤ) (side : Side) (k : ℕ) (p : PairValue) (course : Course) → ComesBy IsHeardWith last side k p course → IsHeardBy last side k p course
+heard_by last side k p [] is = tt
+heard_by last side k p (x ∷ course) is = (is.0, by (λ on. heard_by last side k (takes p x.1) course on) is.1) where
+  by : (ComesBy IsHeardWith last side k (takes p x.1) course → IsHeardBy last side k (takes p x.1) course)
+      → IsHeardWith p side k x.1 ⊎ ComesBy IsHeardWith last side k (takes p x.1) course
+      → IsHeardWith p side k x.1 ⊎ IsHeardBy last side k (takes p x.1) course
+  by further (inl comes) = inl comes
+  by further (inr on) = inr (further on)
+
+pub all_heard : (delay : ℕ) (p : PairValue) (course : Course) → AllCome IsHeardWith delay p course → DeliversWithin delay p course
+all_heard delay p [] all = tt
+all_heard delay p (x ∷ course) all = (
+  λ side k old new. heard_by (x.0 +ℤ pos delay) side k (takes p x.1) course (all.0 side k old new),
+  all_heard delay (takes p x.1) course all.1,
+)
+
+-- what arrives so arrives
+arrives_by : (last : ℤ) (side : Side) (k : ℕ) (p : PairValue) (course : Course) → ComesBy ArrivesWith last side k p course → ArrivesBy last side k p course
+arrives_by last side k p [] is = tt
+arrives_by last side k p (x ∷ course) is = (is.0, by (λ on. arrives_by last side k (takes p x.1) course on) is.1) where
+  by : (ComesBy ArrivesWith last side k (takes p x.1) course → ArrivesBy last side k (takes p x.1) course)
+      → ArrivesWith p side k x.1 ⊎ ComesBy ArrivesWith last side k (takes p x.1) course
+      → ArrivesWith p side k x.1 ⊎ ArrivesBy last side k (takes p x.1) course
+  by further (inl comes) = inl comes
+  by further (inr on) = inr (further on)
+
+pub all_arrive : (delay : ℕ) (p : PairValue) (course : Course) → AllCome ArrivesWith delay p course → ArrivesWithin delay p course
+all_arrive delay p [] all = tt
+all_arrive delay p (x ∷ course) all = (
+  λ side k old new. arrives_by (x.0 +ℤ pos delay) side k (takes p x.1) course (all.0 side k old new),
+  all_arrive delay (takes p x.1) course all.1,
 )
 
 -- READ
@@ -194,6 +249,16 @@ reads_at t read side rest p (event ∷ then ∷ events) since quiet later reads 
           → IsReadBy (t +ℤ pos read) side (all_at t (then ∷ events) ++ rest)
       by (inl is) = absurd (quiet.0.reads side is)
       by (inr on) = read_later (since +ℤ pos read) (t +ℤ pos read) side (all_at t (then ∷ events) ++ rest) (more_time since t read later) on
+
+-- STREAMS
+
+-- it is no empty one where they begin, nor behind them
+pub stream_at : (t : ℤ) (side : Side) (rest : Course) (p : PairValue) (events : List PairEvent) → AreQuiet p events → HasStream (at (pasts p.history) side)
+    → KeepsStream (after_events p events) side rest → KeepsStream p side (all_at t events ++ rest)
+stream_at t side rest p [] quiet stream more = more
+stream_at t side rest p (event ∷ []) quiet stream more = (stream, more)
+stream_at t side rest p (event ∷ then ∷ events) quiet stream more =
+    (stream, stream_at t side rest (takes p event) (then ∷ events) quiet.1 (subst HasStream (sym (quiet.0.past side)) stream) more)
 
 -- MOMENTS, AND WHAT GOES
 

@@ -31,11 +31,12 @@ use Rattle.stack_laws.proofs.EventClocks.{at_moments}
 use Rattle.stack_laws.proofs.EventLeave.{are_let_go}
 use Rattle.stack_laws.proofs.EventMoves.{events_move}
 use Rattle.stack_laws.proofs.EventReads.{are_read}
+use Rattle.stack_laws.proofs.EventStreams.{keep_streams}
 use Rattle.stack_laws.proofs.MovedOn as MovedOn
 use Rattle.stack_laws.proofs.StillPartners.{clocks, mid, on_between, shown, still_partners}
 use Rattle.stack_laws.specs.Progress.ByEvents.{GoOnByEvents}
 use Rattle.stack_laws.specs.Progress.Events.{MoveBy, clock_in, shown_in, untimed}
-use Rattle.stack_laws.specs.Progress.Moving.{IsTcp, SocketIs, moves_of}
+use Rattle.stack_laws.specs.Progress.Moving.{IsReadInTime, IsTcp, SocketIs, moves_of}
 use Rattle.stack_laws.specs.Progress.OneClock.{timed}
 use Rattle.stack_laws.specs.Progress.Partners.{HoldText}
 use Rattle.stack_laws.specs.Progress.Serving.{IsAtHost}
@@ -67,6 +68,10 @@ to_net : (starts : Starts) (places : Side → ℕ) (net : Net) (hosts : Stations
     (IsSo : TcpValue → Type 0) → IsAtHost (places side) (station hosts side) IsSo → SocketIs (seats_of starts places) net side IsSo
 to_net starts places net hosts history of side IsSo is =
     subst (λ (sockets : List (Option Socket)). IsTcp (slice_index_or sockets (places side) None) IsSo) (sym (of.sockets side)) is
+
+back : (s : Side) → other (other s) ≡ s
+back A = refl
+back B = refl
 
 pub go_on_by_events : (starts : Starts) (past more : List Entry) (hosts : Stations) (places : Side → ℕ) (news : Side → NewSocket) → IsFreshWorld starts →
     AreTyped (more ++ past) → (still : StillRun starts (more ++ past) hosts) → AreNew (seats_of starts places) news (first_net starts) →
@@ -114,6 +119,27 @@ go_on_by_events starts past more hosts places news fresh typed still new keys te
               read_in_time = are_read starts at past more hosts still seats moves (other side) read so.last (by moves is) so.one_clock so.reads;
               stream = subst (λ (h : List Entry). HasStream (told h side (places side))) (sym ways.of.history) so.stream;
               room = to_net starts places at between past ways.of (other side) (λ v. 1 ≤ room_of v.received) so.room;
+            };
+        in_time_anywhere = λ moves is read wait delay so streams let_go come.
+            record {
+              opened = λ s. to_net starts places at between past ways.of s (λ v. IsOpen v.block) ((so A).opened s);
+              stay = λ s.
+                  to_net starts places (run at (steps_of (moves_of moves))) hosts (more ++ past)
+                  (subst (λ (ss : List Step). IsNetOf (run at ss) hosts (more ++ past)) (these moves is) ways.of_these) s
+                  (λ v. is_synchronized v.block.state ≡ true) ((so A).stay s);
+              clock = λ s. upto (at_clocks s) (shown_in starts past s) (clock_in past) (them.showed places s) (so s).clock;
+              moments = at_moments starts at past more hosts moves seats at_clocks still (by moves is) (so A).one_clock;
+              asked = are_asked starts at past more hosts still places moves wait (so A).rested (by moves is) (so A).one_clock (so A).are_served;
+              let_go = let_go;
+              come = come;
+              read_in_time = λ s.
+                  subst (λ (of : Side). IsReadInTime seats read (clock_in past) at of moves) (back s)
+                  (are_read starts at past more hosts still seats moves (other (other s)) read (so (other s)).last (by moves is) (so (other s)).one_clock
+                  (so (other s)).reads);
+              streams = λ s. keep_streams starts at past more hosts still seats moves s (by moves is) (streams s);
+              rooms = λ s.
+                  subst (λ (of : Side). SocketIs seats at of (λ v. 1 ≤ room_of v.received)) (back s)
+                  (to_net starts places at between past ways.of (other (other s)) (λ v. 1 ≤ room_of v.received) (so (other s)).room);
             };
       },
     )

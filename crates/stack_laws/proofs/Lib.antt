@@ -28,6 +28,7 @@ pub mod EventFrames
 pub mod EventHeard
 pub mod EventHears
 pub mod EventFacts
+pub mod EventStreams
 pub mod EventPartners
 pub mod Blocks
 pub mod MovedEvents

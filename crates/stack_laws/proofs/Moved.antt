@@ -3,34 +3,41 @@ use Rattle.std.proofs.Common.{◌≡◌, ◌≢◌, ◌⊎◌, inl, inr, ℕ, �
 use Rattle.std.proofs.Common.{◌∷◌, ◌++◌, Option, Some, None, refl, sym, ap, ◌∙◌, subst, append_assoc, arith}
 use Rattle.std.proofs.lemmas.Bool.Decides.{eqb_tells}
 use Rattle.std.proofs.lemmas.Int.{ints}
+use Rattle.ip_wire.specs.TcpHeader.{TcpHeader}
 use Rattle.net_base.specs.Time.{IsMoment}
 use Rattle.socket_base.specs.Offers.{IsBefore}
 use Rattle.sockets.specs.Context.{ContextValue}
 use Rattle.tcp_model.specs.Due.{poll_of}
 use Rattle.tcp_model.specs.Value.{TcpValue, free_in}
+use Rattle.tcp_tie.specs.Pair.History.{pasts}
+use Rattle.tcp_tie.specs.Pair.Sides.{at}
+use Rattle.tcp_tie.specs.Pair.Sides as Sides
 use Rattle.tcp_tie.specs.Pair.Values.{HostContext, PairValue}
 use Rattle.tcp_tie.specs.declared.pair.event.PairEvent.{PairEvent}
 use Rattle.tcp_tie.specs.declared.pair.event.PairEvent.TheVariants.{Clock}
+use Rattle.tcp_tie.specs.declared.pair.event.SentSegment.{SentSegment}
 use Rattle.tcp_tie.specs.declared.pair.event.Side as Pairs
 use Rattle.tcp_tie.specs.declared.pair.event.Side.TheVariants as Of
-use Rattle.tcp_progress.specs.Course.{AreTaken, Asks, AsksWithin, DeliversWithin, IsAskedBy, IsClocked, IsHeardBy, IsHeardWith, Wants, end_of}
-use Rattle.tcp_progress.specs.Course.{events_of}
-use Rattle.tcp_progress.specs.Pair.{next_sent, socket_of}
+use Rattle.tcp_progress.specs.Clocks.{comes_stale}
+use Rattle.tcp_progress.specs.Course.{AreTaken, Asks, AsksWithin, DeliversWithin, IsAskedBy, IsClocked, IsHeard, Wants, end_of, events_of}
+use Rattle.tcp_progress.specs.Pair.{HasStream, next_sent, socket_of}
 use Rattle.tcp_progress.specs.Readers.{IsReadBy, Reads, ReadsWithin}
 use Rattle.tcp_progress.specs.Rounds.{takes}
 use Rattle.lan.specs.declared.at_link.history.event.Side.{Side}
 use Rattle.lan.specs.declared.at_link.history.event.Side.TheVariants.{A, B}
-use Rattle.lan.specs.Worlds.AtLink.Happening.{AreNumbered, Happening, events_of_moves, events_of_one, steps_of}
+use Rattle.lan.specs.Worlds.AtLink.Happening.{AreNumbered, Happening, events_of_moves, events_of_one, sent_in, steps_of}
 use Rattle.lan.specs.Worlds.AtLink.Kinds.{other}
 use Rattle.lan.specs.Worlds.AtLink.Moves.{IsRun, Move, Step, after}
 use Rattle.lan.specs.Worlds.AtLink.Moves.Move.{Invokes, Passes, Offers, Gives, Takes, Receives, Resets, Changes}
 use Rattle.lan.specs.Worlds.AtLink.Paired.{Seat, Shows, clock_after, clocks_after, clocks_in, if_at, shown_to, side_in}
 use Rattle.lan.specs.Worlds.AtLink.Parties.{Net, Socket}
 use Rattle.lan.proofs.Worlds.AtLink.Paired.Runs.{ShowsAlong, after_events}
-use Rattle.stack_laws.proofs.Blocks.{AskedThen, Course, OfLast, all_at, asked_at, asks_at, clocked_at, delivers_at, events_at, heard_at, read_at, reads_at}
-use Rattle.stack_laws.proofs.Blocks.{no_more, taken_at, upon, wants_or_not}
-use Rattle.stack_laws.proofs.MovedEvents.{clock_quiet, move_asks, move_at, move_hears, move_quiet, move_reads, move_taken, next_same}
-use Rattle.stack_laws.specs.Progress.Moving.{AreAsked, AreAtMoments, AreHeard, AreLetGo, AsksIn, HearsIn, IsAskedIn, IsAtMoment, IsHeardAt, IsHeardIn, IsReadAt}
+use Rattle.stack_laws.proofs.Blocks.{AllCome, AskedThen, ComesBy, ComesSo, Course, OfLast, all_arrive, all_at, all_come_at, all_heard, asked_at, asks_at, clocked_at}
+use Rattle.stack_laws.proofs.Blocks.{comes_at, events_at, no_more, read_at, reads_at, stream_at, taken_at, upon, wants_or_not}
+use Rattle.stack_laws.proofs.MovedEvents.{clock_quiet, heard_follows, move_asks, move_at, move_brings, move_quiet, move_reads, move_taken, next_same}
+use Rattle.stack_laws.specs.Progress.Edges.{ArrivesWithin, KeepsStream}
+use Rattle.stack_laws.specs.Progress.Moving.{AreAsked, AreAtMoments, AreBrought, AreHeard, AreLetGo, AsksIn, Brings, BringsAt, ComeFresh, IsAskedIn, IsAtMoment}
+use Rattle.stack_laws.specs.Progress.Moving.{IsBroughtBy, IsFreshFor, IsHeardBy, IsReadAt, KeepsStreamIn}
 use Rattle.stack_laws.specs.Progress.Moving.{IsReadIn, IsReadInTime, IsAskedAt, IsTcp, SocketIs, WantsIn, end_in, moves_of}
 
 abbrev pub Moves : Type 0
@@ -63,7 +70,7 @@ end_at t end rest [] ends from = ends from
 end_at t end rest (event ∷ events) ends from = end_at t end rest events ends t
 
 -- of each side of a pair
-every : (Q : Pairs.Side → Type 0) → ((side : Side) → Q (side_in side)) → (d : Pairs.Side) → Q d
+pub every : (Q : Pairs.Side → Type 0) → ((side : Side) → Q (side_in side)) → (d : Pairs.Side) → Q d
 every Q each Of.A = each A
 every Q each Of.B = each B
 
@@ -225,54 +232,87 @@ module _ (seats : Side → Seat) (who : Pairs.Side) where
   abbrev Numbered : Net → Moves → Type 0
   Numbered net moves = AreNumbered seats net (moves_of moves)
 
-  heard_course : (names : List ℕ → Bool) (moves : Moves) (clocks : Side → ℤ) (net : Net) (p : PairValue) → Along clocks net p moves
-      → IsRun names net (steps_of (moves_of moves)) → Numbered net moves → (now last : ℤ) (side : Side) (k : ℕ) → now ≤ℤ last
-      → IsHeardIn seats last side k moves → IsHeardBy last (side_in side) k p (course_to clocks now moves)
-  heard_course names [] clocks net p along is numbered now last side k until heard = (until, inr tt)
-  heard_course names (x ∷ more) clocks net p along is numbered now last side k until heard =
-      heard_at x.0 last (side_in side) k rest p (events_of_one seats clocks x.1) heard.0
-      (by heard.1 (λ on. heard_course names more (clocks_on clocks x.1) (after net x.1.step) (pair_on clocks p x.1) along.1 is.1 numbered.1 x.0 last side k heard.0 on))
-    where
-      rest : Course
-      rest = course_to (clocks_on clocks x.1) x.0 more
+  -- by an event with which a segment comes, in whichever way
+  module _ (names : List ℕ → Bool) (IsSo : TcpValue → TcpHeader → List ℕ → Type 0) (Then : PairValue → Pairs.Side → SentSegment → Type 0)
+      (follows : (q : PairValue) (d : Pairs.Side) (x : SentSegment) → IsSo (socket_of q (Sides.other d)) x.segment x.bytes → Then q d x) where
+    comes_course : (moves : Moves) (clocks : Side → ℤ) (net : Net) (p : PairValue) → Along clocks net p moves
+        → IsRun names net (steps_of (moves_of moves)) → Numbered net moves → (now last : ℤ) (side : Side) (k : ℕ) → now ≤ℤ last
+        → IsBroughtBy IsSo seats last side k net moves → ComesBy (ComesSo Then) last (side_in side) k p (course_to clocks now moves)
+    comes_course [] clocks net p along is numbered now last side k until brought = (until, inr tt)
+    comes_course (x ∷ more) clocks net p along is numbered now last side k until brought =
+        comes_at (ComesSo Then) x.0 last (side_in side) k rest p (events_of_one seats clocks x.1) brought.0
+        (by brought.1
+        (λ on. comes_course more (clocks_on clocks x.1) (after net x.1.step) (pair_on clocks p x.1) along.1 is.1 numbered.1 x.0 last side k brought.0 on))
+      where
+        rest : Course
+        rest = course_to (clocks_on clocks x.1) x.0 more
 
-      back : (s : Side) → other (other s) ≡ s
-      back A = refl
-      back B = refl
+        back : (s : Side) → other (other s) ≡ s
+        back A = refl
+        back B = refl
 
-      from : (r : Side) → r ≡ other side → side ≡ other r
-      from r same = sym (back side) ∙ ap other (sym same)
+        from : (r : Side) → r ≡ other side → side ≡ other r
+        from r same = sym (back side) ∙ ap other (sym same)
 
-      hears : HearsIn seats side k x.1 → OfLast (λ q e. IsHeardWith q (side_in side) k e) p (events_of_one seats clocks x.1)
-      hears h =
-          subst (λ (n : ℕ). OfLast (λ q e. IsHeardWith q (side_in side) n e) p (events_of_one seats clocks x.1)) h.1
-          (subst (λ (s : Side). OfLast (λ q e. IsHeardWith q (side_in s) x.1.number e) p (events_of_one seats clocks x.1)) (sym (from x.1.step.side h.0))
-          (move_hears names seats clocks net p along.0 x.1.step.side x.1.number (clocks x.1.step.side) x.1.step.move is.0 numbered.0
-          (subst (λ (s : Side). IsHeardAt (seats s).place x.1.step.move) (sym h.0) h.2)))
+        comes : Brings IsSo seats net side k x.1.step → OfLast (λ q e. ComesSo Then q (side_in side) k e) p (events_of_one seats clocks x.1)
+        comes b =
+            subst (λ (s : Side). OfLast (λ q e. ComesSo Then q (side_in s) k e) p (events_of_one seats clocks x.1)) (sym (from x.1.step.side b.0))
+            (move_brings names seats clocks net p along.0 x.1.step.side IsSo Then follows x.1.number k (clocks x.1.step.side) x.1.step.move is.0 numbered.0
+            (subst (λ (s : Side). BringsAt IsSo (seats x.1.step.side).place (sent_in seats net s) k x.1.step.move) (from x.1.step.side b.0)
+            (subst (λ (s : Side). BringsAt IsSo (seats s).place (sent_in seats net side) k x.1.step.move) (sym b.0) b.1)))
 
-      by : HearsIn seats side k x.1 ⊎ IsHeardIn seats last side k more
-          → (IsHeardIn seats last side k more → IsHeardBy last (side_in side) k (pair_on clocks p x.1) rest)
-          → OfLast (λ q e. IsHeardWith q (side_in side) k e) p (events_of_one seats clocks x.1) ⊎ IsHeardBy last (side_in side) k (pair_on clocks p x.1) rest
-      by (inl h) onward = inl (hears h)
-      by (inr on) onward = inr (onward on)
+        by : Brings IsSo seats net side k x.1.step ⊎ IsBroughtBy IsSo seats last side k (after net x.1.step) more
+            → (IsBroughtBy IsSo seats last side k (after net x.1.step) more → ComesBy (ComesSo Then) last (side_in side) k (pair_on clocks p x.1) rest)
+            → OfLast (λ q e. ComesSo Then q (side_in side) k e) p (events_of_one seats clocks x.1) ⊎ ComesBy (ComesSo Then) last (side_in side) k (pair_on clocks p x.1) rest
+        by (inl b) onward = inl (comes b)
+        by (inr on) onward = inr (onward on)
+
+    pub all_come_course : (delay : ℕ) (moves : Moves) (clocks : Side → ℤ) (net : Net) (p : PairValue) (now : ℤ) → Along clocks net p moves
+        → IsRun names net (steps_of (moves_of moves)) → Numbered net moves → AreBrought IsSo seats delay net moves
+        → AllCome (ComesSo Then) delay p (course_to clocks now moves)
+    all_come_course delay [] clocks net p now along is numbered brought =
+        ((λ side k old new. absurd (no_more k (next_sent p side) (next_sent (takes p (Clock who now)) side) ((clock_quiet p who now).sent side) old new)), tt)
+    all_come_course delay (x ∷ more) clocks net p now along is numbered brought =
+        let rest : Course = course_to (clocks_on clocks x.1) x.0 more in
+        let shows' = shows_first (clocks_on clocks x.1) (after net x.1.step) (pair_on clocks p x.1) (moves_of more) along.1 in
+        all_come_at (ComesSo Then) x.0 delay rest p (events_of_one seats clocks x.1)
+        (move_quiet p (seats x.1.step.side).place (clocks x.1.step.side) x.1.step.side x.1.number x.1.step.move)
+        (every (λ d. (k : ℕ) → next_sent p d ≤ k → k < next_sent (pair_on clocks p x.1) d → ComesBy (ComesSo Then) (x.0 +ℤ pos delay) d k (pair_on clocks p x.1) rest)
+        (λ side k old new.
+        comes_course more (clocks_on clocks x.1) (after net x.1.step) (pair_on clocks p x.1) along.1 is.1 numbered.1 x.0 (x.0 +ℤ pos delay) side k
+        (and_more x.0 x.0 delay (same_moment x.0))
+        (brought.0 side k (subst (λ (n : ℕ). n ≤ k) (sym (next_same names seats clocks net p along.0 side side)) old)
+        (subst (λ (n : ℕ). k < n) (sym (next_same names seats (clocks_on clocks x.1) (after net x.1.step) (pair_on clocks p x.1) shows' side side)) new))))
+        (all_come_course delay more (clocks_on clocks x.1) (after net x.1.step) (pair_on clocks p x.1) x.0 along.1 is.1 numbered.1 brought.1)
 
   pub delivers_course : (names : List ℕ → Bool) (delay : ℕ) (moves : Moves) (clocks : Side → ℤ) (net : Net) (p : PairValue) (now : ℤ) → Along clocks net p moves
       → IsRun names net (steps_of (moves_of moves)) → Numbered net moves → AreHeard seats delay net moves
       → DeliversWithin delay p (course_to clocks now moves)
-  delivers_course names delay [] clocks net p now along is numbered heard =
-      ((λ side k old new. absurd (no_more k (next_sent p side) (next_sent (takes p (Clock who now)) side) ((clock_quiet p who now).sent side) old new)), tt)
-  delivers_course names delay (x ∷ more) clocks net p now along is numbered heard =
-      let rest : Course = course_to (clocks_on clocks x.1) x.0 more in
-      let shows' = shows_first (clocks_on clocks x.1) (after net x.1.step) (pair_on clocks p x.1) (moves_of more) along.1 in
-      delivers_at x.0 delay rest p (events_of_one seats clocks x.1)
+  delivers_course names delay moves clocks net p now along is numbered heard =
+      all_heard delay p (course_to clocks now moves)
+      (all_come_course names IsHeardBy IsHeard heard_follows delay moves clocks net p now along is numbered heard)
+
+  pub arrives_course : (names : List ℕ → Bool) (delay : ℕ) (moves : Moves) (clocks : Side → ℤ) (net : Net) (p : PairValue) (now : ℤ) → Along clocks net p moves
+      → IsRun names net (steps_of (moves_of moves)) → Numbered net moves → ComeFresh seats delay net moves
+      → ArrivesWithin delay p (course_to clocks now moves)
+  arrives_course names delay moves clocks net p now along is numbered come =
+      all_arrive delay p (course_to clocks now moves)
+      (all_come_course names IsFreshFor
+      (λ q d x. comes_stale (socket_of q (Sides.other d)).block x.segment.options.timestamp ≡ false) (λ q d x fresh. fresh) delay moves clocks net p now along is
+      numbered come)
+
+  -- STREAMS
+
+  pub stream_course : (side : Side) (moves : Moves) (clocks : Side → ℤ) (net : Net) (p : PairValue) (now : ℤ) → Along clocks net p moves
+      → KeepsStreamIn seats net side moves → KeepsStream p (side_in side) (course_to clocks now moves)
+  stream_course side [] clocks net p now along keeps =
+      let stream : HasStream (at (pasts p.history) (side_in side)) = subst HasStream (sym (along.past side)) keeps in
+      (stream, subst HasStream (sym ((clock_quiet p who now).past (side_in side))) stream)
+  stream_course side (x ∷ more) clocks net p now along keeps =
+      stream_at x.0 (side_in side) (course_to (clocks_on clocks x.1) x.0 more) p (events_of_one seats clocks x.1)
       (move_quiet p (seats x.1.step.side).place (clocks x.1.step.side) x.1.step.side x.1.number x.1.step.move)
-      (every (λ d. (k : ℕ) → next_sent p d ≤ k → k < next_sent (pair_on clocks p x.1) d → IsHeardBy (x.0 +ℤ pos delay) d k (pair_on clocks p x.1) rest)
-      (λ side k old new.
-      heard_course names more (clocks_on clocks x.1) (after net x.1.step) (pair_on clocks p x.1) along.1 is.1 numbered.1 x.0 (x.0 +ℤ pos delay) side k
-      (and_more x.0 x.0 delay (same_moment x.0))
-      (heard.0 side k (subst (λ (n : ℕ). n ≤ k) (sym (next_same names seats clocks net p along.0 side side)) old)
-      (subst (λ (n : ℕ). k < n) (sym (next_same names seats (clocks_on clocks x.1) (after net x.1.step) (pair_on clocks p x.1) shows' side side)) new))))
-      (delivers_course names delay more (clocks_on clocks x.1) (after net x.1.step) (pair_on clocks p x.1) x.0 along.1 is.1 numbered.1 heard.1)
+      (subst HasStream (sym (along.0.past side)) keeps.0)
+      (stream_course side more (clocks_on clocks x.1) (after net x.1.step) (pair_on clocks p x.1) x.0 along.1 keeps.1)
 
   -- READ
 

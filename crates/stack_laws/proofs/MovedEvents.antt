@@ -1,5 +1,5 @@
 -- What a move says of its events.
-use Rattle.std.proofs.Common.{◌≡◌, ◌≢◌, ◌⊎◌, inl, inr, ℕ, ◌==◌, ◌<◌, max, ℤ, int_le, Bool, true, false, if◌then◌else◌, List, [], ◌∷◌, ◌++◌, length}
+use Rattle.std.proofs.Common.{◌≡◌, ◌≢◌, ◌⊎◌, inl, inr, ℕ, ◌==◌, ℤ, int_le, Bool, true, false, if◌then◌else◌, List, [], ◌∷◌, ◌++◌, length}
 use Rattle.std.proofs.Common.{map, Some, slice_get, refl, sym, ap, ◌∙◌, subst, eq-eqb, arith}
 use Rattle.std.proofs.lemmas.Bool.Decides.{eqb_tells}
 use Rattle.std.proofs.lemmas.Int.{ints}
@@ -8,11 +8,10 @@ use Rattle.ip_wire.specs.Ip.{source_of, destination_of}
 use Rattle.ip_wire.specs.IpRepr.{IpRepr}
 use Rattle.ip_wire.specs.TcpHeader.{TcpHeader}
 use Rattle.sockets.specs.Context.{ContextValue}
-use Rattle.tcp_control.specs.Offsets.{past_by}
 use Rattle.tcp_model.specs.Offers.{offer_of}
-use Rattle.tcp_model.specs.Segments.{segment_len}
-use Rattle.tcp_model.specs.Value.{TcpValue, free_in}
+use Rattle.tcp_model.specs.Value.{TcpValue}
 use Rattle.tcp_tie.specs.Host.{Made, made_of}
+use Rattle.tcp_tie.specs.Pair.History.{pasts}
 use Rattle.tcp_tie.specs.Pair.Sides.{at}
 use Rattle.tcp_tie.specs.Pair.Sides as Sides
 use Rattle.tcp_tie.specs.Pair.Values.{PairValue}
@@ -21,8 +20,7 @@ use Rattle.tcp_tie.specs.declared.pair.event.PairEvent.TheVariants as Ev
 use Rattle.tcp_tie.specs.declared.pair.event.SentSegment.{SentSegment}
 use Rattle.tcp_tie.specs.declared.pair.event.Side as Pairs
 use Rattle.tcp_tie.specs.declared.pair.event.Side.TheVariants as Of
-use Rattle.tcp_progress.specs.Clocks.{comes_stale}
-use Rattle.tcp_progress.specs.Course.{Asks, IsAt, IsHeard, IsHeardWith, IsTaken}
+use Rattle.tcp_progress.specs.Course.{AreEqual, Asks, IsAt, IsHeard, IsTaken}
 use Rattle.tcp_progress.specs.Pair.{mtu_of, next_sent, socket_of}
 use Rattle.tcp_progress.specs.Readers.{Reads}
 use Rattle.tcp_progress.specs.Rounds.{takes}
@@ -39,10 +37,10 @@ use Rattle.lan.specs.Worlds.AtLink.Parties.{Net, party, socket_at}
 use Rattle.lan.specs.Worlds.AtLink.Parties.Socket.{Tcp}
 use Rattle.lan.proofs.Worlds.AtLink.Exchange.{same_tcp}
 use Rattle.lan.proofs.Worlds.AtLink.Places.{some_is}
-use Rattle.lan.proofs.Worlds.AtLink.Paired.Parts.{back_in}
+use Rattle.lan.proofs.Worlds.AtLink.Paired.Parts.{back_in, map_get}
 use Rattle.lan.proofs.Worlds.AtLink.Paired.Wires.{get_mapped, sent_same}
-use Rattle.stack_laws.proofs.Blocks.{AllAre, AreQuiet, IsQuiet, OfLast}
-use Rattle.stack_laws.specs.Progress.Moving.{IsAtMoment, IsHeardAt, IsHeardBy, IsLetGo, IsReadAt, IsAskedAt}
+use Rattle.stack_laws.proofs.Blocks.{AllAre, AreQuiet, ComesSo, IsQuiet, OfLast}
+use Rattle.stack_laws.specs.Progress.Moving.{BringsAt, IsAtMoment, IsHeardBy, IsLetGo, IsReadAt, IsAskedAt}
 
 -- A CLOCK THAT GOES ON
 
@@ -64,11 +62,18 @@ clock_sent p Of.A Of.B m = refl
 clock_sent p Of.B Of.A m = refl
 clock_sent p Of.B Of.B m = refl
 
+clock_past : (p : PairValue) (side d : Pairs.Side) (m : ℤ) → at (pasts (takes p (Ev.Clock side m)).history) d ≡ at (pasts p.history) d
+clock_past p Of.A Of.A m = refl
+clock_past p Of.A Of.B m = refl
+clock_past p Of.B Of.A m = refl
+clock_past p Of.B Of.B m = refl
+
 pub clock_quiet : (p : PairValue) (side : Pairs.Side) (m : ℤ) → IsQuiet p (Ev.Clock side m)
 clock_quiet p side m = record {
   socket = λ d. clock_socket p side d m;
   mtu = λ d. clock_mtu p side d m;
   sent = λ d. ap (λ (xs : List SentSegment). length xs) (clock_sent p side d m);
+  past = λ d. clock_past p side d m;
   asks = λ d never. never;
   reads = λ d never. never;
 }
@@ -248,55 +253,82 @@ module _ (names : List ℕ → Bool) (seats : Side → Seat) (clocks : Side → 
   next_same side =
       ap (λ (xs : List Made). length xs) (sent_there side) ∙ length-map (at p.sides (side_in side)).sent made_by
 
-  module _ (cx : ContextValue) (v : TcpValue) (ip : IpRepr) (header : TcpHeader) (bytes : List ℕ) (number : ℕ)
-      (is : socket_at (party net r) (seats r).place ≡ Some (Tcp v))
-      (numbered : slice_get (sent_in seats net (other r)) number ≡ Some (made_of (source_of ip) (destination_of ip) header bytes))
-      (heard : IsHeardBy v header bytes) where
-    socket_is : socket_of p (side_in r) ≡ v
-    socket_is = same_tcp (socket_of p (side_in r)) v (some_is (Tcp (socket_of p (side_in r))) (Tcp v) (sym (sh.socket r) ∙ is))
+  -- What a socket finds so of a segment by its header and bytes, holds of the segment in the pair.
+  module _ (IsSo : TcpValue → TcpHeader → List ℕ → Type 0) (Then : PairValue → Pairs.Side → SentSegment → Type 0)
+      (follows : (q : PairValue) (d : Pairs.Side) (x : SentSegment) → IsSo (socket_of q (Sides.other d)) x.segment x.bytes → Then q d x) where
+    module _ (cx : ContextValue) (v : TcpValue) (ip : IpRepr) (header : TcpHeader) (bytes : List ℕ) (number k : ℕ)
+        (is : socket_at (party net r) (seats r).place ≡ Some (Tcp v))
+        (numbered : slice_get (sent_in seats net (other r)) number ≡ Some (made_of (source_of ip) (destination_of ip) header bytes))
+        (one : slice_get (sent_in seats net (other r)) k ≡ Some (made_of (source_of ip) (destination_of ip) header bytes)) (so : IsSo v header bytes) where
+      abbrev theirs : List SentSegment
+      theirs = (at p.sides (side_in (other r))).sent
 
-    -- what came is the segment of this number
-    came : (z : SentSegment) → slice_get (at p.sides (side_in (other r))).sent number ≡ Some z
-        → made_by z ≡ made_of (source_of ip) (destination_of ip) header bytes
-    came z got =
-        some_is (made_by z) (made_of (source_of ip) (destination_of ip) header bytes)
-        (sym (get_mapped made_by (at p.sides (side_in (other r))).sent number z got)
-        ∙ ap (λ (xs : List Made). slice_get xs number) (sym (sent_there (other r))) ∙ numbered)
+      abbrev made : Made
+      made = made_of (source_of ip) (destination_of ip) header bytes
 
-    -- by the socket of a pair that shows it, too
-    hears : (w : TcpValue) (z : SentSegment) → w ≡ v → made_by z ≡ made_of (source_of ip) (destination_of ip) header bytes
-        → (comes_stale w.block z.segment.options.timestamp ≡ false)
-        × (segment_len z.segment (length z.bytes) ≡ 0 → past_by w.block.receiver.next z.segment.seq_number < max 1 (free_in w))
-    hears w z same one =
-        let head : z.segment ≡ header = ap (λ (m : Made). m.header) one in
-        let text : z.bytes ≡ bytes = ap (λ (m : Made). m.bytes) one in (
-          (λ i. comes_stale (same i).block (head i).options.timestamp) ∙ heard.fresh,
-          λ none.
-              subst (λ (u : TcpValue). past_by u.block.receiver.next z.segment.seq_number < max 1 (free_in u)) (sym same)
-              (subst (λ (h : TcpHeader). past_by v.block.receiver.next h.seq_number < max 1 (free_in v)) (sym head)
-              (heard.inside (sym (λ i. segment_len (head i) (length (text i))) ∙ none))),
-        )
+      socket_is : socket_of p (side_in r) ≡ v
+      socket_is = same_tcp (socket_of p (side_in r)) v (some_is (Tcp (socket_of p (side_in r))) (Tcp v) (sym (sh.socket r) ∙ is))
 
-    heard_with : (q : PairValue) → (at q.sides (side_in (other r))).sent ≡ (at p.sides (side_in (other r))).sent → socket_of q (side_in r) ≡ socket_of p (side_in r)
-        → IsHeardWith q (side_in (other r)) number (Ev.Deliver (side_in (other r)) number)
-    heard_with q sent socket = (refl, λ z got. by z (ap (λ (xs : List SentSegment). slice_get xs number) (sym sent) ∙ got)) where
-      by : (z : SentSegment) → slice_get (at p.sides (side_in (other r))).sent number ≡ Some z → IsHeard q (side_in (other r)) z
-      by z got =
-          let it = hears (socket_of q (Sides.other (side_in (other r)))) z (ap (λ (d : Pairs.Side). socket_of q d) (back_in r) ∙ socket ∙ socket_is) (came z got) in
-          record { fresh = it.0; inside = it.1 }
+      -- the segment of the move's own number
+      own : (y : SentSegment) × (slice_get theirs number ≡ Some y) × (made_by y ≡ made)
+      own = map_get made_by theirs number made (ap (λ (xs : List Made). slice_get xs number) (sym (sent_there (other r))) ∙ numbered)
 
-    pub hears_last : (last : ℤ) → OfLast (λ q e. IsHeardWith q (side_in (other r)) number e) p
-        (clock_to (side_in r) last cx.moment ++ Ev.Deliver (side_in (other r)) number ∷ [])
-    hears_last last =
-        last_led (λ q e. IsHeardWith q (side_in (other r)) number e) p (side_in r) cx.moment (Ev.Deliver (side_in (other r)) number) (int_le cx.moment last)
-        (heard_with p refl refl)
-        (heard_with (takes p (Ev.Clock (side_in r) cx.moment)) (clock_sent p (side_in r) (side_in (other r)) cx.moment)
-        (clock_socket p (side_in r) (side_in r) cx.moment))
+      -- what came is the segment that was asked for, as far as one can tell
+      came : (x : SentSegment) → slice_get theirs k ≡ Some x → made_by x ≡ made
+      came x got =
+          some_is (made_by x) made
+          (sym (get_mapped made_by theirs k x got) ∙ ap (λ (xs : List Made). slice_get xs k) (sym (sent_there (other r))) ∙ one)
 
-  pub move_hears : (number : ℕ) (last : ℤ) (move : Move) → May names net r move → IsNumbered (seats r).place (sent_in seats net (other r)) number move
-      → IsHeardAt (seats r).place move → OfLast (λ q e. IsHeardWith q (side_in (other r)) number e) p (events_of_move (seats r).place last r number move)
-  move_hears number last (Takes at cx v ip header bytes) may numbered heard =
-      last_here (λ q e. IsHeardWith q (side_in (other r)) number e) p at (seats r).place
-      (clock_to (side_in r) last cx.moment ++ Ev.Deliver (side_in (other r)) number ∷ []) heard.0
-      (hears_last cx v ip header bytes number (subst (λ (i : ℕ). socket_at (party net r) i ≡ Some (Tcp v)) heard.0 may.0) (numbered heard.0) heard.1 last)
-  move_hears number last move may numbered heard = absurd heard
+      equal : (x y : SentSegment) → made_by x ≡ made → made_by y ≡ made → AreEqual x y
+      equal x y x_is y_is = record {
+        source = ap (λ (m : Made). m.from) (y_is ∙ sym x_is);
+        destination = ap (λ (m : Made). m.to) (y_is ∙ sym x_is);
+        segment = ap (λ (m : Made). m.header) (y_is ∙ sym x_is);
+        bytes = ap (λ (m : Made). m.bytes) (y_is ∙ sym x_is);
+      }
+
+      comes_with : (q : PairValue) → (at q.sides (side_in (other r))).sent ≡ theirs → socket_of q (side_in r) ≡ socket_of p (side_in r)
+          → ComesSo Then q (side_in (other r)) k (Ev.Deliver (side_in (other r)) number)
+      comes_with q sent socket = (
+        (
+          number,
+          refl,
+          λ x got.
+              (own.0, ap (λ (xs : List SentSegment). slice_get xs number) sent ∙ own.1, equal x own.0 (came x (there x got)) own.2),
+        ),
+        λ x got. follows q (side_in (other r)) x (so_there x (came x (there x got))),
+      )
+        where
+          there : (x : SentSegment) → slice_get (at q.sides (side_in (other r))).sent k ≡ Some x → slice_get theirs k ≡ Some x
+          there x got = ap (λ (xs : List SentSegment). slice_get xs k) (sym sent) ∙ got
+
+          so_there : (x : SentSegment) → made_by x ≡ made → IsSo (socket_of q (Sides.other (side_in (other r)))) x.segment x.bytes
+          so_there x x_is =
+              let head : header ≡ x.segment = ap (λ (m : Made). m.header) (sym x_is) in
+              let text : bytes ≡ x.bytes = ap (λ (m : Made). m.bytes) (sym x_is) in
+              let here : v ≡ socket_of q (Sides.other (side_in (other r))) =
+              sym (ap (λ (d : Pairs.Side). socket_of q d) (back_in r) ∙ socket ∙ socket_is) in
+              subst (λ (w : TcpValue). IsSo w x.segment x.bytes) here
+              (subst (λ (h : TcpHeader). IsSo v h x.bytes) head (subst (λ (b : List ℕ). IsSo v header b) text so))
+
+      pub comes_last : (last : ℤ) → OfLast (λ q e. ComesSo Then q (side_in (other r)) k e) p
+          (clock_to (side_in r) last cx.moment ++ Ev.Deliver (side_in (other r)) number ∷ [])
+      comes_last last =
+          last_led (λ q e. ComesSo Then q (side_in (other r)) k e) p (side_in r) cx.moment (Ev.Deliver (side_in (other r)) number) (int_le cx.moment last)
+          (comes_with p refl refl)
+          (comes_with (takes p (Ev.Clock (side_in r) cx.moment)) (clock_sent p (side_in r) (side_in (other r)) cx.moment)
+          (clock_socket p (side_in r) (side_in r) cx.moment))
+
+    pub move_brings : (number k : ℕ) (last : ℤ) (move : Move) → May names net r move → IsNumbered (seats r).place (sent_in seats net (other r)) number move
+        → BringsAt IsSo (seats r).place (sent_in seats net (other r)) k move
+        → OfLast (λ q e. ComesSo Then q (side_in (other r)) k e) p (events_of_move (seats r).place last r number move)
+    move_brings number k last (Takes at cx v ip header bytes) may numbered brings =
+        last_here (λ q e. ComesSo Then q (side_in (other r)) k e) p at (seats r).place
+        (clock_to (side_in r) last cx.moment ++ Ev.Deliver (side_in (other r)) number ∷ []) brings.0
+        (comes_last cx v ip header bytes number k (subst (λ (i : ℕ). socket_at (party net r) i ≡ Some (Tcp v)) brings.0 may.0) (numbered brings.0) brings.1
+        brings.2 last)
+    move_brings number k last move may numbered brings = absurd brings
+
+-- what is heard by a socket is heard by that of the pair
+pub heard_follows : (q : PairValue) (d : Pairs.Side) (x : SentSegment) → IsHeardBy (socket_of q (Sides.other d)) x.segment x.bytes → IsHeard q d x
+heard_follows q d x heard = record { fresh = heard.fresh; inside = heard.inside }

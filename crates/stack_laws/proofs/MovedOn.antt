@@ -14,9 +14,10 @@ use Rattle.tcp_tie.specs.declared.pair.event.Side.TheVariants as Of
 use Rattle.tcp_progress.proofs.CourseThrough.{through_whatever}
 use Rattle.tcp_progress.proofs.CourseWindows.{gets_on}
 use Rattle.tcp_progress.specs.Arrivals.{is_synchronized}
-use Rattle.tcp_progress.specs.Course.{end_of, events_of}
+use Rattle.tcp_progress.specs.BothWays.{AreThere}
+use Rattle.tcp_progress.specs.Course.{AsksWithin, end_of, events_of}
 use Rattle.tcp_progress.specs.Exchange.{IsOpen, left_of}
-use Rattle.tcp_progress.specs.Onward.{HasRisen, acked_in}
+use Rattle.tcp_progress.specs.Onward.{AreOpen, HasRisen, acked_in}
 use Rattle.tcp_progress.specs.Pair.{HasStream, left_in, socket_of}
 use Rattle.tcp_progress.specs.Reached.{IsReached}
 use Rattle.tcp_progress.specs.Readers.{ReadsWithin, whole_span}
@@ -35,10 +36,13 @@ use Rattle.lan.specs.Worlds.AtLink.Partners.{ArePartners}
 use Rattle.lan.proofs.Worlds.AtLink.Paired.Parts.{other_in}
 use Rattle.lan.proofs.Worlds.AtLink.Paired.Runs.{ShowsAlong, partners_go_on_by, partners_have_numbers, partners_show_along, steps_append}
 use Rattle.lan.proofs.Worlds.AtLink.Paired.Shown.{may_be}
-use Rattle.stack_laws.proofs.Moved.{asked_first, asks_course, clocked_course, clocks_upto, course_to, delivers_course, end_course, events_course, moment_in}
-use Rattle.stack_laws.proofs.Moved.{read_first, reads_course, same_moment, shows_first, taken_course, to_pair}
+use Rattle.stack_laws.proofs.AtEdges.Spans.{through_at_edges}
+use Rattle.stack_laws.proofs.AtEdges.Whole.{goes_on as goes_on_anywhere}
+use Rattle.stack_laws.proofs.Moved.{arrives_course, asked_first, asks_course, clocked_course, clocks_upto, course_to, delivers_course, end_course, events_course}
+use Rattle.stack_laws.proofs.Moved.{every, moment_in, read_first, reads_course, same_moment, shows_first, stream_course, taken_course, to_pair}
 use Rattle.stack_laws.proofs.MovedEvents.{clock_socket}
-use Rattle.stack_laws.specs.Progress.Moving.{GoOnByMoves, GoOnBySteps, MoveInTime, end_in, moves_of}
+use Rattle.stack_laws.specs.Progress.Edges.{ArrivesInTime, KeepsStream, edge_span}
+use Rattle.stack_laws.specs.Progress.Moving.{AreAsked, AreAtMoments, ComeInTime, GoOnByMoves, GoOnBySteps, IsReadInTime, MoveInTime, SocketIs, end_in, moves_of}
 use Rattle.stack_laws.specs.Progress.Partners.{IsInTime}
 
 -- THE CLOCK OF A HOST GOES ON
@@ -79,7 +83,7 @@ module _ (names : List ℕ → Bool) (seats : Side → Seat) (clocks end : Side 
     (along : ShowsAlong seats clocks net p (moves_of moves)) (is : IsRun names net (steps_of (moves_of moves)))
     (numbered : AreNumbered seats net (moves_of moves)) (last : Shows seats end (run net (steps_of (moves_of moves))) q)
     (ends : end ≡ clocks_in seats clocks (steps_of (moves_of moves))) (steps : Steps p (events_of_moves seats clocks (moves_of moves)) q)
-    (read wait delay : ℕ) (now : ℤ) (t : MoveInTime read wait delay now seats clocks net side moves) where
+    (read wait delay : ℕ) (now : ℤ) where
   abbrev who : Pairs.Side
   who = side_in side
 
@@ -93,68 +97,121 @@ module _ (names : List ℕ → Bool) (seats : Side → Seat) (clocks end : Side 
   first : Shows seats clocks net p
   first = shows_first seats who clocks net p (moves_of moves) along
 
-  synchronized : (d : Side) → is_synchronized (socket_of r (side_in d)).block.state ≡ true
-  synchronized d =
-      subst (λ (v : TcpValue). is_synchronized v.block.state ≡ true) (sym (clock_socket q who (side_in d) (end_in now moves)))
-      (to_pair seats who end (run net (steps_of (moves_of moves))) q last d (λ v. is_synchronized v.block.state ≡ true) (t.stay d))
+  opened : ((of : Side) → SocketIs seats net of (λ v. IsOpen v.block)) → AreOpen p
+  opened are = (
+    to_pair seats who clocks net p first A (λ v. IsOpen v.block) (are A),
+    to_pair seats who clocks net p first B (λ v. IsOpen v.block) (are B),
+  )
 
-  goes_on : refusal q (Clock who (end_in now moves)) ≡ None
-  goes_on =
+  stay : ((of : Side) → SocketIs seats (run net (steps_of (moves_of moves))) of (λ v. is_synchronized v.block.state ≡ true)) → AreThere r
+  stay are = (synchronized A, synchronized B) where
+    synchronized : (d : Side) → is_synchronized (socket_of r (side_in d)).block.state ≡ true
+    synchronized d =
+        subst (λ (v : TcpValue). is_synchronized v.block.state ≡ true) (sym (clock_socket q who (side_in d) (end_in now moves)))
+        (to_pair seats who end (run net (steps_of (moves_of moves))) q last d (λ v. is_synchronized v.block.state ≡ true) (are d))
+
+  goes_on : clocks side ≤ℤ now → AreAtMoments seats clocks now moves → refusal q (Clock who (end_in now moves)) ≡ None
+  goes_on clock moments =
       ap (λ (b : Bool). if_so (not b) Why.Moment)
-      (may_be (at q.sides who).moment (end_in now moves) (moment_in seats who moves clocks now t.moments)
+      (may_be (at q.sides who).moment (end_in now moves) (moment_in seats who moves clocks now moments)
       (subst (λ (m : ℤ). m ≤ℤ end_in now moves) (sym (last.clock side ∙ ap (λ (c : Side → ℤ). c side) ends))
-      (clocks_upto seats who moves clocks now side t.clock t.moments)))
+      (clocks_upto seats who moves clocks now side clock moments)))
 
-  pub lead : Steps p (events_of course) r
-  lead =
+  lead : clocks side ≤ℤ now → AreAtMoments seats clocks now moves → Steps p (events_of course) r
+  lead clock moments =
       subst (λ (events : List PairEvent). Steps p events r) (sym (events_course seats who moves clocks now))
-      (steps_append p q r (events_of_moves seats clocks (moves_of moves)) (Clock who (end_in now moves) ∷ []) steps (goes_on, refl))
+      (steps_append p q r (events_of_moves seats clocks (moves_of moves)) (Clock who (end_in now moves) ∷ []) steps (goes_on clock moments, refl))
 
-  pub in_time : IsInTime read wait delay now p r who course
-  in_time = record {
-    opened = (
-      to_pair seats who clocks net p first A (λ v. IsOpen v.block) (t.opened A),
-      to_pair seats who clocks net p first B (λ v. IsOpen v.block) (t.opened B),
-    );
-    stay = (synchronized A, synchronized B);
-    goes = record {
-      clock = subst (λ (m : ℤ). m ≤ℤ now) (sym (first.clock side)) t.clock;
-      clocked = clocked_course seats who moves clocks now now (same_moment now) t.moments;
-      asks = asks_course seats who wait moves clocks net p now now along (same_moment now) t.moments (asked_first seats who wait now net moves t.asked) t.asked;
-      taken = taken_course seats who moves clocks now t.let_go;
-      delivers = delivers_course seats who names delay moves clocks net p now along is numbered t.heard;
-      stream = subst HasStream (sym (first.past side)) t.stream;
-      room = subst (λ (d : Pairs.Side). 1 ≤ room_of (socket_of p d).received) (other_in side)
-          (to_pair seats who clocks net p first (other side) (λ v. 1 ≤ room_of v.received) t.room);
-    };
-    reads = subst (λ (d : Pairs.Side). ReadsWithin read now p d course) (other_in side)
-        (reads_course seats who read (other side) moves clocks net p now now along (same_moment now) t.moments
-        (read_first seats who read now net (other side) moves t.read_in_time) t.read_in_time);
-  }
+  asks : AreAtMoments seats clocks now moves → AreAsked seats wait now net moves → AsksWithin wait now p course
+  asks moments asked = asks_course seats who wait moves clocks net p now now along (same_moment now) moments (asked_first seats who wait now net moves asked) asked
+
+  reads : (of : Side) → AreAtMoments seats clocks now moves → IsReadInTime seats read now net of moves → ReadsWithin read now p (side_in of) course
+  reads of moments in_time =
+      reads_course seats who read of moves clocks net p now now along (same_moment now) moments (read_first seats who read now net of moves in_time) in_time
 
   until : (m : ℤ) → m <ℤ end_in now moves → m <ℤ end_of now course
   until m lasts = subst (λ (e : ℤ). m <ℤ e) (sym (end_course seats who moves clocks now now)) lasts
 
-  pub rises : IsReached p → 1 ≤ left_in p who → (now +ℤ pos (whole_span read wait delay p who)) <ℤ end_in now moves
-      → HasRisen p q who ⊎ HasRisen p q (side_in (other side))
-  rises reached owes lasts =
-      by (gets_on p r who course read wait delay now reached in_time.opened lead in_time.stay owes in_time.goes in_time.reads
-      (until (now +ℤ pos (whole_span read wait delay p who)) lasts))
-    where
-      by : HasRisen p r who ⊎ HasRisen p r (Sides.other who) → HasRisen p q who ⊎ HasRisen p q (side_in (other side))
-      by (inl own) = inl (risen_before who who p q (end_in now moves) own)
-      by (inr others) =
-          inr (risen_before who (side_in (other side)) p q (end_in now moves) (subst (λ (d : Pairs.Side). HasRisen p r d) (sym (other_in side)) others))
+  risen : HasRisen p r who ⊎ HasRisen p r (Sides.other who) → HasRisen p q who ⊎ HasRisen p q (side_in (other side))
+  risen (inl own) = inl (risen_before who who p q (end_in now moves) own)
+  risen (inr others) =
+      inr (risen_before who (side_in (other side)) p q (end_in now moves) (subst (λ (d : Pairs.Side). HasRisen p r d) (sym (other_in side)) others))
 
-  pub through : IsReached p → (now +ℤ pos (suc (most_reached q - reached_in p) * (2 * whole_span read wait delay p who))) <ℤ end_in now moves
-      → IsThroughAmong p who (events_of_moves seats clocks (moves_of moves))
-  through reached lasts =
+  -- so many spans, to the last moment
+  spans : (span : ℕ) → (now +ℤ pos (suc (most_reached q - reached_in p) * (2 * span))) <ℤ end_in now moves
+      → (now +ℤ pos (suc (most_reached r - reached_in p) * (2 * span))) <ℤ end_of now course
+  spans span lasts =
+      subst (λ (n : ℕ). (now +ℤ pos (suc (n - reached_in p) * (2 * span))) <ℤ end_of now course) (sym (most_same who q (end_in now moves)))
+      (until (now +ℤ pos (suc (most_reached q - reached_in p) * (2 * span))) lasts)
+
+  ended : IsThroughAmong p who (events_of course) → IsThroughAmong p who (events_of_moves seats clocks (moves_of moves))
+  ended through =
       through_before who who (end_in now moves) p (events_of_moves seats clocks (moves_of moves))
-      (subst (IsThroughAmong p who) (events_course seats who moves clocks now)
-      (through_whatever p r who course read wait delay now reached in_time.opened lead in_time.stay in_time.goes in_time.reads
-      (subst (λ (n : ℕ). (now +ℤ pos (suc (n - reached_in p) * (2 * whole_span read wait delay p who))) <ℤ end_of now course)
-      (sym (most_same who q (end_in now moves)))
-      (until (now +ℤ pos (suc (most_reached q - reached_in p) * (2 * whole_span read wait delay p who))) lasts))))
+      (subst (IsThroughAmong p who) (events_course seats who moves clocks now) through)
+
+  -- EACH SEGMENT IS HEARD
+
+  module _ (t : MoveInTime read wait delay now seats clocks net side moves) where
+    pub in_time : IsInTime read wait delay now p r who course
+    in_time = record {
+      opened = opened t.opened;
+      stay = stay t.stay;
+      goes = record {
+        clock = subst (λ (m : ℤ). m ≤ℤ now) (sym (first.clock side)) t.clock;
+        clocked = clocked_course seats who moves clocks now now (same_moment now) t.moments;
+        asks = asks t.moments t.asked;
+        taken = taken_course seats who moves clocks now t.let_go;
+        delivers = delivers_course seats who names delay moves clocks net p now along is numbered t.heard;
+        stream = subst HasStream (sym (first.past side)) t.stream;
+        room = subst (λ (d : Pairs.Side). 1 ≤ room_of (socket_of p d).received) (other_in side)
+            (to_pair seats who clocks net p first (other side) (λ v. 1 ≤ room_of v.received) t.room);
+      };
+      reads = subst (λ (d : Pairs.Side). ReadsWithin read now p d course) (other_in side) (reads (other side) t.moments t.read_in_time);
+    }
+
+    pub rises : IsReached p → 1 ≤ left_in p who → (now +ℤ pos (whole_span read wait delay p who)) <ℤ end_in now moves
+        → HasRisen p q who ⊎ HasRisen p q (side_in (other side))
+    rises reached owes lasts =
+        risen
+        (gets_on p r who course read wait delay now reached in_time.opened (lead t.clock t.moments) in_time.stay owes in_time.goes in_time.reads
+        (until (now +ℤ pos (whole_span read wait delay p who)) lasts))
+
+    pub through : IsReached p → (now +ℤ pos (suc (most_reached q - reached_in p) * (2 * whole_span read wait delay p who))) <ℤ end_in now moves
+        → IsThroughAmong p who (events_of_moves seats clocks (moves_of moves))
+    through reached lasts =
+        ended
+        (through_whatever p r who course read wait delay now reached in_time.opened (lead t.clock t.moments) in_time.stay in_time.goes in_time.reads
+        (spans (whole_span read wait delay p who) lasts))
+
+  -- EACH COMES, WHEREVER IT LIES
+
+  module _ (t : ComeInTime read wait delay now seats clocks net moves) where
+    arrives : ArrivesInTime read wait delay now p course
+    arrives = record {
+      clocks = every (λ d. (at p.sides d).moment ≤ℤ now) (λ s. subst (λ (m : ℤ). m ≤ℤ now) (sym (first.clock s)) (t.clock s));
+      clocked = clocked_course seats who moves clocks now now (same_moment now) t.moments;
+      asks = asks t.moments t.asked;
+      taken = taken_course seats who moves clocks now t.let_go;
+      comes = arrives_course seats who names delay moves clocks net p now along is numbered t.come;
+      reads = every (λ d. ReadsWithin read now p d course) (λ s. reads s t.moments (t.read_in_time s));
+      streams = every (λ d. KeepsStream p d course) (λ s. stream_course seats who s moves clocks net p now along (t.streams s));
+      rooms = every (λ d. 1 ≤ room_of (socket_of p d).received)
+          (λ s. to_pair seats who clocks net p first s (λ v. 1 ≤ room_of v.received) (t.rooms s));
+    }
+
+    pub rises_anywhere : IsReached p → 1 ≤ left_in p who → (now +ℤ pos (edge_span read wait delay p who)) <ℤ end_in now moves
+        → HasRisen p q who ⊎ HasRisen p q (side_in (other side))
+    rises_anywhere reached owes lasts =
+        risen
+        (goes_on_anywhere p r who course read wait delay now reached (opened t.opened) (lead (t.clock side) t.moments) (stay t.stay) owes arrives
+        (until (now +ℤ pos (edge_span read wait delay p who)) lasts))
+
+    pub through_anywhere : IsReached p → (now +ℤ pos (suc (most_reached q - reached_in p) * (2 * edge_span read wait delay p who))) <ℤ end_in now moves
+        → IsThroughAmong p who (events_of_moves seats clocks (moves_of moves))
+    through_anywhere reached lasts =
+        ended
+        (through_at_edges p r who course read wait delay now reached (opened t.opened) (lead (t.clock side) t.moments) (stay t.stay) arrives
+        (spans (edge_span read wait delay p who) lasts))
 
 pub go_on : (starts : Side → ℕ → ℕ) (names : List ℕ → Bool) (first : Net) (before : List Step) (moves : List (ℤ × Happening)) (seats : Side → Seat)
     (clocks : Side → ℤ) (p : PairValue) → IsFreshNet starts first → IsRun names first before → IsReached p → Shows seats clocks (run first before) p
@@ -171,6 +228,10 @@ go_on starts names first before moves seats clocks p fresh was reached shows is 
           rises names seats clocks _ net side moves p on.next along is numbered on.shows refl on.steps read wait delay now t reached owes lasts;
       through = λ side read wait delay now t lasts.
           through names seats clocks _ net side moves p on.next along is numbered on.shows refl on.steps read wait delay now t reached lasts;
+      rises_anywhere = λ side read wait delay now t owes lasts.
+          rises_anywhere names seats clocks _ net side moves p on.next along is numbered on.shows refl on.steps read wait delay now t reached owes lasts;
+      through_anywhere = λ side read wait delay now t lasts.
+          through_anywhere names seats clocks _ net side moves p on.next along is numbered on.shows refl on.steps read wait delay now t reached lasts;
     }
 
 -- whatever moments and numbers the moves of a run are given

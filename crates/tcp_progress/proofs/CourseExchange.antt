@@ -1,5 +1,5 @@
 -- In a course in which each segment comes in time, an exchange takes no longer than its two segments.
-use Rattle.std.proofs.Common.{◌≡◌, ◌⊎◌, inl, inr, ℕ, zero, suc, ◌+◌, ◌-◌, ◌^◌, ◌<◌, ◌≤◌, ℤ, pos, ◌+ℤ◌, ◌≤ℤ◌, ◌<ℤ◌, Bool, true, false, List, [], ◌∷◌, ◌++◌}
+use Rattle.std.proofs.Common.{◌≡◌, ◌⊎◌, inl, inr, ℕ, zero, suc, ◌+◌, ◌-◌, ◌^◌, ◌<◌, ◌≤◌, ℤ, pos, ◌+ℤ◌, ◌≤ℤ◌, ◌<ℤ◌, max, Bool, true, false, List, [], ◌∷◌, ◌++◌}
 use Rattle.std.proofs.Common.{length, Option, Some, None, Result, Ok, Err, slice_get, refl, sym, ap, ◌∙◌, subst, arith, length-append}
 use Rattle.std.proofs.lemmas.Bool.{cond_both}
 use Rattle.std.proofs.lemmas.Int.{ints}
@@ -8,6 +8,9 @@ use Rattle.ip_wire.specs.Control.{control_len}
 use Rattle.ip_wire.specs.Seq.{distance_of}
 use Rattle.ip_wire.specs.SeqNumber.{SeqNumber}
 use Rattle.ip_wire.specs.TcpControl.{TcpControl}
+use Rattle.ip_wire.specs.TcpHeader.{TcpHeader}
+use Rattle.tcp_rules.specs.Controls.{is_rst, is_syn}
+use Rattle.tcp_rules.specs.Offsets.{past_by}
 use Rattle.tcp_rules.specs.OpenOffer.{OpenOffer}
 use Rattle.tcp_rules.specs.RecvError.{RecvError}
 use Rattle.tcp_rules.specs.Reply.{Reply}
@@ -30,9 +33,10 @@ use Rattle.tcp_tie.specs.declared.pair.event.Side.{Side}
 use Rattle.tcp_tie.specs.declared.pair.event.Side.TheVariants.{A, B}
 use Rattle.tcp_progress.specs.BothWays.{AreThere, total_in}
 use Rattle.tcp_progress.specs.Arrivals.{is_synchronized}
-use Rattle.tcp_progress.specs.Course.{DeliversWithin, IsClocked, IsHeard, IsHeardBy, IsHeardWith, IsShutAmong, end_of, events_of}
+use Rattle.tcp_progress.specs.Clocks.{comes_stale}
+use Rattle.tcp_progress.specs.Course.{AreEqual, ComesAs, DeliversWithin, IsClocked, IsHeard, IsHeardBy, IsHeardWith, IsShutAmong, end_of, events_of}
 use Rattle.tcp_progress.specs.Exchange.{IsOpen}
-use Rattle.tcp_progress.specs.Late.{GoesFrom, GoesOnIn, IsAnsweredIn, IsTakenIn, MayCome, MayHear, TakesTime, come_in, heard_in}
+use Rattle.tcp_progress.specs.Late.{GoesFrom, GoesOnIn, IsAnsweredIn, IsTakenIn, MayCome, MayHear, come_in, heard_in}
 use Rattle.tcp_progress.specs.Onward.{AreOpen, HasRisen, Lasts, acked_in}
 use Rattle.tcp_progress.specs.Pair.{HasStream, left_in, next_sent, socket_of}
 use Rattle.tcp_progress.specs.Reached.{IsReached}
@@ -42,7 +46,7 @@ use Rattle.tcp_progress.proofs.CourseMoments.{later, more_time, not_both}
 use Rattle.tcp_progress.proofs.Exchange.{last_of}
 use Rattle.tcp_progress.proofs.Inside.{in_window, top_ahead}
 use Rattle.tcp_progress.proofs.Kept.{reached_by}
-use Rattle.tcp_progress.proofs.LateExchange.{goes_on}
+use Rattle.tcp_progress.proofs.LateExchange.{TakesTimeAs, equals_itself, goes_on_as}
 use Rattle.tcp_progress.proofs.LateText.{Outcome, open_of, outcome, there_of}
 use Rattle.tcp_progress.proofs.Opened.{is_open}
 use Rattle.tcp_progress.proofs.OnwardPairs.{IsBegun, MovesIn, begun, begun_after, by_steps, then_moves}
@@ -112,6 +116,35 @@ sent_by p event side =
 before : (a b c : ℤ) → a ≤ℤ b → b <ℤ c → a <ℤ c
 before a b c e f = first_of (omega (arith, ints), grind (arith, ints))
 
+-- EQUAL SEGMENTS
+
+-- the segment of a number comes under it
+pub as_itself : (p : PairValue) (side : Side) (k : ℕ) (event : PairEvent) → event ≡ Deliver side k → ComesAs p side k event
+as_itself p side k event is = (k, is, λ x sent. (x, sent, equals_itself x))
+
+module _ (p : PairValue) (side : Side) (x y : SentSegment) (e : AreEqual x y) where
+  pub same_len : segment_len y.segment (length y.bytes) ≡ segment_len x.segment (length x.bytes)
+  same_len = λ i. segment_len (e.segment i) (length (e.bytes i))
+
+  pub goes_equal : GoesFrom p side x → GoesFrom p side y
+  goes_equal g = record {
+    number = ap (λ (h : TcpHeader). h.seq_number) e.segment ∙ g.number;
+    acknowledges = ap (λ (h : TcpHeader). h.ack_number) e.segment ∙ g.acknowledges;
+    some = subst (λ (n : ℕ). 1 ≤ n) (sym same_len) g.some;
+    ends = subst (λ (n : ℕ). n ≤ left_in p side) (sym same_len) g.ends;
+    no_syn = ap (λ (h : TcpHeader). is_syn h.control) e.segment ∙ g.no_syn;
+    no_reset = ap (λ (h : TcpHeader). is_rst h.control) e.segment ∙ g.no_reset;
+  }
+
+  pub heard_equal : IsHeard p side x → IsHeard p side y
+  heard_equal h = record {
+    fresh = ap (λ (h : TcpHeader). comes_stale (socket_of p (other side)).block h.options.timestamp) e.segment ∙ h.fresh;
+    inside = λ none.
+        subst
+        (λ (h : TcpHeader). past_by (socket_of p (other side)).block.receiver.next h.seq_number < max 1 (free_in (socket_of p (other side))))
+        (sym e.segment) (h.inside (sym same_len ∙ none));
+  }
+
 -- A SEGMENT COMES
 
 -- what a course leaves from a pair on
@@ -120,20 +153,24 @@ record Left (delay : ℕ) (p q : PairValue) (now : ℤ) (course : List (ℤ × P
   delivers : DeliversWithin delay p course
   clocked : IsClocked now course
 
--- where it comes, and what the course leaves then
+-- where it comes, or one that equals it, and what the course leaves then
 record Comes (delay : ℕ) (p q : PairValue) (now last : ℤ) (side : Side) (k : ℕ) (x : SentSegment) (course : List (ℤ × PairEvent)) : Type 0 where
   mid : PairValue
+  number : ℕ
+  segment : SentSegment
+  equal : AreEqual x segment
   before_it : List PairEvent
   steps : Steps p before_it mid
-  allowed : refusal mid (Deliver side k) ≡ None
-  sent : slice_get (at mid.sides side).sent k ≡ Some x
-  heard : IsHeard mid side x
+  allowed : refusal mid (Deliver side number) ≡ None
+  sent : slice_get (at mid.sides side).sent number ≡ Some segment
+  heard : IsHeard mid side segment
   time : ℤ
   within : time ≤ℤ last
   rest : List (ℤ × PairEvent)
   -- what it draws comes in time, too
-  drawn : (of : Side) (n : ℕ) → next_sent mid of ≤ n → n < next_sent (come_in mid side k) of → IsHeardBy (time +ℤ pos delay) of n (come_in mid side k) rest
-  left : Left delay (come_in mid side k) q time rest
+  drawn : (of : Side) (n : ℕ) → next_sent mid of ≤ n → n < next_sent (come_in mid side number) of
+      → IsHeardBy (time +ℤ pos delay) of n (come_in mid side number) rest
+  left : Left delay (come_in mid side number) q time rest
   same_end : end_of time rest ≡ end_of now course
   shut : free_in (socket_of mid (other side)) ≡ 0 → IsShutAmong p side k course
 
@@ -146,14 +183,17 @@ module _ (delay : ℕ) (q : PairValue) (side : Side) (k : ℕ) (x : SentSegment)
       (λ (event : PairEvent). refusal p event ≡ None → Steps (takes p event) (events_of course) q
       → ((of : Side) (n : ℕ) → next_sent p of ≤ n → n < next_sent (takes p event) of → IsHeardBy (y.0 +ℤ pos delay) of n (takes p event) course)
       → DeliversWithin delay (takes p event) course → Comes delay p q now last side k x (y ∷ course))
-      (sym is.0)
+      (sym is.0.1)
       (λ allowed steps drawn delivers. record {
         mid = p;
+        number = is.0.0;
+        segment = (is.0.2 x sent).0;
+        equal = (is.0.2 x sent).2;
         before_it = [];
         steps = refl;
         allowed = allowed;
-        sent = sent;
-        heard = is.1 x sent;
+        sent = (is.0.2 x sent).1;
+        heard = heard_equal p side x (is.0.2 x sent).0 (is.0.2 x sent).2 (is.1 x sent);
         time = y.0;
         within = within;
         rest = course;
@@ -178,6 +218,9 @@ module _ (delay : ℕ) (q : PairValue) (side : Side) (k : ℕ) (x : SentSegment)
       further : Comes delay (takes p y.1) q y.0 last side k x course → Comes delay p q now last side k x (y ∷ course)
       further it = record {
         mid = it.mid;
+        number = it.number;
+        segment = it.segment;
+        equal = it.equal;
         before_it = y.1 ∷ it.before_it;
         steps = (l.steps.0, it.steps);
         allowed = it.allowed;
@@ -248,8 +291,18 @@ module _ (delay : ℕ) (p q : PairValue) (side : Side) (k : ℕ) (x : SentSegmen
   abbrev mid : PairValue
   mid = first.mid
 
+  -- what comes
+  abbrev n : ℕ
+  n = first.number
+
+  abbrev z : SentSegment
+  z = first.segment
+
+  goes : GoesFrom p side z
+  goes = goes_equal p side x z first.equal g
+
   abbrev came : PairValue
-  came = come_in mid side k
+  came = come_in mid side n
 
   begun_p : (of : Side) → IsBegun p of
   begun_p of = begun p of r (open_of p of o)
@@ -264,10 +317,10 @@ module _ (delay : ℕ) (p q : PairValue) (side : Side) (k : ℕ) (x : SentSegmen
   begun_mid of = begun_after p mid of (to_mid of) (begun_p of)
 
   to_came : (of : Side) → MovesIn mid came of
-  to_came of = by_steps mid (Deliver side k ∷ []) came rm (begun_mid A) (begun_mid B) (first.allowed, refl) of
+  to_came of = by_steps mid (Deliver side n ∷ []) came rm (begun_mid A) (begun_mid B) (first.allowed, refl) of
 
   rc : IsReached came
-  rc = reached_by mid came (Deliver side k ∷ []) rm (first.allowed, refl)
+  rc = reached_by mid came (Deliver side n ∷ []) rm (first.allowed, refl)
 
   begun_came : (of : Side) → IsBegun came of
   begun_came of = begun_after mid came of (to_came of) (begun_mid of)
@@ -298,7 +351,7 @@ module _ (delay : ℕ) (p q : PairValue) (side : Side) (k : ℕ) (x : SentSegmen
     after = (there_at mid A (begun_mid A) (from_mid A), there_at mid B (begun_mid B) (from_mid B));
   }
 
-  comes : MayCome mid side k x
+  comes : MayCome mid side n z
   comes = record { sent = first.sent; fresh = first.heard.fresh }
 
   -- what has risen by then has risen in the end
@@ -311,7 +364,7 @@ module _ (delay : ℕ) (p q : PairValue) (side : Side) (k : ℕ) (x : SentSegmen
     more : (a b c : ℕ) → b ≤ c → a < b → a < c
     more a b c x y = omega arith
 
-  taken : IsTakenIn mid side k → HasRisen p q (other side)
+  taken : IsTakenIn mid side n → HasRisen p q (other side)
   taken e =
       inr
       (three (taken_in p (other side)) (taken_in mid (other side)) (taken_in came (other side)) (taken_in q (other side)) (to_mid (other side)).taken e
@@ -322,22 +375,22 @@ module _ (delay : ℕ) (p q : PairValue) (side : Side) (k : ℕ) (x : SentSegmen
 
   -- THE ANSWER
 
-  module _ (answered : IsAnsweredIn mid side k) where
+  module _ (answered : IsAnsweredIn mid side n) where
     abbrev j : ℕ
     j = next_sent mid (other side)
 
-    sent_of : (it : IsAnsweredIn mid side k) → slice_get (at came.sides (other side)).sent j ≡ Some it.answer
+    sent_of : (it : IsAnsweredIn mid side n) → slice_get (at came.sides (other side)).sent j ≡ Some it.answer
     sent_of it =
         ap (λ (sent : List SentSegment). slice_get sent j) it.sent ∙ last_of (at mid.sides (other side)).sent it.answer
 
-    one : (it : IsAnsweredIn mid side k) → it.answer ≡ answered.answer
+    one : (it : IsAnsweredIn mid side n) → it.answer ≡ answered.answer
     one it = same it.answer answered.answer (sym (sent_of it) ∙ sent_of answered) where
       same : (a b : SentSegment) → Some a ≡ Some b → a ≡ b
       same a b e = cc
 
     bare : segment_len answered.answer.segment (length answered.answer.bytes) ≡ 0
     bare =
-        ap (λ (bytes : List ℕ). segment_len answered.answer.segment (length bytes)) (bare_in mid side k answered.answer (sent_of answered))
+        ap (λ (bytes : List ℕ). segment_len answered.answer.segment (length bytes)) (bare_in mid side n answered.answer (sent_of answered))
         ∙ ap (λ (control : TcpControl). 0 + control_len control) answered.plain
 
     more_sent : j < next_sent came (other side)
@@ -375,14 +428,21 @@ module _ (delay : ℕ) (p q : PairValue) (side : Side) (k : ℕ) (x : SentSegmen
     begun_then : (of : Side) → IsBegun there_then of
     begun_then of = begun_after came there_then of (to_then of) (begun_came of)
 
+    -- what comes as the answer
+    abbrev i : ℕ
+    i = second.number
+
+    abbrev w : SentSegment
+    w = second.segment
+
     abbrev heard : PairValue
-    heard = heard_in there_then side j
+    heard = heard_in there_then side i
 
     to_heard : (of : Side) → MovesIn there_then heard of
-    to_heard of = by_steps there_then (Deliver (other side) j ∷ []) heard rs (begun_then A) (begun_then B) (second.allowed, refl) of
+    to_heard of = by_steps there_then (Deliver (other side) i ∷ []) heard rs (begun_then A) (begun_then B) (second.allowed, refl) of
 
     rh : IsReached heard
-    rh = reached_by there_then heard (Deliver (other side) j ∷ []) rs (second.allowed, refl)
+    rh = reached_by there_then heard (Deliver (other side) i ∷ []) rs (second.allowed, refl)
 
     begun_heard : (of : Side) → IsBegun heard of
     begun_heard of = begun_after there_then heard of (to_heard of) (begun_then of)
@@ -395,17 +455,20 @@ module _ (delay : ℕ) (p q : PairValue) (side : Side) (k : ℕ) (x : SentSegmen
 
     -- RCV.NXT of the side stays until then, so that the answer begins there or behind
     ahead : (socket_of there_then side).block.receiver.next ≡ (socket_of came side).block.receiver.next →
-        distance_of (socket_of there_then side).block.receiver.next answered.answer.segment.seq_number < 2 ^ 31
+        distance_of (socket_of there_then side).block.receiver.next w.segment.seq_number < 2 ^ 31
     ahead same =
-        subst (λ (n : SeqNumber). distance_of n answered.answer.segment.seq_number < 2 ^ 31) (sym same)
-        (subst (λ (n : SeqNumber). distance_of (socket_of came side).block.receiver.next n < 2 ^ 31) (sym answered.bare)
+        subst (λ (n : SeqNumber). distance_of n w.segment.seq_number < 2 ^ 31) (sym same)
+        (subst (λ (n : SeqNumber). distance_of (socket_of came side).block.receiver.next n < 2 ^ 31) (sym (number_is ∙ answered.bare))
         (top_ahead came side rc (open_came side) (open_came (other side))))
+      where
+        number_is : w.segment.seq_number ≡ answered.answer.segment.seq_number
+        number_is = ap (λ (h : TcpHeader). h.seq_number) second.equal.segment
 
-    takes_time : (socket_of there_then side).block.receiver.next ≡ (socket_of came side).block.receiver.next → TakesTime p mid there_then side k j x
+    takes_time : (socket_of there_then side).block.receiver.next ≡ (socket_of came side).block.receiver.next → TakesTimeAs p mid there_then side n i z
     takes_time same = record {
       stream = stream;
       room = room;
-      goes = g;
+      goes = goes;
       first = until;
       comes = comes;
       second = record {
@@ -414,13 +477,18 @@ module _ (delay : ℕ) (p q : PairValue) (side : Side) (k : ℕ) (x : SentSegmen
         before = (open_came A, open_came B);
         after = (there_at there_then A (begun_then A) (from_then A), there_at there_then B (begun_then B) (from_then B));
       };
-      hears = λ it.
-          subst (MayHear there_then side j) (sym (one it)) (may_hear there_then side j answered.answer second.sent second.heard bare (ahead same));
+      hears = λ it. record {
+        segment = w;
+        equal = subst (λ (answer : SentSegment). AreEqual answer w) (sym (one it)) second.equal;
+        may =
+            may_hear there_then side i w second.sent second.heard
+            (same_len there_then (other side) answered.answer w second.equal ∙ bare) (ahead same);
+      };
     }
 
     by_answer : Outcomes
     by_answer = at ((to_then side).next (alive_at there_then side (from_then side))) where
-      by : GoesOnIn p mid there_then side k j → Outcomes
+      by : GoesOnIn p mid there_then side n i → Outcomes
       by (inl risen) = inr (inl (lifted came (other side) (from_came (other side)) risen))
       by (inr (inl none)) = inr (inr (first.shut none))
       by (inr (inr (inl risen))) = inl (lifted heard side (from_heard side) risen)
@@ -432,7 +500,7 @@ module _ (delay : ℕ) (p q : PairValue) (side : Side) (k : ℕ) (x : SentSegmen
       at :
           ((socket_of there_then side).block.receiver.next ≡ (socket_of came side).block.receiver.next)
           ⊎ (taken_in came side < taken_in there_then side) → Outcomes
-      at (inl same) = by (goes_on p mid there_then side k j x r (takes_time same))
+      at (inl same) = by (goes_on_as p mid there_then side n i z r (takes_time same))
       at (inr more) =
           inl
           (inr
@@ -443,8 +511,8 @@ module _ (delay : ℕ) (p q : PairValue) (side : Side) (k : ℕ) (x : SentSegmen
           upto_taken a b c x y = omega arith
 
   exchanged : Outcomes
-  exchanged = by (outcome p mid side k x r until stream room g comes) where
-    by : Outcome p mid side k x r until stream room g comes → Outcomes
+  exchanged = by (outcome p mid side n z r until stream room goes comes) where
+    by : Outcome p mid side n z r until stream room goes comes → Outcomes
     by (inl risen) = inr (inl (lifted mid (other side) (from_mid (other side)) risen))
     by (inr (inl it)) = inr (inl (taken it))
     by (inr (inr (inl told))) = by_answer told.answered

@@ -247,7 +247,7 @@ sends_in p side (Deliver from k) (inr never) taken h = absurd never
 -- A closed window stands in the way.
 pub shut_hinders : (p : PairValue) (side : Side) (k : ℕ) (course : List (ℤ × PairEvent)) → IsShutAmong p side k course → IsHinderedAmong p side (events_of course)
 shut_hinders p side k [] never = absurd never
-shut_hinders p side k (x ∷ course) (inl it) = inl (subst (λ (event : PairEvent). IsHinderedIn p side event) (sym it.0) (refl, it.1))
+shut_hinders p side k (x ∷ course) (inl it) = inl (subst (λ (event : PairEvent). IsHinderedIn p side event) (sym it.0.1) (refl, it.1))
 shut_hinders p side k (x ∷ course) (inr it) = inr (shut_hinders (takes p x.1) side k course it)
 
 -- MOMENTS

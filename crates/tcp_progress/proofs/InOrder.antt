@@ -19,7 +19,7 @@ use Rattle.tcp_progress.specs.Course.{ComesFirst, ComesWith, DeliversWithin, IsH
 use Rattle.tcp_progress.specs.Pair.{next_sent, socket_of}
 use Rattle.tcp_progress.specs.Reached.{IsReached}
 use Rattle.tcp_progress.specs.Rounds.{takes}
-use Rattle.tcp_progress.proofs.CourseExchange.{by_put, sent_by}
+use Rattle.tcp_progress.proofs.CourseExchange.{as_itself, by_put, sent_by}
 use Rattle.tcp_progress.proofs.CourseMoments.{itself, upto}
 use Rattle.tcp_progress.proofs.CourseParts.{Course}
 use Rattle.tcp_progress.proofs.Kept.{reached_by}
@@ -94,7 +94,7 @@ module _ (since : ℤ) (begun : pos 0 ≤ℤ since) (s : PairSide) (opening : Op
           (Has_ (takes c y.1) → Shown_ (takes c y.1) → ComesFirst last side k (takes c y.1) course → IsHeardBy last side k (takes c y.1) course)
           → ComesWith c side k y.1 ⊎ ((Overtakes side k y.1 → ⊥) × ComesFirst last side k (takes c y.1) course)
           → IsHeardWith c side k y.1 ⊎ IsHeardBy last side k (takes c y.1) course
-      by on (inl is) = inl (is.0, λ z e. heard_at c z has w e (is.1 z e))
+      by on (inl is) = inl (as_itself c side k y.1 is.0, λ z e. heard_at c z has w e (is.1 z e))
       by on (inr more) =
           inr
           (on (λ j z e. sent_by c y.1 side j z (has j z e))

@@ -6,6 +6,8 @@ use Rattle.std.proofs.lemmas.Option.{slice_get_within}
 use Rattle.net_base.specs.Ring.{Ring}
 use Rattle.ip_wire.specs.Seq.{distance_of}
 use Rattle.ip_wire.specs.SeqNumber.{SeqNumber}
+use Rattle.ip_wire.specs.TcpControl.TheVariants as Control
+use Rattle.ip_wire.specs.TcpHeader.{TcpHeader}
 use Rattle.tcp_tie.specs.Context.{ContextValue}
 use Rattle.tcp_rules.specs.Controls.{is_rst, is_syn}
 use Rattle.tcp_rules.specs.Offsets.{past_by}
@@ -16,6 +18,7 @@ use Rattle.tcp_rules.proofs.OrderSteps.{clash}
 use Rattle.tcp_model.specs.Blocks.{one_if}
 use Rattle.tcp_model.specs.Offers.{offer_of}
 use Rattle.tcp_model.specs.Segments.{segment_len}
+use Rattle.tcp_model.specs.Value.{room_of}
 use Rattle.tcp_tie.specs.Pair.Sides.{at, other}
 use Rattle.tcp_tie.specs.Pair.Steps.{offered_at, refusal}
 use Rattle.tcp_tie.specs.Pair.Values.{PairSide, PairValue, and_offer, context_at, past_at}
@@ -25,9 +28,10 @@ use Rattle.tcp_tie.specs.declared.pair.event.Side.{Side}
 use Rattle.tcp_tie.specs.declared.pair.event.Side.TheVariants.{A, B}
 use Rattle.tcp_progress.specs.Again.{StartsOver}
 use Rattle.tcp_progress.specs.BothWays.{total_in}
+use Rattle.tcp_progress.specs.Course.{AreEqual}
 use Rattle.tcp_progress.specs.Exchange.{GoesFromUna, IsOpen, left_of, text_of}
-use Rattle.tcp_progress.specs.Late.{GoesFrom, GoesOnIn, IsAckedTo, IsTakenIn, MayHear, TakesTime, come_in, heard_in, sent_by}
-use Rattle.tcp_progress.specs.Onward.{AreOpen, HasRisen}
+use Rattle.tcp_progress.specs.Late.{GoesFrom, GoesOnIn, IsAckedTo, IsAnsweredIn, IsTakenIn, MayCome, MayHear, TakesTime, come_in, heard_in, sent_by}
+use Rattle.tcp_progress.specs.Onward.{AreOpen, HasRisen, Lasts}
 use Rattle.tcp_progress.specs.Pair.{HasStream, context_of, left_in, next_sent, socket_of}
 use Rattle.tcp_progress.specs.Reached.{IsReached}
 use Rattle.tcp_progress.specs.Rounds.{takes}
@@ -118,6 +122,9 @@ goes_last p B moment o r mine over offered kind = sent_last B p.sides.b moment o
 
 -- WHAT IS HEARD
 
+pub equals_itself : (x : SentSegment) → AreEqual x x
+equals_itself x = record { source = refl; destination = refl; segment = refl; bytes = refl }
+
 heard_acked :
     (s : PairValue) (side : Side) (j : ℕ) (x : SentSegment) (number : SeqNumber) → IsReached s → AreOpen s → HasStream (past_at s side) → MayHear s side j x
     → is_syn x.segment.control ≡ false → is_rst x.segment.control ≡ false → x.segment.ack_number ≡ Some number
@@ -139,7 +146,23 @@ first_of_three a b c e f = omega arith
 last_of_three : (a b c : ℕ) → a ≤ b → b < c → a < c
 last_of_three a b c e f = omega arith
 
-module _ (p q s : PairValue) (side : Side) (k j : ℕ) (x : SentSegment) (r : IsReached p) (m : TakesTime p q s side k j x) where
+-- of an answer, or of a segment that equals it
+pub record HearsAnswer (s : PairValue) (side : Side) (j : ℕ) (answer : SentSegment) : Type 0 where
+  pub segment : SentSegment
+  pub equal : AreEqual answer segment
+  pub may : MayHear s side j segment
+
+-- an exchange that takes time, in which a segment that equals the answer may come
+pub record TakesTimeAs (p q s : PairValue) (side : Side) (k j : ℕ) (x : SentSegment) : Type 0 where
+  pub stream : HasStream (past_at p side)
+  pub room : 1 ≤ room_of (socket_of p (other side)).received
+  pub goes : GoesFrom p side x
+  pub first : Lasts p q
+  pub comes : MayCome q side k x
+  pub second : Lasts (come_in q side k) s
+  pub hears : (it : IsAnsweredIn q side k) → HearsAnswer s side j it.answer
+
+module _ (p q s : PairValue) (side : Side) (k j : ℕ) (x : SentSegment) (r : IsReached p) (m : TakesTimeAs p q s side k j x) where
   abbrev came : PairValue
   came = come_in q side k
 
@@ -190,12 +213,12 @@ module _ (p q s : PairValue) (side : Side) (k j : ℕ) (x : SentSegment) (r : Is
   -- THE ANSWER
 
   module _ (told : Told p q side k x r m.first m.stream m.room m.goes m.comes) where
-    hears : MayHear s side j told.answered.answer
-    hears = m.hears told.answered
+    heard_as : HearsAnswer s side j told.answered.answer
+    heard_as = m.hears told.answered
 
     arrives_there : refusal s (Deliver (other side) j) ≡ None
     arrives_there =
-        within j (length (at s.sides (other side)).sent) (slice_get_within (at s.sides (other side)).sent j told.answered.answer hears.sent)
+        within j (length (at s.sides (other side)).sent) (slice_get_within (at s.sides (other side)).sent j heard_as.segment heard_as.may.sent)
 
     to_heard : MovesIn s heard side
     to_heard = moves_on s heard (Deliver (other side) j ∷ []) side rs (open_s A, open_s B) (arrives_there, refl)
@@ -219,8 +242,11 @@ module _ (p q s : PairValue) (side : Side) (k j : ℕ) (x : SentSegment) (r : Is
 
     acked : IsAckedTo (socket_of q (other side)).block.receiver.next (socket_of heard side).block.sender.una
     acked =
-        heard_acked s side j told.answered.answer (socket_of q (other side)).block.receiver.next rs (open_s A, open_s B) stream hears
-        (ap is_syn told.answered.plain) (ap is_rst told.answered.plain) told.answered.acknowledges
+        heard_acked s side j heard_as.segment (socket_of q (other side)).block.receiver.next rs (open_s A, open_s B) stream heard_as.may
+        (ap is_syn plain) (ap is_rst plain) (ap (λ (h : TcpHeader). h.ack_number) heard_as.equal.segment ∙ told.answered.acknowledges)
+      where
+        plain : heard_as.segment.segment.control ≡ Control.None
+        plain = ap (λ (h : TcpHeader). h.control) heard_as.equal.segment ∙ told.answered.plain
 
     abbrev far : ℕ
     far = distance_of (socket_of p side).block.sender.una (socket_of p (other side)).block.receiver.next
@@ -261,8 +287,8 @@ module _ (p q s : PairValue) (side : Side) (k j : ℕ) (x : SentSegment) (r : Is
           (less (total_in p side) (left_in heard side) (total_in heard side) (left_in p side) risen
           (left_within p side r (open_of p side m.first.before))))
 
-  pub goes_on : GoesOnIn p q s side k j
-  goes_on = by found where
+  pub goes_on_as : GoesOnIn p q s side k j
+  goes_on_as = by found where
     by : Outcome p q side k x r m.first m.stream m.room m.goes m.comes → GoesOnIn p q s side k j
     by (inl risen) = inl (until risen)
     by (inr (inl it)) = inl (taken it)
@@ -272,3 +298,17 @@ module _ (p q s : PairValue) (side : Side) (k j : ℕ) (x : SentSegment) (r : Is
         clash
         (sym ends.1
         ∙ not_closed (socket_of came (other side)).block.state (open_of came (other side) m.second.before).synchronized)
+
+-- of the answer itself
+pub goes_on : (p q s : PairValue) (side : Side) (k j : ℕ) (x : SentSegment) → IsReached p → TakesTime p q s side k j x → GoesOnIn p q s side k j
+goes_on p q s side k j x r m =
+    goes_on_as p q s side k j x r
+    (record {
+      stream = m.stream;
+      room = m.room;
+      goes = m.goes;
+      first = m.first;
+      comes = m.comes;
+      second = m.second;
+      hears = λ it. record { segment = it.answer; equal = equals_itself it.answer; may = m.hears it };
+    })

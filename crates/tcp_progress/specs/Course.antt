@@ -1,5 +1,6 @@
 -- Two hosts and a link that take their time: events, each at a moment of one clock.
 use Rattle.std.specs.Prelude.{◌≡◌, ◌⊎◌, ℕ, ◌+◌, ◌<◌, ◌≤◌, max, ℤ, pos, ◌+ℤ◌, ◌≤ℤ◌, true, false, List, [], ◌∷◌, length, Some, slice_get}
+use Rattle.ip_wire.specs.Ip.{source_of, destination_of}
 use Rattle.tcp_tie.specs.Offers.{IsBefore}
 use Rattle.tcp_rules.specs.Moments.{is_due}
 use Rattle.tcp_rules.specs.Offsets.{past_by}
@@ -77,9 +78,22 @@ pub record IsHeard (p : PairValue) (side : Side) (x : SentSegment) : Type 0 wher
   pub fresh : comes_stale (socket_of p (other side)).block x.segment.options.timestamp ≡ false
   pub inside : IsInside p side x
 
--- with this event the segment of a side of this number comes, and is heard
+-- Segments with the same addresses, TCP header and bytes. What else an IP header holds, as the hop limit, may differ.
+pub record AreEqual (x y : SentSegment) : Type 0 where
+  pub source : source_of y.header ≡ source_of x.header
+  pub destination : destination_of y.header ≡ destination_of x.header
+  pub segment : y.segment ≡ x.segment
+  pub bytes : y.bytes ≡ x.bytes
+
+-- With this event the segment of a side of this number comes, or one that equals it, as a segment that goes again may: nobody can tell which it is.
+abbrev pub ComesAs : PairValue → Side → ℕ → PairEvent → Type 0
+ComesAs p side k event =
+    (j : ℕ) × (event ≡ Deliver side j)
+    × ((x : SentSegment) → slice_get (at p.sides side).sent k ≡ Some x → (y : SentSegment) × (slice_get (at p.sides side).sent j ≡ Some y) × AreEqual x y)
+
+-- with this event it comes, and is heard
 abbrev pub IsHeardWith : PairValue → Side → ℕ → PairEvent → Type 0
-IsHeardWith p side k event = (event ≡ Deliver side k) × ((x : SentSegment) → slice_get (at p.sides side).sent k ≡ Some x → IsHeard p side x)
+IsHeardWith p side k event = ComesAs p side k event × ((x : SentSegment) → slice_get (at p.sides side).sent k ≡ Some x → IsHeard p side x)
 
 -- it does before the clock passes a moment, unless the course ends before
 abbrev pub IsHeardBy : ℤ → Side → ℕ → PairValue → List (ℤ × PairEvent) → Type 0
@@ -116,11 +130,11 @@ KeepsOrder delay p (x ∷ course) =
 
 -- A CLOSED WINDOW
 
--- a segment of a side of this number comes while the other's window is closed
+-- the segment of a side of this number, or one that equals it, comes while the other's window is closed
 abbrev pub IsShutAmong : PairValue → Side → ℕ → List (ℤ × PairEvent) → Type 0
 IsShutAmong p side k [] = ⊥
 IsShutAmong p side k (x ∷ course) =
-    ((x.1 ≡ Deliver side k) × (free_in (socket_of p (other side)) ≡ 0)) ⊎ IsShutAmong (takes p x.1) side k course
+    (ComesAs p side k x.1 × (free_in (socket_of p (other side)) ≡ 0)) ⊎ IsShutAmong (takes p x.1) side k course
 
 -- A WINDOW IN THE WAY
 

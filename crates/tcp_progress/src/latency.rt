@@ -47,8 +47,8 @@ pub fn a_side_that_is_asked_in_time_begins_at_snd_una()
 {}
 
 /// In a course in which each segment is heard in time an exchange takes twice as long at most: where a segment of a side went from SND.UNA on, and
-/// is heard in time, as what answers it is, SND.UNA or RCV.NXT of a side has risen by then; or the segment came while the other's window was
-/// closed, so that it is for its user to read.
+/// is heard in time, as what answers it is, SND.UNA or RCV.NXT of a side has risen by then; or the segment, or one that equals it, came while the
+/// other's window was closed, so that it is for its user to read.
 pub fn an_exchange_takes_no_longer_than_its_segments()
     ensures twice { (p q : PairValue) (side : Side) (k : ℕ) (x : SentSegment) (course : List (ℤ × PairEvent)) (delay : ℕ) (now : ℤ) → IsReached p
         → AreOpen p → Steps p (events_of course) q → AreThere q → HasStream (past_at p side)

@@ -1,5 +1,6 @@
 -- A pair in a course in which each segment comes in time, and the segments that come.
-use Rattle.std.proofs.Common.{◌≡◌, ◌⊎◌, inl, inr, ℕ, ◌+◌, ◌-◌, ◌<◌, ◌≤◌, ℤ, ◌≤ℤ◌, ◌<ℤ◌, false, true, [], ◌∷◌, ◌++◌, Some, slice_get, refl, sym, subst, arith}
+use Rattle.std.proofs.Common.{◌≡◌, ◌⊎◌, inl, inr, ℕ, ◌+◌, ◌-◌, ◌<◌, ◌≤◌, ℤ, ◌≤ℤ◌, ◌<ℤ◌, false, true, [], ◌∷◌, ◌++◌, Some, slice_get, refl, sym, ap, ◌∙◌, subst, arith}
+use Rattle.ip_wire.specs.TcpHeader.{TcpHeader}
 use Rattle.tcp_tie.specs.Pair.Sides.{at, other}
 use Rattle.tcp_tie.specs.Pair.Steps.{Steps}
 use Rattle.tcp_tie.specs.Pair.Values.{PairValue, past_at}
@@ -11,7 +12,7 @@ use Rattle.tcp_tie.specs.declared.pair.event.Side.TheVariants.{A, B}
 use Rattle.tcp_progress.specs.Arrivals.{is_synchronized}
 use Rattle.tcp_progress.specs.BothWays.{AreThere, total_in}
 use Rattle.tcp_progress.specs.Clocks.{comes_stale}
-use Rattle.tcp_progress.specs.Course.{end_of, events_of}
+use Rattle.tcp_progress.specs.Course.{AreEqual, end_of, events_of}
 use Rattle.tcp_progress.specs.Exchange.{IsOpen}
 use Rattle.tcp_progress.specs.Onward.{HasRisen, Lasts}
 use Rattle.tcp_progress.specs.Pair.{HasStream, left_in, socket_of}
@@ -30,15 +31,18 @@ use Rattle.stack_laws.specs.Progress.Edges.{ArrivesBy, ArrivesInTime, ArrivesWit
 
 -- A SEGMENT COMES
 
--- where the segment `x` of a side, its number `k`, comes in a course
+-- where the segment `x` of a side, its number `k`, or one that equals it comes in a course
 pub record Comes (p : PairValue) (course : Course) (last : ℤ) (side : Side) (k : ℕ) (x : SentSegment) : Type 0 where
   pub m : PairValue
   pub event : ℤ × PairEvent
   pub rest : Course
   pub stands : Stands p course m (event ∷ rest)
-  pub is : event.1 ≡ Deliver side k
-  pub sent : slice_get (at m.sides side).sent k ≡ Some x
-  pub fresh : comes_stale (socket_of m (other side)).block x.segment.options.timestamp ≡ false
+  pub number : ℕ
+  pub segment : SentSegment
+  pub equal : AreEqual x segment
+  pub is : event.1 ≡ Deliver side number
+  pub sent : slice_get (at m.sides side).sent number ≡ Some segment
+  pub fresh : comes_stale (socket_of m (other side)).block segment.segment.options.timestamp ≡ false
   pub within : event.0 ≤ℤ last
 
 pub comes_in :
@@ -56,7 +60,20 @@ comes_in p course last side k x m (y ∷ rest) now s sent soon arrives over =
         (ArrivesBy last side k (takes m y.1) rest → Comes p course last side k x)
         → ArrivesWith m side k y.1 ⊎ ArrivesBy last side k (takes m y.1) rest → Comes p course last side k x
     by on (inl it) =
-        record { m = m; event = y; rest = rest; stands = s; is = it.0; sent = sent; fresh = it.1 x sent; within = arrives.0 }
+        let z : (z : SentSegment) × (slice_get (at m.sides side).sent it.0.0 ≡ Some z) × AreEqual x z = it.0.2 x sent in
+        record {
+          m = m;
+          event = y;
+          rest = rest;
+          stands = s;
+          number = it.0.0;
+          segment = z.0;
+          equal = z.2;
+          is = it.0.1;
+          sent = z.1;
+          fresh = ap (λ (h : TcpHeader). comes_stale (socket_of m (other side)).block h.options.timestamp) z.2.segment ∙ it.1 x sent;
+          within = arrives.0;
+        }
     by on (inr more) = on more
 
 -- A PAIR IN A COURSE

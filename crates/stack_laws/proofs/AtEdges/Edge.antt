@@ -8,6 +8,7 @@ use Rattle.ip_wire.specs.Control.{control_len}
 use Rattle.ip_wire.specs.Seq.{distance_of}
 use Rattle.ip_wire.specs.SeqNumber.{SeqNumber}
 use Rattle.ip_wire.specs.TcpControl.{TcpControl}
+use Rattle.ip_wire.specs.TcpHeader.{TcpHeader}
 use Rattle.tcp_control.specs.Offsets.{past_by}
 use Rattle.tcp_rules.specs.Reply.{Reply}
 use Rattle.tcp_rules.proofs.OrderSteps.{clash}
@@ -26,8 +27,8 @@ use Rattle.tcp_tie.specs.declared.pair.event.Side.TheVariants.{A, B}
 use Rattle.tcp_progress.specs.Anew.{put_off_in}
 use Rattle.tcp_progress.specs.BothWays.{AreThere, total_in}
 use Rattle.tcp_progress.specs.Clocks.{comes_stale}
-use Rattle.tcp_progress.specs.Course.{events_of}
-use Rattle.tcp_progress.specs.Late.{GoesOnIn, IsAckedTo, IsAnsweredIn, MayCome, MayHear, come_in, heard_in}
+use Rattle.tcp_progress.specs.Course.{AreEqual, events_of}
+use Rattle.tcp_progress.specs.Late.{GoesFrom, GoesOnIn, IsAckedTo, IsAnsweredIn, MayCome, MayHear, come_in, heard_in}
 use Rattle.tcp_progress.specs.Exchange.{IsOpen}
 use Rattle.tcp_progress.specs.Onward.{HasRisen, Lasts}
 use Rattle.tcp_progress.specs.Pair.{left_in, next_sent, socket_of}
@@ -35,6 +36,7 @@ use Rattle.tcp_progress.specs.Readers.{whole_span}
 use Rattle.tcp_progress.specs.Rounds.{takes}
 use Rattle.tcp_progress.specs.Sent.{taken_in}
 use Rattle.tcp_progress.proofs.CourseBegins.{all_gets, free_through}
+use Rattle.tcp_progress.proofs.CourseExchange.{goes_equal, same_len}
 use Rattle.tcp_progress.proofs.CourseMoments.{later, more_time, sooner, upto}
 use Rattle.tcp_progress.proofs.CourseParts.{Course}
 use Rattle.tcp_progress.proofs.CourseStands.{Begins, Gets, stands_first, stands_on}
@@ -42,7 +44,7 @@ use Rattle.tcp_progress.proofs.Exchange.{last_of}
 use Rattle.tcp_progress.proofs.Inside.{in_window, top_ahead}
 use Rattle.tcp_progress.proofs.Kept.{reached_keeps}
 use Rattle.tcp_progress.proofs.LateAnswers.{late_answer}
-use Rattle.tcp_progress.proofs.LateExchange.{goes_on}
+use Rattle.tcp_progress.proofs.LateExchange.{goes_on_as}
 use Rattle.tcp_progress.proofs.LateText.{Outcome, Told, few_had, left_within, outcome}
 use Rattle.tcp_progress.proofs.OnwardPairs.{MovesIn, by_steps, stays, then_moves}
 use Rattle.tcp_progress.proofs.Pair.{not_closed}
@@ -199,6 +201,16 @@ module _ (p q : PairValue) (there : AreThere q) (read wait delay : ℕ) (end : �
         (began.in_time.comes.0 side k (itself k) (slice_get_within (at after.sides side).sent k b.goes.x b.goes.sent))
         (subst (λ (e : ℤ). (b.x.0 +ℤ pos delay) <ℤ e) (sym gone.same_end) fits)
 
+    -- what comes
+    abbrev number : ℕ
+    number = first.number
+
+    abbrev z : SentSegment
+    z = first.segment
+
+    goes : GoesFrom after side z
+    goes = goes_equal after side b.goes.x z first.equal b.goes.goes
+
     abbrev n : PairValue
     n = first.m
 
@@ -211,11 +223,11 @@ module _ (p q : PairValue) (there : AreThere q) (read wait delay : ℕ) (end : �
     until : Lasts after n
     until = lasts_between p q there read wait delay end after n b.x.0 b.rest (first.event ∷ first.rest) gone first.stands
 
-    comes : MayCome n side k b.goes.x
+    comes : MayCome n side number z
     comes = record { sent = first.sent; fresh = first.fresh }
 
     abbrev came : PairValue
-    came = come_in n side k
+    came = come_in n side number
 
     here_came : Here_ came first.event.0 first.rest
     here_came =
@@ -224,13 +236,13 @@ module _ (p q : PairValue) (there : AreThere q) (read wait delay : ℕ) (end : �
 
     abbrev Told_ : Type 0
     Told_ =
-        Told after n side k b.goes.x gone.reached until (stream_here p q there read wait delay end after b.x.0 b.rest gone side)
-        (gone.in_time.rooms (other side)) b.goes.goes comes
+        Told after n side number z gone.reached until (stream_here p q there read wait delay end after b.x.0 b.rest gone side)
+        (gone.in_time.rooms (other side)) goes comes
 
     abbrev Outcome_ : Type 0
     Outcome_ =
-        Outcome after n side k b.goes.x gone.reached until (stream_here p q there read wait delay end after b.x.0 b.rest gone side)
-        (gone.in_time.rooms (other side)) b.goes.goes comes
+        Outcome after n side number z gone.reached until (stream_here p q there read wait delay end after b.x.0 b.rest gone side)
+        (gone.in_time.rooms (other side)) goes comes
 
     -- the other's window isn't closed then, or more was taken
     not_shut : free_in (socket_of n (other side)) ≡ 0 → Risen_
@@ -251,8 +263,8 @@ module _ (p q : PairValue) (there : AreThere q) (read wait delay : ℕ) (end : �
     exchanged : Risen_ ⊎ Told_
     exchanged =
         by
-        (outcome after n side k b.goes.x gone.reached until (stream_here p q there read wait delay end after b.x.0 b.rest gone side)
-        (gone.in_time.rooms (other side)) b.goes.goes comes)
+        (outcome after n side number z gone.reached until (stream_here p q there read wait delay end after b.x.0 b.rest gone side)
+        (gone.in_time.rooms (other side)) goes comes)
       where
         by : Outcome_ → Risen_ ⊎ Told_
         by (inl risen) = inl (risen_on after n (other side) b.x.0 n_clock b.rest (first.event ∷ first.rest) gone here_n risen)
@@ -285,10 +297,10 @@ module _ (p q : PairValue) (there : AreThere q) (read wait delay : ℕ) (end : �
         by (inl una) (inl next) (inr told) =
             absurd
             (nothing (distance_of (socket_of after side).block.sender.una (socket_of after (other side)).block.receiver.next)
-            (segment_len b.goes.x.segment (length b.goes.x.bytes))
+            (segment_len z.segment (length z.bytes))
             (ap (λ (una : SeqNumber). distance_of una (socket_of after (other side)).block.receiver.next) una
             ∙ (ap (λ (next : SeqNumber). distance_of (socket_of m side).block.sender.una next) next ∙ none))
-            b.goes.goes.some told.whole)
+            goes.some told.whole)
 
     -- THE ANSWER COMES
 
@@ -299,17 +311,17 @@ module _ (p q : PairValue) (there : AreThere q) (read wait delay : ℕ) (end : �
       abbrev answer : SentSegment
       answer = t.answered.answer
 
-      sent_of : (it : IsAnsweredIn n side k) → slice_get (at came.sides (other side)).sent j ≡ Some it.answer
+      sent_of : (it : IsAnsweredIn n side number) → slice_get (at came.sides (other side)).sent j ≡ Some it.answer
       sent_of it = ap (λ (sent : List SentSegment). slice_get sent j) it.sent ∙ last_of (at n.sides (other side)).sent it.answer
 
-      one : (it : IsAnsweredIn n side k) → it.answer ≡ answer
+      one : (it : IsAnsweredIn n side number) → it.answer ≡ answer
       one it = same it.answer answer (sym (sent_of it) ∙ sent_of t.answered) where
         same : (a b : SentSegment) → Some a ≡ Some b → a ≡ b
         same a b e = cc
 
       bare : segment_len answer.segment (length answer.bytes) ≡ 0
       bare =
-          ap (λ (bytes : List ℕ). segment_len answer.segment (length bytes)) (bare_in n side k answer (sent_of t.answered))
+          ap (λ (bytes : List ℕ). segment_len answer.segment (length bytes)) (bare_in n side number answer (sent_of t.answered))
           ∙ ap (λ (control : TcpControl). 0 + control_len control) t.answered.plain
 
       more_sent : j < next_sent came (other side)
@@ -351,8 +363,18 @@ module _ (p q : PairValue) (there : AreThere q) (read wait delay : ℕ) (end : �
       to_last : (of : Side) → MovesIn came last of
       to_last of = moves_between p q there read wait delay end came last first.event.0 first.rest (second.event ∷ second.rest) here_came second.stands of
 
+      -- what comes as the answer
+      abbrev i : ℕ
+      i = second.number
+
+      abbrev w : SentSegment
+      w = second.segment
+
+      number_is : w.segment.seq_number ≡ answer.segment.seq_number
+      number_is = ap (λ (h : TcpHeader). h.seq_number) second.equal.segment
+
       abbrev heard : PairValue
-      heard = heard_in last side j
+      heard = heard_in last side i
 
       here_heard : Here_ heard second.event.0 second.rest
       here_heard =
@@ -380,19 +402,25 @@ module _ (p q : PairValue) (there : AreThere q) (read wait delay : ℕ) (end : �
           past_by (socket_of last side).block.receiver.next answer.segment.seq_number < max 1 (free_in (socket_of last side)) → Risen_
       inside_rises same inside =
           by
-          (goes_on after n last side k j b.goes.x gone.reached
+          (goes_on_as after n last side number i z gone.reached
           (record {
             stream = stream_here p q there read wait delay end after b.x.0 b.rest gone side;
             room = gone.in_time.rooms (other side);
-            goes = b.goes.goes;
+            goes = goes;
             first = until;
             comes = comes;
             second = since;
-            hears = λ it.
-                subst (MayHear last side j) (sym (one it)) (may_hear last side j answer second.sent second.fresh bare (ahead same) inside);
+            hears = λ it. record {
+              segment = w;
+              equal = subst (λ (x : SentSegment). AreEqual x w) (sym (one it)) second.equal;
+              may =
+                  may_hear last side i w second.sent second.fresh (same_len last (other side) answer w second.equal ∙ bare)
+                  (subst (λ (m : SeqNumber). distance_of (socket_of last side).block.receiver.next m < 2 ^ 31) (sym number_is) (ahead same))
+                  (subst (λ (m : SeqNumber). past_by (socket_of last side).block.receiver.next m < max 1 (free_in (socket_of last side))) (sym number_is) inside);
+            };
           }))
         where
-          by : GoesOnIn after n last side k j → Risen_
+          by : GoesOnIn after n last side number i → Risen_
           by (inl risen) = risen_on after came (other side) b.x.0 first.event.0 b.rest first.rest gone here_came risen
           by (inr (inl none)) = not_shut none
           by (inr (inr (inl risen))) = risen_on after heard side b.x.0 second.event.0 b.rest second.rest gone here_heard risen
@@ -407,39 +435,39 @@ module _ (p q : PairValue) (there : AreThere q) (read wait delay : ℕ) (end : �
       -- the segment acknowledged all that the side took
       acked : IsAckedTo (socket_of after side).block.receiver.next (socket_of came (other side)).block.sender.una
       acked =
-          late_answer n side k b.goes.x (socket_of after side).block.receiver.next here_n.reached (
+          late_answer n side number z (socket_of after side).block.receiver.next here_n.reached (
             open_here p q there read wait delay end n n_clock (first.event ∷ first.rest) here_n A,
             open_here p q there read wait delay end n n_clock (first.event ∷ first.rest) here_n B,
           )
-          (stream_here p q there read wait delay end n n_clock (first.event ∷ first.rest) here_n (other side)) comes b.goes.goes.no_syn
-          b.goes.goes.no_reset b.goes.goes.acknowledges
+          (stream_here p q there read wait delay end n n_clock (first.event ∷ first.rest) here_n (other side)) comes goes.no_syn
+          goes.no_reset goes.acknowledges
           (inr
-          (again_lies_before (socket_of n (other side)) b.goes.x.segment (length b.goes.x.bytes)
+          (again_lies_before (socket_of n (other side)) z.segment (length z.bytes)
           (record {
-            some = b.goes.goes.some;
+            some = goes.some;
             begins = subst (λ (d : ℕ). d < 2 ^ 31) (sym distance) few;
-            ends = subst (λ (d : ℕ). segment_len b.goes.x.segment (length b.goes.x.bytes) ≤ d) (sym distance) t.whole;
+            ends = subst (λ (d : ℕ). segment_len z.segment (length z.bytes) ≤ d) (sym distance) t.whole;
             near =
                 near_by (room_of (socket_of after (other side)).received)
                 (near_in after side gone.reached (open_here p q there read wait delay end after b.x.0 b.rest gone side)
                 (there_here p q there read wait delay end after b.x.0 b.rest gone (other side)) (gone.in_time.rooms (other side)))
                 distance
                 (moves_between p q there read wait delay end after n b.x.0 b.rest (first.event ∷ first.rest) gone first.stands (other side)).room;
-            seq_small = subst (λ (m : SeqNumber). m.0 < 2 ^ 32) (sym b.goes.goes.number) (una_small (socket_of after side) placed_after.0 placed_after.1);
+            seq_small = subst (λ (m : SeqNumber). m.0 < 2 ^ 32) (sym goes.number) (una_small (socket_of after side) placed_after.0 placed_after.1);
             next_small = next_small (socket_of n (other side)) placed_n.0 placed_n.1;
           })))
         where
           distance :
-              distance_of b.goes.x.segment.seq_number (socket_of n (other side)).block.receiver.next
+              distance_of z.segment.seq_number (socket_of n (other side)).block.receiver.next
               ≡ distance_of (socket_of after side).block.sender.una (socket_of after (other side)).block.receiver.next
           distance =
-              ap (λ (m : SeqNumber). distance_of m (socket_of n (other side)).block.receiver.next) b.goes.goes.number
+              ap (λ (m : SeqNumber). distance_of m (socket_of n (other side)).block.receiver.next) goes.number
               ∙ ap (λ (m : SeqNumber). distance_of (socket_of after side).block.sender.una m) t.next
 
           few : distance_of (socket_of after side).block.sender.una (socket_of after (other side)).block.receiver.next < 2 ^ 31
           few =
-              few_had after n side k b.goes.x gone.reached until (stream_here p q there read wait delay end after b.x.0 b.rest gone side)
-              (gone.in_time.rooms (other side)) b.goes.goes comes
+              few_had after n side number z gone.reached until (stream_here p q there read wait delay end after b.x.0 b.rest gone side)
+              (gone.in_time.rooms (other side)) goes comes
 
           near_by : (old : ℕ) {far near new : ℕ} → far ≤ old + 2 → near ≡ far → new ≡ old → near ≤ new + 2
           near_by old e f h = omega arith

@@ -9,14 +9,15 @@ use Rattle.lan.specs.Worlds.AtLink.Station.{Stations}
 use Rattle.lan.specs.Worlds.Still.{StillRun, seats_of}
 use Rattle.lan_base.specs.Medium.TheVariants as Medium
 use Rattle.stack_laws.specs.Progress.Events.{MoveBy, clock_in}
-use Rattle.stack_laws.specs.Progress.Moving.{AreHeard, AreLetGo, GoOnByMoves, MoveInTime, moves_of}
+use Rattle.stack_laws.specs.Progress.Moving.{AreHeard, AreLetGo, ComeFresh, ComeInTime, GoOnByMoves, MoveInTime, moves_of}
 use Rattle.stack_laws.specs.Progress.OneClock.{timed}
 use Rattle.stack_laws.specs.Progress.Partners.{GoOnBetween}
-use Rattle.stack_laws.specs.Progress.Serving.{AreEventsInTime, GiveLeave}
+use Rattle.stack_laws.specs.Progress.Serving.{AreEventsInTime, GiveLeave, KeepsStreamBy}
 
 -- The sockets of two partners at the hosts between are a pair that events led to, which goes on by the moves of the later events, whatever numbers are
 -- given to the segments that come; and some fit. Over a medium that has no hardware addresses, where each link gives leave to send, what the sockets offer
--- goes. If those events are in time, what the sockets offer goes, and each segment is heard in time, then the moves are in time.
+-- goes. If those events are in time, what the sockets offer goes, and each segment is heard in time, then the moves are in time. If the events are in time
+-- for both, and both streams stay no empty ones, it is enough that each segment comes in time, wherever it lies.
 pub record GoOnByEvents (starts : Starts) (past : List Entry) (between : Stations) (more : List Entry) (hosts : Stations)
     (still : StillRun starts (more ++ past) hosts) (places : Side → ℕ) : Type 0 where
   pub goes : GoOnBetween starts past between (more ++ past) hosts (seats_of starts places)
@@ -31,3 +32,8 @@ pub record GoOnByEvents (starts : Starts) (past : List Entry) (between : Station
       → AreEventsInTime starts places read wait side past between more hosts still → AreLetGo (seats_of starts places) moves
       → AreHeard (seats_of starts places) delay goes.net moves
       → MoveInTime read wait delay (clock_in past) (seats_of starts places) goes.clocks goes.net side moves
+  pub in_time_anywhere : (moves : List (ℤ × Happening)) → timed moves ≡ steps → (read wait delay : ℕ)
+      → ((side : Side) → AreEventsInTime starts places read wait side past between more hosts still)
+      → ((side : Side) → KeepsStreamBy (places side) side past more) → AreLetGo (seats_of starts places) moves
+      → ComeFresh (seats_of starts places) delay goes.net moves
+      → ComeInTime read wait delay (clock_in past) (seats_of starts places) goes.clocks goes.net moves

@@ -6,12 +6,11 @@ use Rattle.tcp_control.specs.Offsets.{past_by}
 use Rattle.tcp_tie.specs.Pair.Sides.{at, other}
 use Rattle.tcp_tie.specs.Pair.Values.{PairValue, past_at}
 use Rattle.tcp_tie.specs.declared.pair.event.PairEvent.{PairEvent}
-use Rattle.tcp_tie.specs.declared.pair.event.PairEvent.TheVariants.{Deliver}
 use Rattle.tcp_tie.specs.declared.pair.event.SentSegment.{SentSegment}
 use Rattle.tcp_tie.specs.declared.pair.event.Side.{Side}
 use Rattle.tcp_model.specs.Value.{free_in, room_of}
 use Rattle.tcp_progress.specs.Clocks.{comes_stale}
-use Rattle.tcp_progress.specs.Course.{AreTaken, AsksWithin, IsClocked}
+use Rattle.tcp_progress.specs.Course.{AreTaken, AsksWithin, ComesAs, IsClocked}
 use Rattle.tcp_progress.specs.Pair.{HasStream, next_sent, socket_of}
 use Rattle.tcp_progress.specs.Readers.{ReadsWithin, whole_span}
 use Rattle.tcp_progress.specs.Rounds.{takes}
@@ -29,10 +28,11 @@ HasMoreSent p side =
 
 -- SEGMENTS COME
 
--- with this event the segment of a side of this number comes, with no timestamp that is older than TS.Recent of the other; it may lie outside
+-- With this event the segment of a side of this number comes, or one that equals it, with no timestamp that is older than TS.Recent of the other. It
+-- may lie outside.
 abbrev pub ArrivesWith : PairValue → Side → ℕ → PairEvent → Type 0
 ArrivesWith p side k event =
-    (event ≡ Deliver side k)
+    ComesAs p side k event
     × ((x : SentSegment) → slice_get (at p.sides side).sent k ≡ Some x
     → comes_stale (socket_of p (other side)).block x.segment.options.timestamp ≡ false)
 

@@ -1,6 +1,7 @@
 -- Moves of two hosts, each at a moment of one clock, and when they serve two sockets in time.
 use Rattle.std.specs.Prelude.{◌≡◌, ◌⊎◌, ℕ, suc, ◌+◌, ◌-◌, ◌*◌, ◌<◌, ◌≤◌, max, ℤ, pos, ◌+ℤ◌, ◌≤ℤ◌, ◌<ℤ◌, true, false, List, [], ◌∷◌, length}
-use Rattle.std.specs.Prelude.{Option, Some}
+use Rattle.std.specs.Prelude.{Option, Some, slice_get}
+use Rattle.ip_wire.specs.Ip.{source_of, destination_of}
 use Rattle.ip_wire.specs.TcpHeader.{TcpHeader}
 use Rattle.net_base.specs.Time.{IsMoment}
 use Rattle.socket_base.specs.Offers.{IsBefore}
@@ -9,6 +10,7 @@ use Rattle.tcp_model.specs.Due.{poll_of}
 use Rattle.tcp_model.specs.Offers.{offer_of}
 use Rattle.tcp_model.specs.Segments.{segment_len}
 use Rattle.tcp_model.specs.Value.{TcpValue, free_in, room_of}
+use Rattle.tcp_tie.specs.Host.{Made, made_of}
 use Rattle.tcp_tie.specs.Pair.Values.{PairValue}
 use Rattle.tcp_progress.specs.Arrivals.{is_synchronized}
 use Rattle.tcp_progress.specs.Clocks.{comes_stale}
@@ -26,6 +28,7 @@ use Rattle.lan.specs.Worlds.AtLink.Moves.Move.{Invokes, Offers, Takes}
 use Rattle.lan.specs.Worlds.AtLink.Paired.{AreHosted, Seat, clocks_after, clocks_in, side_in, told}
 use Rattle.lan.specs.Worlds.AtLink.Parties.{Net, Socket, party, socket_at}
 use Rattle.lan.specs.Worlds.AtLink.Parties.Socket.{Tcp}
+use Rattle.stack_laws.specs.Progress.Edges.{edge_span}
 
 -- MOVES AND MOMENTS
 
@@ -111,31 +114,47 @@ pub record IsHeardBy (v : TcpValue) (header : TcpHeader) (bytes : List ℕ) : Ty
   pub fresh : comes_stale v.block header.options.timestamp ≡ false
   pub inside : segment_len header (length bytes) ≡ 0 → past_by v.block.receiver.next header.seq_number < max 1 (free_in v)
 
-abbrev pub IsHeardAt : ℕ → Move → Type 0
-IsHeardAt place (Takes at cx v ip header bytes) = (at ≡ place) × IsHeardBy v header bytes
-IsHeardAt place move = ⊥
+-- It has no timestamp that is older than TS.Recent, be it inside the window or not.
+abbrev pub IsFreshFor : TcpValue → TcpHeader → List ℕ → Type 0
+IsFreshFor v header bytes = comes_stale v.block header.options.timestamp ≡ false
 
--- with this move the segment of a side of this number comes to the other, and is heard
-abbrev pub HearsIn : (Side → Seat) → Side → ℕ → Happening → Type 0
-HearsIn seats side k x = (x.step.side ≡ other side) × (x.number ≡ k) × IsHeardAt (seats (other side)).place x.step.move
+-- With this move the segment of this number, among those that the other sent, comes to the socket at a place, or one that equals it, as a segment that
+-- goes again may: nobody can tell which it is. And so it is for the socket.
+abbrev pub BringsAt : (TcpValue → TcpHeader → List ℕ → Type 0) → ℕ → List Made → ℕ → Move → Type 0
+BringsAt IsSo place sent k (Takes at cx v ip header bytes) =
+    (at ≡ place) × (slice_get sent k ≡ Some (made_of (source_of ip) (destination_of ip) header bytes)) × IsSo v header bytes
+BringsAt IsSo place sent k move = ⊥
+
+-- with this step the segment of a side of this number comes to the other
+abbrev pub Brings : (TcpValue → TcpHeader → List ℕ → Type 0) → (Side → Seat) → Net → Side → ℕ → Step → Type 0
+Brings IsSo seats net side k step = (step.side ≡ other side) × BringsAt IsSo (seats (other side)).place (sent_in seats net side) k step.move
 
 -- it does before the clock passes a moment, unless the moves end before
-abbrev pub IsHeardIn : (Side → Seat) → ℤ → Side → ℕ → List (ℤ × Happening) → Type 0
-IsHeardIn seats last side k [] = Unit {0}
-IsHeardIn seats last side k (x ∷ more) = (x.0 ≤ℤ last) × (HearsIn seats side k x.1 ⊎ IsHeardIn seats last side k more)
+abbrev pub IsBroughtBy : (TcpValue → TcpHeader → List ℕ → Type 0) → (Side → Seat) → ℤ → Side → ℕ → Net → List (ℤ × Happening) → Type 0
+IsBroughtBy IsSo seats last side k net [] = Unit {0}
+IsBroughtBy IsSo seats last side k net (x ∷ more) =
+    (x.0 ≤ℤ last) × (Brings IsSo seats net side k x.1.step ⊎ IsBroughtBy IsSo seats last side k (after net x.1.step) more)
 
 -- the number of the next segment that the socket of a side sends
 abbrev pub next_in : (Side → Seat) → Net → Side → ℕ
 next_in seats net side = length (sent_in seats net side)
 
--- Each segment that either sends comes no more than so many microseconds later, and is heard then. It may come at other times, too, as may what was
--- sent before.
-abbrev pub AreHeard : (Side → Seat) → ℕ → Net → List (ℤ × Happening) → Type 0
-AreHeard seats delay net [] = Unit {0}
-AreHeard seats delay net (x ∷ more) =
+-- Each segment that either sends comes no more than so many microseconds later, and is so then. It may come at other times, too, as may what was sent
+-- before.
+abbrev pub AreBrought : (TcpValue → TcpHeader → List ℕ → Type 0) → (Side → Seat) → ℕ → Net → List (ℤ × Happening) → Type 0
+AreBrought IsSo seats delay net [] = Unit {0}
+AreBrought IsSo seats delay net (x ∷ more) =
     ((side : Side) (k : ℕ) → next_in seats net side ≤ k → k < next_in seats (after net x.1.step) side
-    → IsHeardIn seats (x.0 +ℤ pos delay) side k more)
-    × AreHeard seats delay (after net x.1.step) more
+    → IsBroughtBy IsSo seats (x.0 +ℤ pos delay) side k (after net x.1.step) more)
+    × AreBrought IsSo seats delay (after net x.1.step) more
+
+-- each is heard in time
+abbrev pub AreHeard : (Side → Seat) → ℕ → Net → List (ℤ × Happening) → Type 0
+AreHeard seats delay net moves = AreBrought IsHeardBy seats delay net moves
+
+-- each comes in time, be it heard or not
+abbrev pub ComeFresh : (Side → Seat) → ℕ → Net → List (ℤ × Happening) → Type 0
+ComeFresh seats delay net moves = AreBrought IsFreshFor seats delay net moves
 
 -- USERS READ
 
@@ -157,6 +176,14 @@ IsReadInTime seats read now net side (x ∷ more) =
     (SocketIs seats net side (λ v. free_in v ≡ 0) → IsReadIn seats (now +ℤ pos read) side (x ∷ more))
     × IsReadInTime seats read x.0 (after net x.1.step) side more
 
+-- STREAMS
+
+-- the stream of a side is no empty one, at first and behind each of these moves
+abbrev pub KeepsStreamIn : (Side → Seat) → Net → Side → List (ℤ × Happening) → Type 0
+KeepsStreamIn seats net side [] = HasStream (told net.history side (seats side).place)
+KeepsStreamIn seats net side (x ∷ more) =
+    HasStream (told net.history side (seats side).place) × KeepsStreamIn seats (after net x.1.step) side more
+
 -- MOVES IN TIME
 
 -- From this net on, with the clock at `now`: both connections are open, and are there at the end; each socket is asked in time, and what it offers
@@ -175,9 +202,23 @@ pub record MoveInTime (read wait delay : ℕ) (now : ℤ) (seats : Side → Seat
   pub stream : HasStream (told net.history side (seats side).place)
   pub room : SocketIs seats net (other side) (λ v. 1 ≤ room_of v.received)
 
+-- So it is wherever segments come: each comes in time, be it inside the window or not, and both users read in time. Each side has a receive buffer, and a
+-- stream that is no empty one.
+pub record ComeInTime (read wait delay : ℕ) (now : ℤ) (seats : Side → Seat) (clocks : Side → ℤ) (net : Net) (moves : List (ℤ × Happening)) : Type 0 where
+  pub opened : (of : Side) → SocketIs seats net of (λ v. IsOpen v.block)
+  pub stay : (of : Side) → SocketIs seats (run net (steps_of (moves_of moves))) of (λ v. is_synchronized v.block.state ≡ true)
+  pub clock : (of : Side) → clocks of ≤ℤ now
+  pub moments : AreAtMoments seats clocks now moves
+  pub asked : AreAsked seats wait now net moves
+  pub let_go : AreLetGo seats moves
+  pub come : ComeFresh seats delay net moves
+  pub read_in_time : (of : Side) → IsReadInTime seats read now net of moves
+  pub streams : (of : Side) → KeepsStreamIn seats net of moves
+  pub rooms : (of : Side) → SocketIs seats net of (λ v. 1 ≤ room_of v.received)
+
 -- The pair goes on by the events of these moves. If they are in time, then within a span SND.UNA or RCV.NXT of a side rises, where the side owes
 -- something; and at some time all that the side's user wrote is acknowledged, where they last two such spans for each position that is still to
--- reach, and two more.
+-- reach, and two more. Wherever segments come, such a span is one of each side.
 pub record GoOnByMoves (seats : Side → Seat) (clocks : Side → ℤ) (net : Net) (p : PairValue) (moves : List (ℤ × Happening)) : Type 0 where
   pub on : GoesOnBy seats (clocks_in seats clocks (steps_of (moves_of moves))) (run net (steps_of (moves_of moves))) p
       (events_of_moves seats clocks (moves_of moves))
@@ -186,6 +227,12 @@ pub record GoOnByMoves (seats : Side → Seat) (clocks : Side → ℤ) (net : Ne
       → HasRisen p on.next (side_in side) ⊎ HasRisen p on.next (side_in (other side))
   pub through : (side : Side) (read wait delay : ℕ) (now : ℤ) → MoveInTime read wait delay now seats clocks net side moves
       → (now +ℤ pos (suc (most_reached on.next - reached_in p) * (2 * whole_span read wait delay p (side_in side)))) <ℤ end_in now moves
+      → IsThroughAmong p (side_in side) (events_of_moves seats clocks (moves_of moves))
+  pub rises_anywhere : (side : Side) (read wait delay : ℕ) (now : ℤ) → ComeInTime read wait delay now seats clocks net moves
+      → 1 ≤ left_in p (side_in side) → (now +ℤ pos (edge_span read wait delay p (side_in side))) <ℤ end_in now moves
+      → HasRisen p on.next (side_in side) ⊎ HasRisen p on.next (side_in (other side))
+  pub through_anywhere : (side : Side) (read wait delay : ℕ) (now : ℤ) → ComeInTime read wait delay now seats clocks net moves
+      → (now +ℤ pos (suc (most_reached on.next - reached_in p) * (2 * edge_span read wait delay p (side_in side)))) <ℤ end_in now moves
       → IsThroughAmong p (side_in side) (events_of_moves seats clocks (moves_of moves))
 
 -- Plain moves lead from one net to another. Whatever moments and numbers are given to them, the pair goes on by them; and some numbers fit.

@@ -98,6 +98,13 @@ IsReadOften place read side past (e ∷ more) last =
     (before : ℤ) × IsReadOften place read side past more before × (clock_in (e ∷ more ++ past) ≤ℤ (before +ℤ pos read))
     × ((last ≡ before) ⊎ (UserReads place side (kind_of e.event) × (last ≡ clock_in (e ∷ more ++ past))))
 
+-- STREAMS
+
+-- the stream of the socket at this place of a host is no empty one, at first and behind each of these events
+abbrev pub KeepsStreamBy : ℕ → Side → (past more : List Entry) → Type 0
+KeepsStreamBy place side past [] = HasStream (told past side place)
+KeepsStreamBy place side past (e ∷ more) = KeepsStreamBy place side past more × HasStream (told (e ∷ more ++ past) side place)
+
 -- EVENTS IN TIME
 
 -- From the hosts between on, as the one clock shows what it was told last: both connections are open, and are there at the end; the events keep one

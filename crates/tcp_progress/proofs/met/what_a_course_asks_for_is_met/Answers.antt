@@ -17,6 +17,7 @@ use Rattle.tcp_progress.specs.Course.{IsAskedBy, IsHeard, IsHeardBy, Wants}
 use Rattle.tcp_progress.specs.Met.{gone, mending}
 use Rattle.tcp_progress.specs.Pair.{mtu_of, next_sent, socket_of}
 use Rattle.tcp_progress.specs.Rounds.{takes}
+use Rattle.tcp_progress.proofs.CourseExchange.{as_itself}
 use Rattle.tcp_progress.proofs.Moments.{le_of}
 use Rattle.tcp_progress.proofs.met.what_a_course_asks_for_is_met.Goals as goal
 
@@ -142,7 +143,7 @@ Sent p x course = (side : Side) (k : ℕ) → next_sent p side ≤ k → k < nex
 sends : Sent gone (pos 1_000_000, Offer A (pos 1_000_000) true) from_asked
 sends A k old new =
     let is = one_new 3 k old new in
-    (le_of _ _ refl, inl (ap (λ (n : ℕ). Deliver A n) is, λ x found. heard_text x (ap (slice_get asked.sides.a.sent) is ∙ found)))
+    (le_of _ _ refl, inl (as_itself asked A k (Deliver A 3) (ap (λ (n : ℕ). Deliver A n) is), λ x found. heard_text x (ap (slice_get asked.sides.a.sent) is ∙ found)))
 sends B k old new = none_new 1 k old new
 
 comes : Sent asked (pos 1_000_500, Deliver A 3) from_came
@@ -153,7 +154,7 @@ acks : Sent came (pos 1_000_500, Offer B (pos 1_000_500) true) from_told
 acks A k old new = none_new 4 k old new
 acks B k old new =
     let is = one_new 1 k old new in
-    (le_of _ _ refl, inl (ap (λ (n : ℕ). Deliver B n) is, λ x found. heard_ack x (ap (slice_get told.sides.b.sent) is ∙ found)))
+    (le_of _ _ refl, inl (as_itself told B k (Deliver B 1) (ap (λ (n : ℕ). Deliver B n) is), λ x found. heard_ack x (ap (slice_get told.sides.b.sent) is ∙ found)))
 
 hears : Sent told (pos 1_001_000, Deliver B 1) last_one
 hears A k old new = none_new 4 k old new
