@@ -119,7 +119,7 @@ among_moves Bring Frame sent side x [] step behind brings = inl brings
 among_moves Bring Frame sent side x (y ∷ before) step behind brings = inr (among_moves Bring Frame sent side x before step behind brings)
 
 -- a call makes no segment
-call_none : (e : Entry) (at : ℕ) (call : SocketCall) (shown : ℤ) (move : Move) → IsOfCall e at call shown move
+pub call_none : (e : Entry) (at : ℕ) (call : SocketCall) (shown : ℤ) (move : Move) → IsOfCall e at call shown move
     → IsNoReset move × ((place : ℕ) (x : Made) → Makes place x move → ⊥)
 call_none e at call shown (Invokes here cx old entry this new) is = (tt, λ place x makes. makes)
 call_none e at call shown (Passes entry) is = absurd is
@@ -139,14 +139,14 @@ tcp_so (Some Parties.Raw) P Q so is = absurd is
 
 -- THE MOVES SO FAR
 
-moves_run : (starts : Starts) (net : Net) (past more : List Entry) (hosts : Stations) (still : StillRun starts (more ++ past) hosts) (moves : List (ℤ × Step))
+pub moves_run : (starts : Starts) (net : Net) (past more : List Entry) (hosts : Stations) (still : StillRun starts (more ++ past) hosts) (moves : List (ℤ × Step))
     → MoveBy starts net past more hosts still moves → IsRun names net (untimed moves)
 moves_run starts net past [] hosts still moves by = subst (λ (xs : List (ℤ × Step)). IsRun names net (untimed xs)) (sym by.0) tt
 moves_run starts net past (e ∷ more) hosts still moves by =
     subst (IsRun names net) (sym (ap untimed by.2 ∙ untimed_append by.0 (clock_in (e ∷ more ++ past)) by.1))
     (IsRun-append names net (untimed by.0) by.1 (moves_run starts net past more still.0 still.1 by.0 by.3) by.4.may)
 
-net_at : (starts : Starts) (net : Net) (past more : List Entry) (hosts : Stations) (still : StillRun starts (more ++ past) hosts) (moves : List (ℤ × Step))
+pub net_at : (starts : Starts) (net : Net) (past more : List Entry) (hosts : Stations) (still : StillRun starts (more ++ past) hosts) (moves : List (ℤ × Step))
     → MoveBy starts net past more hosts still moves → IsNetOf (run net (untimed moves)) hosts (more ++ past)
 net_at starts net past [] hosts still moves by = subst (λ (xs : List (ℤ × Step)). IsNetOf (run net (untimed xs)) hosts past) (sym by.0) by.1
 net_at starts net past (e ∷ more) hosts still moves by =
@@ -155,7 +155,7 @@ net_at starts net past (e ∷ more) hosts still moves by =
     (sym (run-append net (untimed by.0) by.1) ∙ ap (run net) (sym (untimed_append by.0 t by.1))
     ∙ ap (λ (xs : List (ℤ × Step)). run net (untimed xs)) (sym by.2)) by.4.of
 
-opened_on : (past more : List Entry) (side : Side) (i : ℕ) (o : Opening) → opening past side i ≡ Some o → opening (more ++ past) side i ≡ Some o
+pub opened_on : (past more : List Entry) (side : Side) (i : ℕ) (o : Opening) → opening past side i ≡ Some o → opening (more ++ past) side i ≡ Some o
 opened_on past [] side i o is = is
 opened_on past (e ∷ more) side i o is = opening_stays (more ++ past) e side i o (opened_on past more side i o is)
 

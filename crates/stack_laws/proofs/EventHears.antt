@@ -70,7 +70,7 @@ abbrev pub Brings : (Side → ℕ) → Side → Made → Step → Type 0
 Brings places side x step = (step.side ≡ other side) × IsBroughtBy (places (other side)) x step.move
 
 -- a move of a poll is no reset
-poll_quiet : (e : Entry) (t : ℤ) (move : Move) → IsOfPoll e t move → IsNoReset move
+pub poll_quiet : (e : Entry) (t : ℤ) (move : Move) → IsOfPoll e t move → IsNoReset move
 poll_quiet e t (Offers at cx v from sent) of = tt
 poll_quiet e t (Takes at cx v ip header bytes) of = tt
 poll_quiet e t (Gives at cx v answer new sent) of = tt

@@ -28,6 +28,7 @@ pub mod EventFrames
 pub mod EventHeard
 pub mod EventHears
 pub mod EventFacts
+pub mod EventComes
 pub mod EventStreams
 pub mod EventPartners
 pub mod Blocks

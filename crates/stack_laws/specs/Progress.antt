@@ -29,6 +29,7 @@ pub mod OneClock
 pub mod Serving
 pub mod Carried
 pub mod Ends
+pub mod Hearing
 pub mod Answering
 pub mod ByEvents
 pub mod Edges
