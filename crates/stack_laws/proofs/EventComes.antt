@@ -32,7 +32,6 @@ use Rattle.lan.specs.Worlds.Still.{StillRun, seats_of}
 use Rattle.lan.proofs.Worlds.AtLink.Runs.{Kept, fresh_kept, kept_run, step_by}
 use Rattle.lan.proofs.Worlds.Moves.Calls.{names}
 use Rattle.lan.proofs.Worlds.Moves.Worlds.{fresh_net}
-use Rattle.stack_laws.specs.Progress.Answering.{AnswersGo}
 use Rattle.stack_laws.specs.Progress.Carried.{AreCarried}
 use Rattle.stack_laws.specs.Progress.Ends.{AreConnected, AreEnds}
 use Rattle.stack_laws.specs.Progress.Events.{AreOfEvent, IsOfCall, IsOfPoll, MoveBy, clock_in, shown_in, untimed}
@@ -154,14 +153,14 @@ pub are_brought : (starts : Starts) (so_far : List Step) (past more : List Entry
     → IsRun names (first_net starts) so_far → ArePartners past A (places A) (places B) → AreEnds starts pairs
     → (by : MoveBy starts (run (first_net starts) so_far) past more hosts still (timed moves)) → GiveLeave starts past more hosts still
     → AreConnected starts places pairs past more hosts still → AreCarried starts delay past more hosts still on_way
-    → AnswersGo starts (run (first_net starts) so_far) past more hosts still (timed moves) by → AreSo IsSo (seats_of starts places) moves
+    → AreSo IsSo (seats_of starts places) moves
     → Moving.AreBrought IsSo (seats_of starts places) delay (run (first_net starts) so_far) moves
-are_brought starts so_far past more hosts still places pairs moves delay on_way IsSo fresh ip typed ran partners ends by leave connected carried answered so =
+are_brought starts so_far past more hosts still places pairs moves delay on_way IsSo fresh ip typed ran partners ends by leave connected carried so =
     let pls = Facts.pls starts fresh ip places pairs ends in
     let ports = Facts.ports starts fresh ip places pairs ends in
     let net : Net = run (first_net starts) so_far in
     let openings = openings_of past places partners in
-    let facts = Facts.facts starts fresh ip places pairs ends so_far ran past openings more hosts still (timed moves) by typed leave connected answered in
+    let facts = Facts.facts starts fresh ip places pairs ends so_far ran past openings more hosts still (timed moves) by typed leave connected in
     let are = all_are (Brings places) (λ side x frame. IsFrameOf (pairs side) x frame) (sent_in (seats_of starts places)) starts net past delay more hosts still
     (timed moves) on_way by facts carried in
     let kept : Kept ports pls net = kept_run ports pls (first_net starts) so_far (fresh_kept ports names (first_net starts) (fresh_net starts fresh)) ran in

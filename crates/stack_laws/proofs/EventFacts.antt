@@ -59,7 +59,6 @@ use Rattle.lan.proofs.Worlds.Moves.Nets.{step_of}
 use Rattle.lan.proofs.Worlds.Moves.Worlds.{fresh_net}
 use Rattle.lan.proofs.Worlds.Runs.{AreWell, has_come}
 use Rattle.lan.proofs.Worlds.StillOnward.{ran, seen_in_run}
-use Rattle.stack_laws.specs.Progress.Answering.{AnswersGo, AreAnswered}
 use Rattle.stack_laws.specs.Progress.Carried.{SendsIn, TakesIn}
 use Rattle.stack_laws.specs.Progress.Ends.{AreBothConnected, AreConnected, AreEnds, GoesAlong, IsConnected}
 use Rattle.stack_laws.specs.Progress.Events.{AreGone, AreOfEvent, HappensBy, IsOfCall, MoveBy, all_at, clock_in, shown_in, untimed}
@@ -301,15 +300,14 @@ module _ (starts : Starts) (fresh : IsFreshWorld starts) (ip_medium : starts.a.c
 
     -- a poll
     polled : (host : Side) (t : ℤ) (budget : ℕ) → kind_of e.event ≡ OfHost host (Polls t budget) → AreOfEvent e (OfHost host (Polls t budget)) (shown_in starts history) steps
-        → AreGone (OfHost host (Polls t budget)) old new steps → AreAnswered (OfHost host (Polls t budget)) old new steps
+        → AreGone (OfHost host (Polls t budget)) old new steps
         → IsTrue (has_leave (station new host).link) → Fact (OfHost host (Polls t budget)) old new net steps
-    polled host t budget is all gone answered leave =
+    polled host t budget is all gone leave =
         let i0 : InnerValue = (station old host).host.inner in
         let start = at_net net old history host (places host) (IsConnected (pairs host)) of (connected host) in
         let end = at_net (run net steps) new (e ∷ history) host (places host) (IsConnected (pairs host)) happens.of (then_connected host) in
-        let went = Hears.went ports pls refl seats pairs e t host i0 ((station new host).host.inner.paths ≡ []) (IsTrue (has_leave (station new host).link)) leave
-        gone.0 (ready history old still typed host) (ends.named host) (remote_named host) end.0 end.2.0 steps net start.0 kept opened all happens.may gone.2
-        (answered gone.0 gone.1) start.1 (late_at start.0.block.state start.2.0) (inr start.2.1) end.1 in
+        let went = Hears.went ports pls refl seats pairs e t host i0 ((station new host).host.inner.paths ≡ []) gone.0 (ready history old still typed host) (ends.named host) (remote_named host) end.0 end.2.0 steps net start.0 kept opened all happens.may gone.2
+        (gone.3 leave) start.1 (late_at start.0.block.state start.2.0) (inr start.2.1) end.1 in
         record {
           takes = λ side x frame f taking.
               taken side t budget (is ∙ ap (λ (s : Side). OfHost s (Polls t budget)) taking.0)
@@ -324,29 +322,29 @@ module _ (starts : Starts) (fresh : IsFreshWorld starts) (ip_medium : starts.a.c
         }
 
     -- an event that is none
-    by_kind : (k : Kind) → kind_of e.event ≡ k → AreOfEvent e k (shown_in starts history) steps → AreGone k old new steps → AreAnswered k old new steps
+    by_kind : (k : Kind) → kind_of e.event ≡ k → AreOfEvent e k (shown_in starts history) steps → AreGone k old new steps
         → GivesLeave k new → Fact k old new net steps
-    by_kind (OfHost host (Polls t budget)) is all gone answered leave = polled host t budget is all gone answered leave
-    by_kind (OfHost host (Calls at call)) is (move, are, its) gone answered leave =
+    by_kind (OfHost host (Polls t budget)) is all gone leave = polled host t budget is all gone leave
+    by_kind (OfHost host (Calls at call)) is (move, are, its) gone leave =
         let none = call_none e at call (shown_in starts history host) move its in
         record {
           takes = λ side x frame f taking. absurd taking;
           goes = none_goes (Gone (OfHost host (Calls at call))) net steps host
               move kept opened happens.may are none.0 none.1;
         }
-    by_kind (OfHost host (Sets setting)) is (s, are) gone answered leave = record {
+    by_kind (OfHost host (Sets setting)) is (s, are) gone leave = record {
       takes = λ side x frame f taking. absurd taking;
       goes = passed_by (OfHost host (Sets setting)) s are;
     }
-    by_kind (OfHost host (Opens n)) is (s, are) gone answered leave = record {
+    by_kind (OfHost host (Opens n)) is (s, are) gone leave = record {
       takes = λ side x frame f taking. absurd taking;
       goes = passed_by (OfHost host (Opens n)) s are;
     }
-    by_kind (OfHost host (Asks t)) is (s, are) gone answered leave = record {
+    by_kind (OfHost host (Asks t)) is (s, are) gone leave = record {
       takes = λ side x frame f taking. absurd taking;
       goes = passed_by (OfHost host (Asks t)) s are;
     }
-    by_kind (OfLink act) is (s, are) gone answered leave = record {
+    by_kind (OfLink act) is (s, are) gone leave = record {
       takes = λ side x frame f taking. absurd taking;
       goes = passed_by (OfLink act) s are;
     }
@@ -366,10 +364,10 @@ module _ (starts : Starts) (fresh : IsFreshWorld starts) (ip_medium : starts.a.c
 
     pub facts : (more : List Entry) (hosts : Stations) (still : StillRun starts (more ++ past) hosts) (moves : List (ℤ × Step))
         (by : MoveBy starts from past more hosts still moves) → AreTyped (more ++ past) → GiveLeave starts past more hosts still
-        → AreConnected starts places pairs past more hosts still → AnswersGo starts from past more hosts still moves by
+        → AreConnected starts places pairs past more hosts still
         → AreFacts Brought Frame (sent_in seats) starts from past more hosts still moves by
-    facts [] hosts still moves by typed leave connected answered = tt
-    facts (e ∷ more) hosts still moves by typed leave connected answered =
+    facts [] hosts still moves by typed leave connected = tt
+    facts (e ∷ more) hosts still moves by typed leave connected =
         let before : List (ℤ × Step) = by.0 in
         let these : List Step = by.1 in
         let then_far : List Step = so_far ++ untimed before in
@@ -377,12 +375,12 @@ module _ (starts : Starts) (fresh : IsFreshWorld starts) (ip_medium : starts.a.c
         let runs : IsRun names (first_net starts) then_far =
         IsRun-append names (first_net starts) so_far (untimed before) so_far_runs (moves_run starts from past more still.0 still.1 before by.3) in
         let of : IsNetOf (run from (untimed before)) still.0 (more ++ past) = net_at starts from past more still.0 still.1 before by.3 in (
-          facts more still.0 still.1 before by.3 typed.1 leave.0 connected.0 answered.0,
+          facts more still.0 still.1 before by.3 typed.1 leave.0 connected.0,
           subst (λ (n : Net). Fact (kind_of e.event) still.0 hosts n these) same
               (by_kind then_far runs (more ++ past) e still.0 hosts still.1 still.2 typed.1 these
               (subst (λ (n : Net). IsNetOf n still.0 (more ++ past)) (sym same) of)
               (subst (λ (n : Net). HappensBy starts (more ++ past) e still.0 hosts n these) (sym same) by.4)
               (both_now starts places pairs past more still.0 still.1 connected.0) connected.1
               (opened_at more (run (first_net starts) then_far) (ap (λ (n : Net). n.history) same ∙ of.history)) (kind_of e.event) refl by.4.are by.4.went
-              answered.1 leave.1),
+              leave.1),
         )

@@ -18,7 +18,7 @@ use Rattle.tcp_tie.specs.Host.{Made, made_of}
 use Rattle.interface_egress.specs.Departing.{HasSettingsOf}
 use Rattle.interface_egress.specs.Departure.{Whole}
 use Rattle.interface_egress.specs.GoesOut.{frame_of, numbered}
-use Rattle.interface_egress.specs.Plan.{comes_from_here, long_plan, never_leaves, plan_by, plan_of, stays, total_len}
+use Rattle.interface_egress.specs.Plan.{can_be_cut, comes_from_here, long_plan, never_leaves, plan_by, plan_of, stays, total_len}
 use Rattle.interface_egress.specs.declared.plan.Plan.{Plan}
 use Rattle.interface_egress.specs.declared.plan.Plan.TheVariants as Way
 use Rattle.interface_ingress.specs.Packet.{PacketValue, Segment, packet_of}
@@ -30,6 +30,7 @@ use Rattle.interface_tables.specs.declared.link.LinkAddress.{LinkAddress}
 use Rattle.interface_tables.specs.declared.link.LinkAddress.TheVariants as Link
 use Rattle.interface_tables.specs.declared.path_mtu.Path.{Path}
 use Rattle.interface.specs.Delivered.{AreOfOneMedium}
+use Rattle.interface.specs.Ingress.{is_question}
 use Rattle.interface.specs.Taken.{CanRead, HasWidths}
 use Rattle.lan.specs.declared.at_link.history.event.Side.{Side}
 use Rattle.lan.specs.Worlds.Link.Made.{sealed}
@@ -107,6 +108,28 @@ can_read i j from here seals tests = record {
       (subst (λ (own : HardwareAddress). AreOfOneMedium Hardware.Ip Hardware.Ip own) (sym here) (record { from = tt; receiver = tt }));
   sealed = subst (λ c. AreSealed c j.checksums) (sym seals) (subst (λ c. AreSealed sealed c) (sym tests) all_sealed);
 }
+
+-- NO NEIGHBOUR IS ASKED FOR on a medium that has no hardware addresses
+
+asks_none : (to : HardwareAddress) (fits can busy : Bool) →
+    is_question (if fits then Way.Go to else if can then (if busy then Way.Busy else Way.Cut to) else Way.Drop) ≡ false
+asks_none to true can busy = refl
+asks_none to false true true = refl
+asks_none to false true false = refl
+asks_none to false false busy = refl
+
+pub never_asks : (i0 i : InnerValue) → HasSettingsOf i0 i → i0.hardware ≡ Hardware.Ip → (ip : IpRepr) (busy : Bool) → is_question (plan_of i busy ip) ≡ false
+never_asks i0 i settings ip_only ip busy = by (stays i (comes_from_here i ip) (destination_of ip)) where
+  known_so : plan_by (link_address i (destination_of ip)) i busy ip ≡ plan_by (Link.Known Hardware.Ip) i busy ip
+  known_so =
+      ap (λ (a : LinkAddress). plan_by a i busy ip)
+      (ap (λ (own : HardwareAddress). link_on own i (destination_of ip)) (settings.hardware ∙ ip_only))
+
+  by : (out : Bool) → is_question (if out then Way.Drop else plan_by (link_address i (destination_of ip)) i busy ip) ≡ false
+  by true = refl
+  by false =
+      ap is_question known_so
+      ∙ asks_none Hardware.Ip (nat_le (total_len ip) (mtu_to i (destination_of ip))) (can_be_cut ip) busy
 
 -- A FRAME OF A SEGMENT
 

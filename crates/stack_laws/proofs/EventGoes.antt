@@ -1,5 +1,5 @@
 -- Over a medium that has no hardware addresses, where the link gives leave behind a poll, each segment that a socket offers in it goes in a frame.
-use Rattle.std.proofs.Common.{◌≡◌, ◌≢◌, ℕ, ◌≤◌, ◌||◌, ◌&&◌, not, ℤ, Bool, true, false, nat_le, if◌then◌else◌, IsTrue, List, [], ◌∷◌, ◌++◌, Option, Some, None}
+use Rattle.std.proofs.Common.{◌≡◌, ℕ, ◌≤◌, ◌||◌, ◌&&◌, not, ℤ, Bool, true, false, nat_le, if◌then◌else◌, IsTrue, List, [], ◌∷◌, ◌++◌, Option, Some, None}
 use Rattle.std.proofs.Common.{IfSome, arith, le-leb, refl, sym, ap, ◌∙◌, subst}
 use Rattle.std.specs.List.{AllByRecursion}
 use Rattle.ip_packet.specs.declared.ip.repr.IpRepr.{IpRepr}
@@ -89,8 +89,8 @@ module _ (i0 i : InnerValue) (same : i.addresses ≡ i0.addresses) (comes : (sou
 
 module _ (i0 : InnerValue) (t : ℤ) (K : Type 0) (gone : List (List ℕ)) (cx : ContextValue) (v : TcpValue) (from : IpAddress) (ip : IpRepr) (header : TcpHeader)
     (bytes : List ℕ) (none_known : K) (on_ip : i0.hardware ≡ Hardware.Ip) (enough : 80 ≤ i0.mtu) (leaves : never_leaves i0 ip ≡ false)
-    (offered : offered_packet (offer_of cx v).socket ≡ Some (packet_of ip (Segment header bytes))) (source_port : header.src_port ≢ 0)
-    (destination_port : header.dst_port ≢ 0) (l : LeftFrom i0 t K gone cx (Kind.Tcp v) from (packet_of ip (Segment header bytes))) where
+    (offered : offered_packet (offer_of cx v).socket ≡ Some (packet_of ip (Segment header bytes)))
+    (l : LeftFrom i0 t K gone cx (Kind.Tcp v) from (packet_of ip (Segment header bytes))) where
   abbrev i : InnerValue
   i = l.i
 
@@ -103,8 +103,8 @@ module _ (i0 : InnerValue) (t : ℤ) (K : Type 0) (gone : List (List ℕ)) (cx :
   offers : OffersSegment i v ip header bytes
   offers = record {
     offers = subst (λ (c : ContextValue). offered_packet (offer_of c v).socket ≡ Some p) l.shown offered;
-    source_port = source_port;
-    destination_port = destination_port;
+    source_port = l.wide.fits.1.source_accepted;
+    destination_port = l.wide.fits.1.destination_accepted;
   }
 
   own : i.hardware ≡ Hardware.Ip
@@ -156,11 +156,10 @@ pub goes_in_a_frame : (starts : Starts) (past : List Entry) (e : Entry) (hosts :
     → IsFreshWorld starts → starts.a.capabilities.medium ≡ Medium.Ip → AreTyped past → (still : StillRun starts (e ∷ past) hosts)
     → HappensBy starts past e still.0 hosts net (before ++ step_of side (Offers place cx v from sent) ∷ behind)
     → kind_of e.event ≡ OfHost side (Polls t budget) → IsTrue (has_leave (station hosts side).link)
-    → offered_packet (offer_of cx v).socket ≡ Some (packet_of ip (Segment header bytes)) → header.src_port ≢ 0 → header.dst_port ≢ 0
-    → never_leaves (station still.0 side).host.inner ip ≡ false
+    → offered_packet (offer_of cx v).socket ≡ Some (packet_of ip (Segment header bytes)) → never_leaves (station still.0 side).host.inner ip ≡ false
     → GoesInFrame (station still.0 side).host.inner (station still.0 side).link (station hosts side).link v ip header bytes
 goes_in_a_frame starts past e hosts net before behind side t budget place cx v from sent ip header bytes fresh medium typed still by is given offered
-    source_port destination_port leaves =
+    leaves =
     let old : Stations = still.0 in
     let i0 : InnerValue = (station old side).host.inner in
     let K : Type 0 = (station hosts side).host.inner.paths ≡ [] in
@@ -186,15 +185,15 @@ goes_in_a_frame starts past e hosts net before behind side t budget place cx v f
     let least = mtu_least (start starts side).host.inner.mtu (first_enough starts fresh side) in
     let enough : 80 ≤ i0.mtu = omega (arith, first_mtu, least) in
     let widths : HasWidths i0 = (well.joined.sends side).sound.widths in
-    let frame = in_frame i0 t K went.0 cx v from ip header bytes (still.3 side).paths on_bare enough leaves offered source_port destination_port l in
+    let frame = in_frame i0 t K went.0 cx v from ip header bytes (still.3 side).paths on_bare enough leaves offered l in
     record {
       i = l.i;
       settings = l.settings;
       to = Hardware.Ip;
       ident = l.i.ident;
       wide = record { mtu = (let same = l.settings.mtu in let most = widths.mtu in omega (arith, same, most)); ident = l.ident widths.ident };
-      offers = offers_it i0 t K went.0 cx v from ip header bytes (still.3 side).paths on_bare enough leaves offered source_port destination_port l;
-      can = can_leave i0 t K went.0 cx v from ip header bytes (still.3 side).paths on_bare enough leaves offered source_port destination_port l;
+      offers = offers_it i0 t K went.0 cx v from ip header bytes (still.3 side).paths on_bare enough leaves offered l;
+      can = can_leave i0 t K went.0 cx v from ip header bytes (still.3 side).paths on_bare enough leaves offered l;
       formed = l.formed;
       gone = went.0;
       sent = went.1;

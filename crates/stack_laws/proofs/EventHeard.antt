@@ -26,6 +26,7 @@ use Rattle.tcp_tie.specs.Host.{Made, made_by, made_of}
 use Rattle.tcp_tie.proofs.NameLaws.{answer_back, offer_between_ends}
 use Rattle.tcp_tie.proofs.NameLaws.{accepted as accepted_for}
 use Rattle.tcp_rules.proofs.ReadRules.{answers_read}
+use Rattle.interface.specs.Ingress.{is_question}
 use Rattle.interface.specs.Remote.{context_for}
 use Rattle.interface.specs.Taken.{HasWidths}
 use Rattle.interface.specs.Turn.{sourced, with_source}
@@ -42,11 +43,11 @@ use Rattle.interface_tables.specs.Inner.{InnerValue, is_foreign_loopback, may_co
 use Rattle.ip_wire.specs.AddressTests.{is_unspecified}
 use Rattle.interface_tables.specs.Source.{source_for}
 use Rattle.lan.specs.Worlds.Link.Made.{sealed}
-use Rattle.lan.specs.Worlds.Moves.Answered.{AnswerLeft}
+use Rattle.lan.specs.Worlds.Moves.Answered.{AnswerLeft, WentAsPlanned}
 use Rattle.lan.specs.Worlds.Moves.Went.{IsGone, LeftFrom, WentBy}
 use Rattle.stack_laws.specs.Progress.Ends.{GoesAlong}
 use Rattle.stack_laws.specs.Progress.Segments.{OffersSegment}
-use Rattle.stack_laws.proofs.EventFrames.{IsFrameOf, frame_made, goes_whole, never_same, path_enough}
+use Rattle.stack_laws.proofs.EventFrames.{IsFrameOf, frame_made, goes_whole, never_asks, never_same, path_enough}
 use Rattle.stack_laws.proofs.Polls.Segments.{as_written, can_be_read}
 use Rattle.stack_laws.proofs.Polls.SegmentSizes.{fits_path}
 
@@ -138,7 +139,7 @@ module _ (i0 : InnerValue) (t : ℤ) (K : Type 0) (gone : List (List ℕ)) (pair
 
   -- WHAT IT ANSWERS
 
-  module _ (G : Type 0) (leave : G) (cx : ContextValue) (v : TcpValue) (ip : IpRepr) (header : TcpHeader) (bytes : List ℕ) (reply : Reply)
+  module _ (cx : ContextValue) (v : TcpValue) (ip : IpRepr) (header : TcpHeader) (bytes : List ℕ) (reply : Reply)
       (answers : (arrives cx v ip header bytes).answer ≡ Some reply) (named : v.block.names.pair ≡ Some pair) (late : is_listening v.block.state ≡ false)
       (accepted : accepts v.block ip header ≡ true) where
     abbrev pub answer : PacketValue
@@ -155,21 +156,27 @@ module _ (i0 : InnerValue) (t : ℤ) (K : Type 0) (gone : List (List ℕ)) (pair
     answer_along : GoesAlong pair reply.header
     answer_along = record { source = back.source ∙ came.destination; destination = back.destination ∙ came.source }
 
-    module _ (l : AnswerLeft i0 t G gone answer) where
+    module _ (l : AnswerLeft i0 gone answer) (w : WentAsPlanned i0 gone l.i answer (plan_of l.i l.busy reply.header)) where
       short_answer : total_len reply.header ≤ mtu_to l.i (destination_of reply.header)
       short_answer =
-          let len = l.formed.sendable.len in
-          let small = l.formed.sendable.payload.header in
+          let len = w.formed.sendable.len in
+          let small = w.formed.sendable.payload.header in
           let head = small_header reply.header in
           let enough = path_enough l.i.paths (destination_of reply.header) l.i.moment l.i.mtu (subst (λ (n : ℕ). 576 ≤ n) (sym l.settings.mtu) ready.enough) in
           omega (arith, len, small, head, enough)
 
-      pub answer_goes : (x : Made) → x ≡ made_by reply → GoesIn x
-      answer_goes x is =
+      goes_so : (x : Made) → x ≡ made_by reply → GoesIn x
+      goes_so x is =
           let whole = goes_whole i0 l.i l.settings ready.bare reply.header (ready.never reply.header answer_along) short_answer l.busy in (
             frame_of l.i (Whole Hardware.Ip (numbered l.i answer)),
             frame_made i0 l.i l.settings ready.bare reply.header (ready.never reply.header answer_along) short_answer pair reply.segment [] x is ready.seals
-                ready.widths l.ident (answers_read cx v ip header bytes reply answers) l.wide.fits l.formed answer_along
+                ready.widths l.ident (answers_read cx v ip header bytes reply answers) w.wide.fits w.formed answer_along
                 (back.source_port ∙ came.destination_port) (back.destination_port ∙ came.source_port),
-            l.went leave Hardware.Ip whole,
+            w.went Hardware.Ip whole,
           )
+
+    pub answer_goes : AnswerLeft i0 gone answer → (x : Made) → x ≡ made_by reply → GoesIn x
+    answer_goes l x is = by l.what where
+      by : (is_question (plan_of l.i l.busy reply.header) ≡ true) ⊎ WentAsPlanned i0 gone l.i answer (plan_of l.i l.busy reply.header) → GoesIn x
+      by (inl asks) = absurd (let both : true ≡ false = sym asks ∙ never_asks i0 l.i l.settings ready.bare reply.header l.busy in cc)
+      by (inr went) = goes_so l went x is

@@ -83,7 +83,7 @@ poll_quiet e t (Changes at old new) of = absurd of
 -- A POLL
 
 module _ (ports : Side → ℕ → ℕ) (pls : Places) (of_names : pls.names ≡ names) (seats : Side → Seat) (pairs : Side → EndpointPair) (e : Entry) (t : ℤ) (side : Side)
-    (i0 : InnerValue) (K G : Type 0) (leave : G) (gone : List (List ℕ)) (ready : IsReadyHost i0 (pairs side)) (local : (pairs side).local_port ≢ 0)
+    (i0 : InnerValue) (K : Type 0) (gone : List (List ℕ)) (ready : IsReadyHost i0 (pairs side)) (local : (pairs side).local_port ≢ 0)
     (remote : (pairs side).remote_port ≢ 0) (w : TcpValue) (still : is_synchronized w.block.state ≡ true) where
   abbrev place : ℕ
   place = (seats side).place
@@ -117,7 +117,7 @@ module _ (ports : Side → ℕ → ℕ) (pls : Places) (of_names : pls.names ≡
 
   -- what the socket makes goes
   made_goes : (net : Net) (move : Move) (v : TcpValue) → Stands net v → v.block.names.pair ≡ Some (pairs side) → is_early v.block.state ≡ false
-      → May names net side move → HasLeft i0 t K gone move → HasAnswered i0 t G gone move → (x : Made) → Makes place x move
+      → May names net side move → HasLeft i0 t K gone move → HasAnswered i0 gone move → (x : Made) → Makes place x move
       → GoesIn i0 t K gone (pairs side) ready local remote x
   made_goes net (Offers at cx u from true) v stands named late may left answered x (here, o, offered, is) =
       let same : v ≡ u = same_tcp v u (sym stands ∙ subst (λ (n : ℕ). socket_at (party net side) n ≡ Some (Tcp u)) here may.0) in
@@ -130,9 +130,9 @@ module _ (ports : Side → ℕ → ℕ) (pls : Places) (of_names : pls.names ≡
       let same : v ≡ u = same_tcp v u (sym stands ∙ subst (λ (n : ℕ). socket_at (party net side) n ≡ Some (Tcp u)) here may.0) in
       let its : u.block.names.pair ≡ Some (pairs side) = subst (λ (y : TcpValue). y.block.names.pair ≡ Some (pairs side)) same named in
       let late_u : is_early u.block.state ≡ false = subst (λ (y : TcpValue). is_early y.block.state ≡ false) same late in
-      answer_goes i0 t K gone (pairs side) ready local remote G leave cx u ip header bytes reply answers its (late_not u late_u) may.1
-      (some_so (packet_by (arrives cx u ip header bytes).answer) (AnswerLeft i0 t G gone)
-      (answer i0 t K gone (pairs side) ready local remote G leave cx u ip header bytes reply answers its (late_not u late_u) may.1)
+      answer_goes i0 t K gone (pairs side) ready local remote cx u ip header bytes reply answers its (late_not u late_u) may.1
+      (some_so (packet_by (arrives cx u ip header bytes).answer) (AnswerLeft i0 gone)
+      (answer i0 t K gone (pairs side) ready local remote cx u ip header bytes reply answers its (late_not u late_u) may.1)
       (ap (λ (a : Option Reply). packet_by a) answers) answered) x is
   made_goes net (Offers at cx u from false) v stands named late may left answered x makes = absurd makes
   made_goes net (Invokes at cx old entry call new) v stands named late may left answered x makes = absurd makes
@@ -149,8 +149,8 @@ module _ (ports : Side → ℕ → ℕ) (pls : Places) (of_names : pls.names ≡
   abbrev Went : Net → List Step → Type 0
   Went net steps = WentIn (λ s x step. Brings (λ y. (seats y).place) s x step) (λ s x frame. IsFrameOf (pairs s) x frame) (sent_in seats) Goes net steps
 
-  went : (steps : List Step) (net : Net) (v : TcpValue) → Kept ports pls net → AreOpened ports pls seats net → AllByRecursion Its steps → IsRun names net steps
-      → AllByRecursion (λ step. HasLeft i0 t K gone step.move) steps → AllByRecursion (λ step. HasAnswered i0 t G gone step.move) steps
+  pub went : (steps : List Step) (net : Net) (v : TcpValue) → Kept ports pls net → AreOpened ports pls seats net → AllByRecursion Its steps → IsRun names net steps
+      → AllByRecursion (λ step. HasLeft i0 t K gone step.move) steps → AllByRecursion (λ step. HasAnswered i0 gone step.move) steps
       → Stands net v → is_early v.block.state ≡ false → IsOurs v → Stands (run net steps) w → Went net steps
   went [] net v kept opened all may left answered stands late ours ends = tt
   went (step ∷ steps) net v kept opened all may left answered stands late ours ends =

@@ -30,7 +30,6 @@ pub mod Serving
 pub mod Carried
 pub mod Ends
 pub mod Hearing
-pub mod Answering
 pub mod ByEvents
 pub mod Edges
 pub mod EdgesMet

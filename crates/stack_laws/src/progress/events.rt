@@ -1,6 +1,6 @@
 //! The events of a world are moves of its hosts.
 
-ghost use Rattle.std.specs.Prelude.{◌≡◌, ◌≢◌, ◌∷◌, ◌++◌, ℕ, ℤ, pos, ◌+ℤ◌, ◌≤ℤ◌, Bool, true, false, IsTrue, List, Some};
+ghost use Rattle.std.specs.Prelude.{◌≡◌, ◌∷◌, ◌++◌, ℕ, ℤ, pos, ◌+ℤ◌, ◌≤ℤ◌, Bool, true, false, IsTrue, List, Some};
 ghost use Rattle.ip_packet.specs.declared.ip.repr.IpRepr.{IpRepr};
 ghost use Rattle.ip_wire.specs.HardwareAddress.{HardwareAddress};
 ghost use Rattle.ip_wire.specs.IpAddress.{IpAddress};
@@ -107,8 +107,6 @@ pub fn what_goes_leaves_in_a_frame()
         → kind_of e.event ≡ OfHost side (Polls t budget)
         → IsTrue (has_leave (station hosts side).link)
         → offered_packet (offer_of cx v).socket ≡ Some (packet_of ip (Segment header bytes))
-        → header.src_port ≢ 0
-        → header.dst_port ≢ 0
         → never_leaves (station still.0 side).host.inner ip ≡ false
         → GoesInFrame (station still.0 side).host.inner (station still.0 side).link (station hosts side).link v ip header bytes }
 {}

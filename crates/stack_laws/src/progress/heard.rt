@@ -18,7 +18,6 @@ ghost use Rattle.lan.specs.Worlds.Moves.Joined.{first_net};
 ghost use Rattle.lan.specs.Worlds.Still.{StillRun, seats_of};
 ghost use Rattle.lan_base.specs.Carried.{names_tcp_or_udp};
 ghost use Rattle.lan_base.specs.Medium.TheVariants as Medium;
-ghost use Rattle.stack_laws.specs.Progress.Answering.{AnswersGo};
 ghost use Rattle.stack_laws.specs.Progress.Carried.{AreCarried};
 ghost use Rattle.stack_laws.specs.Progress.Ends.{AreConnected, AreEnds};
 ghost use Rattle.stack_laws.specs.Progress.Events.{MoveBy};
@@ -40,11 +39,10 @@ pub fn what_links_hand_over_comes_in_time()
         → IsRun (names_tcp_or_udp Medium.Ip) (first_net starts) so_far
         → ArePartners past A (places A) (places B)
         → AreEnds starts pairs
-        → (by : MoveBy starts (run (first_net starts) so_far) past more hosts still (timed moves))
+        → MoveBy starts (run (first_net starts) so_far) past more hosts still (timed moves)
         → GiveLeave starts past more hosts still
         → AreConnected starts places pairs past more hosts still
         → AreCarried starts delay past more hosts still on_way
-        → AnswersGo starts (run (first_net starts) so_far) past more hosts still (timed moves) by
         → AreSo IsSo (seats_of starts places) moves
         → AreBrought IsSo (seats_of starts places) delay (run (first_net starts) so_far) moves }
 {}

@@ -183,6 +183,7 @@ module _ (i0 : InnerValue) (t : ℤ) where
       paths = λ c. l.paths (back c);
       shown = l.shown;
       formed = l.formed;
+      wide = l.wide;
       source = l.source;
       leaving_formed = l.leaving_formed;
       busy = l.busy;

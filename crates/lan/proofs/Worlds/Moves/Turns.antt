@@ -389,6 +389,7 @@ module _ {D : Type 0} (moves : D → Move → D → Type 0) (turn_of : Option Ip
         paths = λ c. c.0;
         shown = refl;
         formed = sending.2;
+        wide = wide sending.2;
         source = refl;
         leaving_formed = subst IsWellFormed sending.1 goes.4;
         busy = is_some x.left;

@@ -21,6 +21,7 @@ use Rattle.interface_ingress.specs.IpAddress.{IpAddress}
 use Rattle.interface_tables.specs.Inner.{InnerValue}
 use Rattle.lan.specs.Worlds.AtLink.Moves.{Move}
 use Rattle.lan.specs.Worlds.AtLink.Moves.Move.{Offers}
+use Rattle.lan.specs.Worlds.Moves.Made.{IsWide}
 
 -- A poll of a host at this moment: what the host was before it, how one says behind it that it knows of no path on which less is carried than in a
 -- frame, and the frames that its device took in it, the oldest first.
@@ -37,7 +38,7 @@ module _ (i0 : InnerValue) (t : ℤ) (knows_none : Type 0) (gone : List (List �
   WentBy i p Way.Drop = Unit {0}
   WentBy i p plan = (meta : Meta) × (is_given_up meta i (destination_of p.header) plan ≡ true)
 
-  -- The host was so when it showed itself to this socket, whose packet left from this address.
+  -- The host was so when it showed itself to this socket, whose packet, which another host can read, left from this address.
   pub record LeftFrom (cx : ContextValue) (s : Socket) (from : IpAddress) (p : PacketValue) : Type 0 where
     pub i : InnerValue
     pub settings : HasSettingsOf i0 i
@@ -46,6 +47,7 @@ module _ (i0 : InnerValue) (t : ℤ) (knows_none : Type 0) (gone : List (List �
     pub paths : knows_none → i.paths ≡ []
     pub shown : cx ≡ context_for i s
     pub formed : IsWellFormed p
+    pub wide : IsWide p
     pub source : from ≡ source_of (sourced i p).header
     pub leaving_formed : IsWellFormed (sourced i p)
     pub busy : Bool
