@@ -36,6 +36,7 @@ use Rattle.stack_laws.specs.Progress.Carried.{AreCarried}
 use Rattle.stack_laws.specs.Progress.Ends.{AreConnected, AreEnds}
 use Rattle.stack_laws.specs.Progress.Events.{AreOfEvent, IsOfCall, IsOfPoll, MoveBy, clock_in, shown_in, untimed}
 use Rattle.stack_laws.specs.Progress.Hearing.{AreSo, IsSoAt}
+use Rattle.stack_laws.specs.Progress.Linked.{AreLinked}
 use Rattle.stack_laws.specs.Progress.Moving as Moving
 use Rattle.stack_laws.specs.Progress.OneClock.{timed}
 use Rattle.stack_laws.specs.Progress.Serving.{GiveLeave}
@@ -147,7 +148,7 @@ openings_of : (past : List Entry) (places : Side → ℕ) → ArePartners past A
 openings_of past places partners A = (partners.one, partners.opened)
 openings_of past places partners B = (partners.another, partners.partner_opened)
 
-pub are_brought : (starts : Starts) (so_far : List Step) (past more : List Entry) (hosts : Stations) (still : StillRun starts (more ++ past) hosts)
+are_brought : (starts : Starts) (so_far : List Step) (past more : List Entry) (hosts : Stations) (still : StillRun starts (more ++ past) hosts)
     (places : Side → ℕ) (pairs : Side → EndpointPair) (moves : List (ℤ × Happening)) (delay : ℕ) (on_way : Side → List (ℤ × List ℕ))
     (IsSo : TcpValue → TcpHeader → List ℕ → Type 0) → IsFreshWorld starts → starts.a.capabilities.medium ≡ Medium.Ip → AreTyped (more ++ past)
     → IsRun names (first_net starts) so_far → ArePartners past A (places A) (places B) → AreEnds starts pairs
@@ -167,3 +168,28 @@ are_brought starts so_far past more hosts still places pairs moves delay on_way 
     all_so ports pls (seats_of starts places) pairs IsSo delay moves net kept
     (λ side. ((openings side).0, ap (λ (h : List Entry). opening h side (places side)) (begins starts net past more hosts still (timed moves) by) ∙ (openings side).1))
     (moves_run starts net past more hosts still (timed moves) by) (moves_quiet starts net past more hosts still (timed moves) by) so are
+
+-- OVER LINKS
+
+pub brought_over : (starts : Starts) (so_far : List Step) (past more : List Entry) (hosts : Stations) (still : StillRun starts (more ++ past) hosts)
+    (places : Side → ℕ) (moves : List (ℤ × Happening)) (delay : ℕ) (IsSo : TcpValue → TcpHeader → List ℕ → Type 0) → IsFreshWorld starts
+    → AreTyped (more ++ past) → IsRun names (first_net starts) so_far → ArePartners past A (places A) (places B)
+    → MoveBy starts (run (first_net starts) so_far) past more hosts still (timed moves) → AreLinked starts places delay past more hosts still
+    → AreSo IsSo (seats_of starts places) moves → Moving.AreBrought IsSo (seats_of starts places) delay (run (first_net starts) so_far) moves
+brought_over starts so_far past more hosts still places moves delay IsSo fresh typed ran partners by linked so =
+    are_brought starts so_far past more hosts still places linked.pairs moves delay linked.on_way IsSo fresh linked.medium typed ran partners linked.ends by
+    linked.leave linked.connected linked.carried so
+
+pub come_over : (starts : Starts) (so_far : List Step) (past more : List Entry) (hosts : Stations) (still : StillRun starts (more ++ past) hosts)
+    (places : Side → ℕ) (moves : List (ℤ × Happening)) (delay : ℕ) → IsFreshWorld starts → AreTyped (more ++ past) → IsRun names (first_net starts) so_far
+    → ArePartners past A (places A) (places B) → MoveBy starts (run (first_net starts) so_far) past more hosts still (timed moves)
+    → AreLinked starts places delay past more hosts still → AreSo Moving.IsFreshFor (seats_of starts places) moves
+    → Moving.ComeFresh (seats_of starts places) delay (run (first_net starts) so_far) moves
+come_over starts so_far past more hosts still places moves delay = brought_over starts so_far past more hosts still places moves delay Moving.IsFreshFor
+
+pub heard_over : (starts : Starts) (so_far : List Step) (past more : List Entry) (hosts : Stations) (still : StillRun starts (more ++ past) hosts)
+    (places : Side → ℕ) (moves : List (ℤ × Happening)) (delay : ℕ) → IsFreshWorld starts → AreTyped (more ++ past) → IsRun names (first_net starts) so_far
+    → ArePartners past A (places A) (places B) → MoveBy starts (run (first_net starts) so_far) past more hosts still (timed moves)
+    → AreLinked starts places delay past more hosts still → AreSo Moving.IsHeardBy (seats_of starts places) moves
+    → Moving.AreHeard (seats_of starts places) delay (run (first_net starts) so_far) moves
+heard_over starts so_far past more hosts still places moves delay = brought_over starts so_far past more hosts still places moves delay Moving.IsHeardBy

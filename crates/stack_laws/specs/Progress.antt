@@ -30,6 +30,7 @@ pub mod Serving
 pub mod Carried
 pub mod Ends
 pub mod Hearing
+pub mod Linked
 pub mod ByEvents
 pub mod Edges
 pub mod EdgesMet

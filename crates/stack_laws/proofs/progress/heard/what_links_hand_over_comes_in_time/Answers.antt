@@ -1,5 +1,5 @@
-use Rattle.stack_laws.proofs.EventComes.{are_brought}
+use Rattle.stack_laws.proofs.EventComes.{come_over}
 use Rattle.stack_laws.proofs.progress.heard.what_links_hand_over_comes_in_time.Goals as goal
 
 pub returns : goal.returns
-returns c = are_brought
+returns c = come_over
