@@ -17,7 +17,7 @@ use Rattle.lan.specs.Worlds.AtLink.Station.{Stations}
 use Rattle.lan.specs.Worlds.Still.{StillRun}
 use Rattle.lan.proofs.Worlds.AtLink.HostSteps.{told_left}
 use Rattle.stack_laws.proofs.EventMoves.{untimed_append}
-use Rattle.stack_laws.specs.Progress.Events.{AreOfEvent, IsOfPoll, MoveBy, all_at, clock_in, untimed}
+use Rattle.stack_laws.specs.Progress.Events.{AreOfEvent, IsOfPoll, MoveBy, clock_in, untimed}
 use Rattle.stack_laws.specs.Progress.Moving.{KeepsStreamIn}
 use Rattle.stack_laws.specs.Progress.OneClock.{timed}
 use Rattle.stack_laws.specs.Progress.Serving.{KeepsStreamBy}

@@ -1,5 +1,5 @@
 -- Moves that come in time are a course in time.
-use Rattle.std.proofs.Common.{◌≡◌, ◌≢◌, ◌⊎◌, inl, inr, ℕ, ◌+◌, ◌-◌, ◌<◌, ◌≤◌, ◌==◌, ℤ, pos, ◌+ℤ◌, ◌≤ℤ◌, Bool, true, false, if◌then◌else◌, List, []}
+use Rattle.std.proofs.Common.{◌≡◌, ◌≢◌, ◌⊎◌, inl, inr, ℕ, ◌+◌, ◌<◌, ◌≤◌, ◌==◌, ℤ, pos, ◌+ℤ◌, ◌≤ℤ◌, Bool, true, false, if◌then◌else◌, List, []}
 use Rattle.std.proofs.Common.{◌∷◌, ◌++◌, Option, Some, None, refl, sym, ap, ◌∙◌, subst, append_assoc, arith}
 use Rattle.std.proofs.lemmas.Bool.Decides.{eqb_tells}
 use Rattle.std.proofs.lemmas.Int.{ints}
@@ -36,7 +36,7 @@ use Rattle.stack_laws.proofs.Blocks.{AllCome, AskedThen, ComesBy, ComesSo, Cours
 use Rattle.stack_laws.proofs.Blocks.{comes_at, events_at, no_more, read_at, reads_at, stream_at, taken_at, upon, wants_or_not}
 use Rattle.stack_laws.proofs.MovedEvents.{clock_quiet, heard_follows, move_asks, move_at, move_brings, move_quiet, move_reads, move_taken, next_same}
 use Rattle.stack_laws.specs.Progress.Edges.{ArrivesWithin, KeepsStream}
-use Rattle.stack_laws.specs.Progress.Moving.{AreAsked, AreAtMoments, AreBrought, AreHeard, AreLetGo, AsksIn, Brings, BringsAt, ComeFresh, IsAskedIn, IsAtMoment}
+use Rattle.stack_laws.specs.Progress.Moving.{AreAsked, AreAtMoments, AreBrought, AreHeard, AreLetGo, AsksIn, BringsToOther, BringsAt, ComeFresh, IsAskedIn, IsAtMoment}
 use Rattle.stack_laws.specs.Progress.Moving.{IsBroughtBy, IsFreshFor, IsHeardBy, IsReadAt, KeepsStreamIn}
 use Rattle.stack_laws.specs.Progress.Moving.{IsReadIn, IsReadInTime, IsAskedAt, IsTcp, SocketIs, WantsIn, end_in, moves_of}
 
@@ -254,14 +254,14 @@ module _ (seats : Side → Seat) (who : Pairs.Side) where
         from : (r : Side) → r ≡ other side → side ≡ other r
         from r same = sym (back side) ∙ ap other (sym same)
 
-        comes : Brings IsSo seats net side k x.1.step → OfLast (λ q e. ComesSo Then q (side_in side) k e) p (events_of_one seats clocks x.1)
+        comes : BringsToOther IsSo seats net side k x.1.step → OfLast (λ q e. ComesSo Then q (side_in side) k e) p (events_of_one seats clocks x.1)
         comes b =
             subst (λ (s : Side). OfLast (λ q e. ComesSo Then q (side_in s) k e) p (events_of_one seats clocks x.1)) (sym (from x.1.step.side b.0))
             (move_brings names seats clocks net p along.0 x.1.step.side IsSo Then follows x.1.number k (clocks x.1.step.side) x.1.step.move is.0 numbered.0
             (subst (λ (s : Side). BringsAt IsSo (seats x.1.step.side).place (sent_in seats net s) k x.1.step.move) (from x.1.step.side b.0)
             (subst (λ (s : Side). BringsAt IsSo (seats s).place (sent_in seats net side) k x.1.step.move) (sym b.0) b.1)))
 
-        by : Brings IsSo seats net side k x.1.step ⊎ IsBroughtBy IsSo seats last side k (after net x.1.step) more
+        by : BringsToOther IsSo seats net side k x.1.step ⊎ IsBroughtBy IsSo seats last side k (after net x.1.step) more
             → (IsBroughtBy IsSo seats last side k (after net x.1.step) more → ComesBy (ComesSo Then) last (side_in side) k (pair_on clocks p x.1) rest)
             → OfLast (λ q e. ComesSo Then q (side_in side) k e) p (events_of_one seats clocks x.1) ⊎ ComesBy (ComesSo Then) last (side_in side) k (pair_on clocks p x.1) rest
         by (inl b) onward = inl (comes b)

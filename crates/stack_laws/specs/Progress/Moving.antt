@@ -126,14 +126,14 @@ BringsAt IsSo place sent k (Takes at cx v ip header bytes) =
 BringsAt IsSo place sent k move = ⊥
 
 -- with this step the segment of a side of this number comes to the other
-abbrev pub Brings : (TcpValue → TcpHeader → List ℕ → Type 0) → (Side → Seat) → Net → Side → ℕ → Step → Type 0
-Brings IsSo seats net side k step = (step.side ≡ other side) × BringsAt IsSo (seats (other side)).place (sent_in seats net side) k step.move
+abbrev pub BringsToOther : (TcpValue → TcpHeader → List ℕ → Type 0) → (Side → Seat) → Net → Side → ℕ → Step → Type 0
+BringsToOther IsSo seats net side k step = (step.side ≡ other side) × BringsAt IsSo (seats (other side)).place (sent_in seats net side) k step.move
 
 -- it does before the clock passes a moment, unless the moves end before
 abbrev pub IsBroughtBy : (TcpValue → TcpHeader → List ℕ → Type 0) → (Side → Seat) → ℤ → Side → ℕ → Net → List (ℤ × Happening) → Type 0
 IsBroughtBy IsSo seats last side k net [] = Unit {0}
 IsBroughtBy IsSo seats last side k net (x ∷ more) =
-    (x.0 ≤ℤ last) × (Brings IsSo seats net side k x.1.step ⊎ IsBroughtBy IsSo seats last side k (after net x.1.step) more)
+    (x.0 ≤ℤ last) × (BringsToOther IsSo seats net side k x.1.step ⊎ IsBroughtBy IsSo seats last side k (after net x.1.step) more)
 
 -- the number of the next segment that the socket of a side sends
 abbrev pub next_in : (Side → Seat) → Net → Side → ℕ
@@ -152,7 +152,7 @@ AreBrought IsSo seats delay net (x ∷ more) =
 abbrev pub AreHeard : (Side → Seat) → ℕ → Net → List (ℤ × Happening) → Type 0
 AreHeard seats delay net moves = AreBrought IsHeardBy seats delay net moves
 
--- each comes in time, be it heard or not
+-- each comes in time, with no timestamp that is older than TS.Recent, wherever it lies
 abbrev pub ComeFresh : (Side → Seat) → ℕ → Net → List (ℤ × Happening) → Type 0
 ComeFresh seats delay net moves = AreBrought IsFreshFor seats delay net moves
 

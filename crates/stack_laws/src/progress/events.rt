@@ -165,8 +165,9 @@ pub fn quiet_polls_go_on_in_time()
 
 /// Law: in such a world two TCP sockets that were partners before some last events go on by the moves of those events. So one can ask of the events
 /// themselves whether they come in time: of hosts, that they are polled in time, of links, that they give leave to send, and of users, that they read. Of
-/// the moves nothing else is asked than that each segment is heard in time; and, where hosts ask for hardware addresses, that what the sockets offer goes. Over
-/// links that bring what is sent in time no more is asked of them than that no segment which comes is older than TS.Recent says.
+/// the moves nothing else is asked than that each segment is heard in time, or one that equals it, or only comes, wherever it lies, where both users read
+/// and close no empty stream; and, where hosts ask for hardware addresses, that what the sockets offer goes. Over links that bring what is sent in time
+/// each comes: then no more is asked of the moves than that no segment which comes is older than TS.Recent says.
 pub fn partners_go_on_by_their_events()
     ensures { (starts : Starts) (past more : List Entry) (hosts : Stations) (places : Side → ℕ) (news : Side → NewSocket)
         → IsFreshWorld starts → AreTyped (more ++ past) → (still : StillRun starts (more ++ past) hosts)

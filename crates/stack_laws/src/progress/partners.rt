@@ -21,6 +21,10 @@ ghost use Rattle.tcp_progress.specs.Reached.{IsReached};
 ghost use Rattle.stack_laws.specs.Progress.Moving.{GoOnByMoves, moves_of};
 ghost use Rattle.stack_laws.specs.Progress.Partners.{GoOnBetween, GoesOnInTime, HoldText, ShowsReached};
 
+use super::edges::{
+    a_connection_goes_on_wherever_acknowledgements_come,
+    all_is_acknowledged_wherever_acknowledgements_come,
+};
 use lan::at_link::history::pair_laws::partners_are_a_pair;
 use tcp_progress::readers::{
     a_connection_goes_on_whatever_its_windows_are, all_is_acknowledged_whatever_the_windows_are,
@@ -52,7 +56,8 @@ pub fn partners_go_on()
 }
 
 /// Law: and it goes on by the events of its hosts' moves, with whatever numbers fit the segments that come. So the moves, each at a moment of one
-/// clock, say whether this happens in time: where each socket is asked in time, each segment that is sent comes in time, and users read.
+/// clock, say whether this happens in time: where each socket is asked in time, each segment that is sent comes in time, or one that equals it, and users
+/// read. Where both do, it doesn't matter whether a segment that comes lies in the window.
 pub fn moves_go_on()
     ensures { (starts : Side → ℕ → ℕ) (names : List ℕ → Bool) (first : Net) (before : List Step) (moves : List (ℤ × Happening)) (seats : Side → Seat)
         (clocks : Side → ℤ) (p : PairValue) → IsFreshNet starts first → IsRun names first before → IsReached p
@@ -64,6 +69,8 @@ pub fn moves_go_on()
     partners_are_a_pair();
     a_connection_goes_on_whatever_its_windows_are();
     all_is_acknowledged_whatever_the_windows_are();
+    a_connection_goes_on_wherever_acknowledgements_come();
+    all_is_acknowledged_wherever_acknowledgements_come();
 }
 
 /// Law: in a world whose hosts stay as they showed themselves to their sockets at first, two TCP sockets that were partners before some last events
