@@ -1,6 +1,6 @@
 -- Over a medium that has no hardware addresses, where the link gives leave behind a poll, each segment that a socket offers in it goes in a frame.
-use Rattle.std.proofs.Common.{◌≡◌, ℕ, ◌≤◌, ◌||◌, ◌&&◌, not, ℤ, Bool, true, false, nat_le, if◌then◌else◌, IsTrue, List, [], ◌∷◌, ◌++◌, Option, Some, None}
-use Rattle.std.proofs.Common.{IfSome, arith, le-leb, refl, sym, ap, ◌∙◌, subst}
+use Rattle.std.proofs.Common.{◌≡◌, ℕ, ◌≤◌, ◌||◌, ◌&&◌, not, ℤ, Bool, true, false, if◌then◌else◌, IsTrue, List, [], ◌∷◌, ◌++◌, Option, Some, None}
+use Rattle.std.proofs.Common.{arith, le-leb, refl, sym, ap, ◌∙◌, subst}
 use Rattle.std.specs.List.{AllByRecursion}
 use Rattle.ip_packet.specs.declared.ip.repr.IpRepr.{IpRepr}
 use Rattle.ip_wire.specs.HardwareAddress.{HardwareAddress}
@@ -8,7 +8,6 @@ use Rattle.ip_wire.specs.HardwareAddress.TheVariants as Hardware
 use Rattle.ip_wire.specs.AddressTests.{is_loopback, is_unspecified}
 use Rattle.ip_wire.specs.Ip.{destination_of, source_of}
 use Rattle.ip_wire.specs.IpAddress.{IpAddress}
-use Rattle.ip_wire.specs.IpCidr.{IpCidr}
 use Rattle.ip_wire.specs.TcpHeader.{TcpHeader}
 use Rattle.sockets.specs.Context.{ContextValue}
 use Rattle.tcp_control.specs.declared.offer.OpenOffer.{OpenOffer}
@@ -16,8 +15,7 @@ use Rattle.tcp_model.specs.Offers.{offer_of, offered_packet, packet_with}
 use Rattle.tcp_model.specs.Value.{TcpValue}
 use Rattle.interface.specs.Taken.{HasWidths}
 use Rattle.interface.specs.Turn.{sourced, with_source}
-use Rattle.interface_egress.specs.Plan.{comes_from_here, long_plan, never_leaves, plan_by, plan_of, stays, total_len}
-use Rattle.interface_egress.specs.declared.plan.Plan.{Plan}
+use Rattle.interface_egress.specs.Plan.{comes_from_here, long_plan, never_leaves, plan_by, plan_of, total_len}
 use Rattle.interface_egress.specs.declared.plan.Plan.TheVariants as Way
 use Rattle.interface_ingress.specs.Packet.{PacketValue, Segment, packet_of}
 use Rattle.interface_ingress.specs.Socket.TheVariants as Kind
@@ -141,9 +139,9 @@ module _ (i0 : InnerValue) (t : ℤ) (K : Type 0) (gone : List (List ℕ)) (cx :
   pub offers_it : OffersSegment i v ip header bytes
   offers_it = offers
 
-  pub in_frame : WentBy i0 t K gone i p (Way.Go Hardware.Ip)
+  pub in_frame : WentBy gone i p (Way.Go Hardware.Ip)
   in_frame =
-      subst (WentBy i0 t K gone i p) goes_whole (subst (λ (q : PacketValue). WentBy i0 t K gone i q (plan_of i l.busy q.header)) keeps l.went)
+      subst (WentBy gone i p) goes_whole (subst (λ (q : PacketValue). WentBy gone i q (plan_of i l.busy q.header)) keeps l.went)
 
 -- SO IN A WORLD
 

@@ -1,5 +1,5 @@
 -- A host that moves of its sockets lead to.
-use Rattle.std.specs.Prelude.{◌≡◌, ℕ, ℤ, Bool, true, List, [], ◌∷◌, ◌++◌}
+use Rattle.std.specs.Prelude.{◌≡◌, ℕ, ℤ, Bool, true, List}
 use Rattle.interface.specs.Ingress.{is_read}
 use Rattle.interface_tables.specs.Inner.{InnerValue}
 use Rattle.interface.specs.State.{State}

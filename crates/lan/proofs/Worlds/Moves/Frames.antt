@@ -1,5 +1,5 @@
 -- Frames that are taken and sent in a poll, the oldest first: each segment that one brings comes by a move, and each that a socket offers goes in one.
-use Rattle.std.proofs.Common.{◌≡◌, ◌⊎◌, inl, inr, ℕ, ℤ, Bool, true, false, List, [], ◌∷◌, ◌++◌, append-nil, Option, Some, None, IfSome, sym, ap, ◌∙◌, subst, append_assoc}
+use Rattle.std.proofs.Common.{◌≡◌, ◌⊎◌, inl, inr, ℕ, ℤ, true, false, List, [], ◌∷◌, ◌++◌, append-nil, Option, Some, None, IfSome, sym, ap, ◌∙◌, subst, append_assoc}
 use Rattle.std.specs.List.{AllByRecursion}
 use Rattle.ip_tcp.specs.declared.header.TcpHeader.{TcpHeader}
 use Rattle.lan_base.specs.Device.{Move, Took, Empty, Allowed, Emitted, Denied}
@@ -164,8 +164,8 @@ module _ (i0 : InnerValue) (t : ℤ) where
   left-append C gone (step ∷ steps) more first second = (first.0, left-append C gone steps more first.1 second)
 
   -- under a narrower condition, as these frames are among those
-  module _ (C C' : Type 0) (gone gone' : List (List ℕ)) (back : C' → C) (among : (frame : List ℕ) → IsGone i0 t C gone frame → IsGone i0 t C' gone' frame) where
-    still_went : (i : InnerValue) (p : PacketValue) (plan : Plan) → WentBy i0 t C gone i p plan → WentBy i0 t C' gone' i p plan
+  module _ (C C' : Type 0) (gone gone' : List (List ℕ)) (back : C' → C) (among : (frame : List ℕ) → IsGone gone frame → IsGone gone' frame) where
+    still_went : (i : InnerValue) (p : PacketValue) (plan : Plan) → WentBy gone i p plan → WentBy gone' i p plan
     still_went i p (Way.Go to) went = among (frame_of i (Whole to (numbered i p))) went
     still_went i p (Way.Cut to) went = among (frame_of i (departure_from i (cut_of i to p))) went
     still_went i p Way.Drop went = tt

@@ -1,5 +1,5 @@
 -- The next identification stays a number of 16 bits in a poll.
-use Rattle.std.proofs.Common.{◌≡◌, ℕ, ◌+◌, ◌%◌, ◌^◌, ◌<◌, ℤ, arith, Bool, true, false, cond, sym, ap, subst}
+use Rattle.std.proofs.Common.{ℕ, ◌+◌, ◌%◌, ◌^◌, ◌<◌, ℤ, arith, Bool, true, false, cond, sym, ap, subst}
 use Rattle.std.proofs.Math.Nat.{mod-lt}
 use Rattle.ip_wire.specs.IpRepr.{IpRepr}
 use Rattle.interface_tables.specs.Inner.{InnerValue}

@@ -1,10 +1,9 @@
 -- A packet whose host is done with it went in a frame that was sent, or was dropped.
-use Rattle.std.proofs.Common.{◌≡◌, inl, inr, ℕ, ℤ, Bool, true, false, if◌then◌else◌, List, [], ◌∷◌, ◌++◌, Option, Some, None, is_some, refl, sym, ap, ◌∙◌, subst}
+use Rattle.std.proofs.Common.{◌≡◌, inl, inr, ℕ, Bool, true, false, if◌then◌else◌, List, [], ◌∷◌, ◌++◌, Option, Some, None, refl, sym, ap, ◌∙◌, subst}
 use Rattle.ip_wire.specs.HardwareAddress.{HardwareAddress}
 use Rattle.interface.specs.Host.{Sender}
 use Rattle.interface.specs.Ip.{destination_of}
-use Rattle.interface.specs.IpRepr.{IpRepr}
-use Rattle.interface.specs.Turn.{Leaves, is_done, is_given_up, is_out_of_turn, outcome_by, plan_at}
+use Rattle.interface.specs.Turn.{Leaves, is_done, is_given_up, is_out_of_turn, plan_at}
 use Rattle.interface_ingress.specs.IpAddress.{IpAddress}
 use Rattle.interface_egress.specs.Departure.{Asks, Whole}
 use Rattle.interface_egress.specs.Fragments.{LeftValue, departure_from}
@@ -20,7 +19,7 @@ use Rattle.lan_base.specs.Device.{Move, Allowed, Denied, Emitted}
 use Rattle.sockets.specs.Packet.{PacketValue}
 use Rattle.lan.specs.Worlds.Moves.Went.{WentBy}
 use Rattle.lan.proofs.Worlds.Moves.Frames as Frames
-use Rattle.lan.proofs.Worlds.Moves.Frames.{Frames, IsNoFrame, IsTaking, and_gone, none_sent}
+use Rattle.lan.proofs.Worlds.Moves.Frames.{Frames, IsTaking, and_gone, none_sent}
 use Rattle.lan.proofs.Worlds.Moves.Places.{get_last}
 
 -- one that waits, and isn't given up, isn't done with
@@ -28,8 +27,8 @@ no_turn : (out : Bool) (sent : Sent) → (let r : Option Sent = if out then Some
 no_turn true sent is done = let same : Outcome.Waits ≡ sent = cc in let both : false ≡ true = ap is_done same ∙ done in absurd cc
 no_turn false sent is done = absurd cc
 
-module _ (i0 : InnerValue) (t : ℤ) (C : Type 0) (gone : List (List ℕ)) (i : InnerValue) (p : PacketValue) (m : Meta) where
-  given_up : (plan : Plan) → is_given_up m i (destination_of p.header) plan ≡ true → WentBy i0 t C gone i p plan
+module _ (gone : List (List ℕ)) (i : InnerValue) (p : PacketValue) (m : Meta) where
+  given_up : (plan : Plan) → is_given_up m i (destination_of p.header) plan ≡ true → WentBy gone i p plan
   given_up Way.NoRoute up = (m, up)
   given_up Way.Wait up = (m, up)
   given_up Way.Busy up = (m, up)
@@ -40,15 +39,15 @@ module _ (i0 : InnerValue) (t : ℤ) (C : Type 0) (gone : List (List ℕ)) (i : 
 
   held_by : (up : Bool) (turn : Option IpAddress) (plan : Plan) (sent : Sent) → is_given_up m i (destination_of p.header) plan ≡ up
       → (let r : Option Sent = if up then Some Outcome.Dropped else if is_out_of_turn turn plan then Some Outcome.Waits else None in r) ≡ Some sent
-      → is_done sent ≡ true → WentBy i0 t C gone i p plan
+      → is_done sent ≡ true → WentBy gone i p plan
   held_by true turn plan sent so is done = given_up plan so
   held_by false turn plan sent so is done = absurd (no_turn (is_out_of_turn turn plan) sent is done)
 
-module _ {D : Type 0} (moves : D → Move → D → Type 0) (Taken : Frames → D → Type 0) (taking : IsTaking moves Taken) (F : Frames) (i0 : InnerValue) (t : ℤ) (C : Type 0) where
+module _ {D : Type 0} (moves : D → Move → D → Type 0) (Taken : Frames → D → Type 0) (taking : IsTaking moves Taken) (F : Frames) where
   -- so many frames more were sent, and a packet that is done with went as planned
   pub record Left (i : InnerValue) (p : PacketValue) (plan : Plan) (sent : Sent) (d : D) : Type 0 where
     pub out : Frames.Sent Taken F d
-    pub went : is_done sent ≡ true → WentBy i0 t C (F.gone ++ out.more) i p plan
+    pub went : is_done sent ≡ true → WentBy (F.gone ++ out.more) i p plan
 
   -- it stays
   waits : (i : InnerValue) (p : PacketValue) (plan : Plan) (sent : Sent) (d : D) → is_done sent ≡ false → Taken F d → Left i p plan sent d
@@ -117,7 +116,7 @@ module _ {D : Type 0} (moves : D → Move → D → Type 0) (Taken : Frames → 
       let out = none_sent moves Taken taking F x'.device (taking.rests x.device x'.device (Allowed x.inner.moment true) F tt rests taken) in
       record {
         out = out;
-        went = λ done. held_by i0 t C (F.gone ++ out.more) x.inner p m (is_given_up m x.inner (destination_of p.header) (plan_at x p)) turn (plan_at x p) sent refl so
+        went = λ done. held_by (F.gone ++ out.more) x.inner p m (is_given_up m x.inner (destination_of p.header) (plan_at x p)) turn (plan_at x p) sent refl so
             done;
       }
   left_by turn x x' m p sent (inr (mid, allowed, goes, free)) taken =

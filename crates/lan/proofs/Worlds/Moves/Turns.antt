@@ -368,8 +368,8 @@ module _ {D : Type 0} (moves : D → Move → D → Type 0) (turn_of : Option Ip
       let back : Gives x'.device → Gives x.device =
       device_leaves moves (λ (d : D). Gives d → Gives x.device) (λ d d' m none moved had given. had (giving.had d d' m moved given)) turn_of x x' (λ g. g)
       item.meta leaving sent goes.1 in
-      let way : Left moves Taken taking f.frames i0 t (Stays i0 x.inner) x.inner leaving (plan_at x leaving) sent x'.device =
-      left_by moves Taken taking f.frames i0 t (Stays i0 x.inner) turn_of x x' item.meta leaving sent goes.1 f.taken in
+      let way : Left moves Taken taking f.frames x.inner leaving (plan_at x leaving) sent x'.device =
+      left_by moves Taken taking f.frames turn_of x x' item.meta leaving sent goes.1 f.taken in
       let frames : Frames = and_gone f.frames way.out.more in
       let reaches = narrowed names side (Stays i0 x.inner) (Stays i0 x.inner) (Gives x.device) (Gives x'.device) frames i0 t net f.now (λ c. c) back
       (sent_more names side (Stays i0 x.inner) (Gives x.device) f.frames i0 t net f.now way.out.more f.reaches) in
@@ -393,7 +393,7 @@ module _ {D : Type 0} (moves : D → Move → D → Type 0) (turn_of : Option Ip
         source = refl;
         leaving_formed = subst IsWellFormed sending.1 goes.4;
         busy = is_some x.left;
-        went = subst (λ (q : PacketValue). WentBy i0 t (Stays i0 x.inner) frames.gone x.inner q (plan_of x.inner (is_some x.left) q.header)) sending.1 (way.went done);
+        went = subst (λ (q : PacketValue). WentBy frames.gone x.inner q (plan_of x.inner (is_some x.left) q.header)) sending.1 (way.went done);
       }))
       f.sockets in
       let linked : L n (sending_as h x places) (party given.moved.next side) =

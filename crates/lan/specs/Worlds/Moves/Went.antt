@@ -23,10 +23,9 @@ use Rattle.lan.specs.Worlds.AtLink.Moves.{Move}
 use Rattle.lan.specs.Worlds.AtLink.Moves.Move.{Offers}
 use Rattle.lan.specs.Worlds.Moves.Made.{IsWide}
 
--- A poll of a host at this moment: what the host was before it, how one says behind it that it knows of no path on which less is carried than in a
--- frame, and the frames that its device took in it, the oldest first.
-module _ (i0 : InnerValue) (t : ℤ) (knows_none : Type 0) (gone : List (List ℕ)) where
-  -- this frame is among them
+-- the frames that a device took in a poll, the oldest first
+module _ (gone : List (List ℕ)) where
+  -- this one is among them
   abbrev pub IsGone : List ℕ → Type 0
   IsGone frame = (n : ℕ) × (slice_get gone n ≡ Some frame)
 
@@ -38,6 +37,9 @@ module _ (i0 : InnerValue) (t : ℤ) (knows_none : Type 0) (gone : List (List �
   WentBy i p Way.Drop = Unit {0}
   WentBy i p plan = (meta : Meta) × (is_given_up meta i (destination_of p.header) plan ≡ true)
 
+-- A poll of a host at this moment: what the host was before it, how one says behind it that it knows of no path on which less is carried than in a
+-- frame, and the frames that went in it.
+module _ (i0 : InnerValue) (t : ℤ) (knows_none : Type 0) (gone : List (List ℕ)) where
   -- The host was so when it showed itself to this socket, whose packet, which another host can read, left from this address.
   pub record LeftFrom (cx : ContextValue) (s : Socket) (from : IpAddress) (p : PacketValue) : Type 0 where
     pub i : InnerValue
@@ -51,7 +53,7 @@ module _ (i0 : InnerValue) (t : ℤ) (knows_none : Type 0) (gone : List (List �
     pub source : from ≡ source_of (sourced i p).header
     pub leaving_formed : IsWellFormed (sourced i p)
     pub busy : Bool
-    pub went : WentBy i (sourced i p) (plan_of i busy (sourced i p).header)
+    pub went : WentBy gone i (sourced i p) (plan_of i busy (sourced i p).header)
 
   -- so each packet that a TCP socket offers, and is told that it went
   abbrev pub HasLeft : Move → Type 0
