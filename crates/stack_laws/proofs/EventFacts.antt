@@ -60,7 +60,7 @@ use Rattle.lan.proofs.Worlds.Moves.Worlds.{fresh_net}
 use Rattle.lan.proofs.Worlds.Runs.{AreWell, has_come}
 use Rattle.lan.proofs.Worlds.StillOnward.{ran, seen_in_run}
 use Rattle.stack_laws.specs.Progress.Carried.{SendsIn, TakesIn}
-use Rattle.stack_laws.specs.Progress.Ends.{AreBothConnected, AreConnected, AreEnds, GoesAlong, IsConnected}
+use Rattle.stack_laws.specs.Progress.Ends.{AreBoth, AreConnected, AreEnds, AreThroughout, GoesAlong, IsConnected}
 use Rattle.stack_laws.specs.Progress.Events.{AreGone, AreOfEvent, HappensBy, IsOfCall, MoveBy, all_at, clock_in, shown_in, untimed}
 use Rattle.stack_laws.specs.Progress.Leave.{LiesAmong}
 use Rattle.stack_laws.specs.Progress.Moving.{IsTcp}
@@ -158,10 +158,10 @@ pub opened_on : (past more : List Entry) (side : Side) (i : ℕ) (o : Opening) �
 opened_on past [] side i o is = is
 opened_on past (e ∷ more) side i o is = opening_stays (more ++ past) e side i o (opened_on past more side i o is)
 
-both_now : (starts : Starts) (places : Side → ℕ) (pairs : Side → EndpointPair) (past more : List Entry) (hosts : Stations) (still : StillRun starts (more ++ past) hosts)
-    → AreConnected starts places pairs past more hosts still → AreBothConnected places pairs hosts
-both_now starts places pairs past [] hosts still are = are
-both_now starts places pairs past (e ∷ more) hosts still are = are.1
+pub both_now : (IsSo : Side → TcpValue → Type 0) (starts : Starts) (places : Side → ℕ) (past more : List Entry) (hosts : Stations)
+    (still : StillRun starts (more ++ past) hosts) → AreThroughout IsSo starts places past more hosts still → AreBoth IsSo places hosts
+both_now IsSo starts places past [] hosts still are = are
+both_now IsSo starts places past (e ∷ more) hosts still are = are.1
 
 -- A WORLD
 
@@ -254,8 +254,8 @@ module _ (starts : Starts) (fresh : IsFreshWorld starts) (ip_medium : starts.a.c
   module _ (so_far : List Step) (so_far_runs : IsRun names (first_net starts) so_far) (history : List Entry) (e : Entry) (old new : Stations)
       (still : StillRun starts history old) (leads : Leads history old e new) (typed : AreTyped history) (steps : List Step)
       (of : IsNetOf (run (first_net starts) so_far) old history)
-      (happens : HappensBy starts history e old new (run (first_net starts) so_far) steps) (connected : AreBothConnected places pairs old)
-      (then_connected : AreBothConnected places pairs new) (opened : AreOpened ports pls seats (run (first_net starts) so_far)) where
+      (happens : HappensBy starts history e old new (run (first_net starts) so_far) steps) (connected : AreBoth (λ side. IsConnected (pairs side)) places old)
+      (then_connected : AreBoth (λ side. IsConnected (pairs side)) places new) (opened : AreOpened ports pls seats (run (first_net starts) so_far)) where
     abbrev net : Net
     net = run (first_net starts) so_far
 
@@ -356,8 +356,8 @@ module _ (starts : Starts) (fresh : IsFreshWorld starts) (ip_medium : starts.a.c
     abbrev from : Net
     from = run (first_net starts) so_far
 
-    opened_at : (more : List Entry) (net : Net) → net.history ≡ more ++ past → AreOpened ports pls seats net
-    opened_at more net is side = (
+    opened_at : (more : List Entry) (n : Net) → n.history ≡ more ++ past → AreOpened ports pls seats n
+    opened_at more n is side = (
       (openings side).0,
       ap (λ (h : List Entry). opening h side (places side)) is ∙ opened_on past more side (places side) (openings side).0 (openings side).1,
     )
@@ -380,7 +380,7 @@ module _ (starts : Starts) (fresh : IsFreshWorld starts) (ip_medium : starts.a.c
               (by_kind then_far runs (more ++ past) e still.0 hosts still.1 still.2 typed.1 these
               (subst (λ (n : Net). IsNetOf n still.0 (more ++ past)) (sym same) of)
               (subst (λ (n : Net). HappensBy starts (more ++ past) e still.0 hosts n these) (sym same) by.4)
-              (both_now starts places pairs past more still.0 still.1 connected.0) connected.1
+              (both_now (λ side. IsConnected (pairs side)) starts places past more still.0 still.1 connected.0) connected.1
               (opened_at more (run (first_net starts) then_far) (ap (λ (n : Net). n.history) same ∙ of.history)) (kind_of e.event) refl by.4.are by.4.went
               leave.1),
         )

@@ -126,15 +126,15 @@ module _ (i0 : InnerValue) (t : ℤ) (K : Type 0) (gone : List (List ℕ)) (pair
       pub offer_goes : (x : Made) → x ≡ made_of from (destination_of o.header) o.segment text → GoesIn x
       offer_goes x is =
           let source : from ≡ source_of o.header = l.source ∙ ap (λ (q : PacketValue). source_of q.header) keeps in
-          let went : WentBy i0 t K gone l.i p (plan_of l.i l.busy o.header) =
-          subst (λ (q : PacketValue). WentBy i0 t K gone l.i q (plan_of l.i l.busy q.header)) keeps l.went in
+          let went : WentBy gone l.i p (plan_of l.i l.busy o.header) =
+          subst (λ (q : PacketValue). WentBy gone l.i q (plan_of l.i l.busy q.header)) keeps l.went in
           let whole = goes_whole i0 l.i l.settings ready.bare o.header (ready.never o.header along) short l.busy in (
             frame_of l.i (Whole Hardware.Ip (numbered l.i p)),
             frame_made i0 l.i l.settings ready.bare o.header (ready.never o.header along) short pair o.segment text x
                 (is ∙ ap (λ (a : IpAddress). made_of a (destination_of o.header) o.segment text) source) ready.seals ready.widths l.ident
                 (as_written l.i v o.header o.segment text offers) (can_be_read l.i v o.header o.segment text offers l.formed) l.formed along
                 between.source_port between.destination_port,
-            subst (WentBy i0 t K gone l.i p) whole went,
+            subst (WentBy gone l.i p) whole went,
           )
 
   -- WHAT IT ANSWERS

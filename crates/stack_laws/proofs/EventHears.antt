@@ -73,7 +73,7 @@ Brings places side x step = (step.side ≡ other side) × IsBroughtBy (places (o
 pub poll_quiet : (e : Entry) (t : ℤ) (move : Move) → IsOfPoll e t move → IsNoReset move
 poll_quiet e t (Offers at cx v from sent) of = tt
 poll_quiet e t (Takes at cx v ip header bytes) of = tt
-poll_quiet e t (Gives at cx v answer new sent) of = tt
+poll_quiet e t (Gives at cx v given new sent) of = tt
 poll_quiet e t (Receives at cx v ip udp bytes) of = tt
 poll_quiet e t (Passes entry) of = tt
 poll_quiet e t (Invokes at cx old entry call new) of = absurd of
@@ -137,7 +137,7 @@ module _ (ports : Side → ℕ → ℕ) (pls : Places) (of_names : pls.names ≡
   made_goes net (Offers at cx u from false) v stands named late may left answered x makes = absurd makes
   made_goes net (Invokes at cx old entry call new) v stands named late may left answered x makes = absurd makes
   made_goes net (Passes entry) v stands named late may left answered x makes = absurd makes
-  made_goes net (Gives at cx u answer new sent) v stands named late may left answered x makes = absurd makes
+  made_goes net (Gives at cx u given new sent) v stands named late may left answered x makes = absurd makes
   made_goes net (Receives at cx u ip udp bytes) v stands named late may left answered x makes = absurd makes
   made_goes net (Resets y) v stands named late may left answered x makes = absurd makes
   made_goes net (Changes at old new) v stands named late may left answered x makes = absurd makes

@@ -136,7 +136,7 @@ module _ (e : Entry) (t : ℤ) (side : Side) (place : ℕ) where
     pub stays : StaysLate v new
 
   stayed : (p : Party) (v : TcpValue) → Stands p v → is_early v.block.state ≡ false → Later p v
-  stayed p v is late = record { new = v; stands = is; stays = record { late = late; closed = λ over. over; pair = inr refl } }
+  stayed p v is late = record { new = v; stands = is; stays = record { late = late; closed = λ over. over; pair = inr refl; stamps = refl } }
 
   -- a TCP socket is exchanged
   tcp_set : (p : Party) (at : ℕ) (old new : TcpValue) → socket_at p at ≡ Some (Tcp old) → (is_early old.block.state ≡ false → StaysLate old new) →

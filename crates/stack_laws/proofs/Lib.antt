@@ -29,6 +29,7 @@ pub mod EventHeard
 pub mod EventHears
 pub mod EventFacts
 pub mod EventComes
+pub mod EventStamps
 pub mod EventStreams
 pub mod EventPartners
 pub mod Blocks

@@ -34,13 +34,22 @@ pub record AreEnds (starts : Starts) (pairs : Side → EndpointPair) : Type 0 wh
 abbrev pub IsConnected : EndpointPair → TcpValue → Type 0
 IsConnected pair v = (is_synchronized v.block.state ≡ true) × (v.block.names.pair ≡ Some pair)
 
--- each host has at its place the TCP socket of its end
-abbrev pub AreBothConnected : (Side → ℕ) → (Side → EndpointPair) → Stations → Type 0
-AreBothConnected places pairs hosts = (side : Side) → IsAtHost (places side) (station hosts side) (IsConnected (pairs side))
+-- the TCP socket at the place of each host is so
+abbrev pub AreBoth : (Side → TcpValue → Type 0) → (Side → ℕ) → Stations → Type 0
+AreBoth IsSo places hosts = (side : Side) → IsAtHost (places side) (station hosts side) (IsSo side)
 
 -- from the hosts between on, and behind each later event
+abbrev pub AreThroughout : (IsSo : Side → TcpValue → Type 0) (starts : Starts) (places : Side → ℕ) (past more : List Entry) (hosts : Stations)
+    → StillRun starts (more ++ past) hosts → Type 0
+AreThroughout IsSo starts places past [] hosts still = AreBoth IsSo places hosts
+AreThroughout IsSo starts places past (e ∷ more) hosts still = AreThroughout IsSo starts places past more still.0 still.1 × AreBoth IsSo places hosts
+
+-- each has the connection of its end
 abbrev pub AreConnected : (starts : Starts) (places : Side → ℕ) (pairs : Side → EndpointPair) (past more : List Entry) (hosts : Stations)
     → StillRun starts (more ++ past) hosts → Type 0
-AreConnected starts places pairs past [] hosts still = AreBothConnected places pairs hosts
-AreConnected starts places pairs past (e ∷ more) hosts still =
-    AreConnected starts places pairs past more still.0 still.1 × AreBothConnected places pairs hosts
+AreConnected starts places pairs past more hosts still = AreThroughout (λ side. IsConnected (pairs side)) starts places past more hosts still
+
+-- each is connected, and no timestamps were agreed on for its connection
+abbrev pub AreUnstamped : (starts : Starts) (places : Side → ℕ) (past more : List Entry) (hosts : Stations) → StillRun starts (more ++ past) hosts → Type 0
+AreUnstamped starts places past more hosts still =
+    AreThroughout (λ side v. (is_synchronized v.block.state ≡ true) × (v.block.peer.timestamps ≡ false)) starts places past more hosts still

@@ -7,6 +7,7 @@ ghost use Rattle.lan.specs.Worlds.AtLink.Fresh.{IsFreshWorld};
 ghost use Rattle.lan.specs.Worlds.AtLink.Happening.{Happening};
 ghost use Rattle.lan.specs.Worlds.AtLink.History.{Entry};
 ghost use Rattle.lan.specs.Worlds.AtLink.Moves.{IsRun, Step, run};
+ghost use Rattle.lan.specs.Worlds.AtLink.Parties.{Net};
 ghost use Rattle.lan.specs.Worlds.AtLink.Partners.{ArePartners};
 ghost use Rattle.lan.specs.Worlds.AtLink.Runs.{Starts};
 ghost use Rattle.lan.specs.Worlds.AtLink.Station.{Stations};
@@ -15,6 +16,7 @@ ghost use Rattle.lan.specs.Worlds.Moves.Joined.{first_net};
 ghost use Rattle.lan.specs.Worlds.Still.{StillRun, seats_of};
 ghost use Rattle.lan_base.specs.Carried.{names_tcp_or_udp};
 ghost use Rattle.lan_base.specs.Medium.TheVariants as Medium;
+ghost use Rattle.stack_laws.specs.Progress.Ends.{AreUnstamped};
 ghost use Rattle.stack_laws.specs.Progress.Events.{MoveBy};
 ghost use Rattle.stack_laws.specs.Progress.Hearing.{AreSo};
 ghost use Rattle.stack_laws.specs.Progress.Linked.{AreLinked};
@@ -35,6 +37,13 @@ pub fn what_links_hand_over_comes_in_time()
         → AreLinked starts places delay past more hosts still
         → AreSo IsFreshFor (seats_of starts places) moves
         → ComeFresh (seats_of starts places) delay (run (first_net starts) so_far) moves }
+{}
+
+/// Law: where no timestamps were agreed on for a connection, no segment that comes in the moves of the events is older than TS.Recent.
+pub fn without_timestamps_nothing_is_old()
+    ensures { (starts : Starts) (net : Net) (past more : List Entry) (hosts : Stations) (still : StillRun starts (more ++ past) hosts) (places : Side → ℕ)
+        (moves : List (ℤ × Happening)) → MoveBy starts net past more hosts still (timed moves) → AreUnstamped starts places past more hosts still
+        → AreSo IsFreshFor (seats_of starts places) moves }
 {}
 
 /// Law: so each is heard in time where each that comes is heard.

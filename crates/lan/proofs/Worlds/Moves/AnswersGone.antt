@@ -45,7 +45,7 @@ settings_on i0 i i' has same = record {
   routes = same.routes ∙ has.routes;
 }
 
-module _ {D : Type 0} (moves : D → Move → D → Type 0) (Taken : Frames → D → Type 0) (taking : IsTaking moves Taken) (F : Frames) (i0 : InnerValue) (t : ℤ)
+module _ {D : Type 0} (moves : D → Move → D → Type 0) (Taken : Frames → D → Type 0) (taking : IsTaking moves Taken) (F : Frames) (i0 : InnerValue)
     (Begun Gives : D → Type 0) (giving : IsGiving moves Begun Gives) where
   -- so many frames more were sent, and the answer is among them
   pub record Answers (reply : Option ReplyValue) (d : D) : Type 0 where
@@ -81,7 +81,7 @@ module _ {D : Type 0} (moves : D → Move → D → Type 0) (Taken : Frames → 
       (record { i = x.inner; settings = settings; ident = small; busy = is_some x.left; what = what })
 
   planned : (d d' : D) (i i' : InnerValue) (l l' : Option LeftValue) (p : PacketValue) (plan : Plan) (sent : Sent) → GoesOut moves d i l p plan sent d' i' l'
-      → (left : Left moves Taken taking F i0 t (Unit {0}) i p plan sent d') → Begun d → Gives d' → IsWellFormed p → IsWide p
+      → (left : Left moves Taken taking F i p plan sent d') → Begun d → Gives d' → IsWellFormed p → IsWide p
       → WentAsPlanned i0 (F.gone ++ left.out.more) i p plan
   planned d d' i i' l l' p plan sent goes left begins gives formed wide = record {
     formed = formed;
@@ -91,7 +91,7 @@ module _ {D : Type 0} (moves : D → Move → D → Type 0) (Taken : Frames → 
     went_to : (to : HardwareAddress) → plan ≡ Way.Go to → GoesOut moves d i l p (Way.Go to) sent d' i' l'
         → (n : ℕ) × (slice_get (F.gone ++ left.out.more) n ≡ Some (frame_of i (Whole to (numbered i p))))
     went_to to is out =
-        subst (λ (w : Plan). WentBy i0 t (Unit {0}) (F.gone ++ left.out.more) i p w) is (left.went (went_so d d' i i' p to sent out.0 begins gives))
+        subst (λ (w : Plan). WentBy (F.gone ++ left.out.more) i p w) is (left.went (went_so d d' i i' p to sent out.0 begins gives))
 
   pub replied_left : (awaited : Bool) (reply : Option ReplyValue) (x x' : Sender D) → Replied moves awaited reply x x' → Taken F x.device → Begun x.device
       → HasSettingsOf i0 x.inner → (i0.ident < 2 ^ 16 → x.inner.ident < 2 ^ 16) → IfSome reply CanBeWide → Answers reply x'.device
@@ -106,7 +106,7 @@ module _ {D : Type 0} (moves : D → Move → D → Type 0) (Taken : Frames → 
       record { out = out; left = λ q is gives. packet_left x x'.device p out.more settings small (inl (and_parts awaited (would_ask x p) held.1).1) q is }
   replied_left awaited (Some (Replies.Answers p)) x x' (inr (sent, goes, formed, free)) taken begins settings small wide =
       let plan : Plan = plan_of x.inner (is_some x.left) p.header in
-      let left = out_by moves Taken taking F i0 t (Unit {0}) x.device x'.device x.inner x'.inner x.left x'.left p plan sent goes taken in
+      let left = out_by moves Taken taking F x.device x'.device x.inner x'.inner x.left x'.left p plan sent goes taken in
       record {
         out = left.out;
         left = λ q is gives.

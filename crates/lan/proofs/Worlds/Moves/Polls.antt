@@ -134,7 +134,7 @@ module _ {D : Type 0} (moves : D → Move → D → Type 0) (t : ℤ) (names : L
       let gave = takes moves (GaveAt s.device) (gave_back s.device) s s' (Some true) (frame, mid, took, reads, (content, is, receives)) (λ g. g) in
       let same = (receives_same moves content (at_device s mid) s' receives).0 in
       let with_it : Frames = and_taken f.frames frame in
-      let answers = replied_left moves Taken taking with_it i0 t Begun Gives giving (is_awaited a) a.reply (sender mid a.inner s.host.left) (sender_of moves s')
+      let answers = replied_left moves Taken taking with_it i0 Begun Gives giving (is_awaited a) a.reply (sender mid a.inner s.host.left) (sender_of moves s')
       receives.3 (taking.takes s.device mid s.host.inner.moment frame f.frames took f.taken) (giving.since s.device mid (Took s.host.inner.moment frame) took begins)
       (settings_on i0 s.host.inner a.inner like.settings same)
       (λ small. subst (λ (k : ℕ). k < 2 ^ 16) (sym same.ident) (like.ident small))

@@ -1,5 +1,5 @@
 -- Of each segment by which a TCP socket answers one that comes to it in a poll: it goes in a frame.
-use Rattle.std.specs.Prelude.{◌≡◌, ◌⊎◌, ℕ, ◌^◌, ◌<◌, Bool, true, List, slice_get, Some, IfSome}
+use Rattle.std.specs.Prelude.{◌≡◌, ◌⊎◌, ℕ, ◌^◌, ◌<◌, Bool, true, List, IfSome}
 use Rattle.sockets.specs.Packet.{PacketValue}
 use Rattle.sockets.specs.WellFormed.{IsWellFormed}
 use Rattle.tcp_model.specs.Arrival.{arrives}
@@ -16,6 +16,7 @@ use Rattle.interface_tables.specs.Inner.{InnerValue}
 use Rattle.lan.specs.Worlds.AtLink.Moves.{Move}
 use Rattle.lan.specs.Worlds.AtLink.Moves.Move.{Takes}
 use Rattle.lan.specs.Worlds.Moves.Made.{IsWide}
+use Rattle.lan.specs.Worlds.Moves.Went.{IsGone}
 
 -- A poll of a host: what the host was before it, and the frames that its device took in it, the oldest first.
 module _ (i0 : InnerValue) (gone : List (List ℕ)) where
@@ -23,7 +24,7 @@ module _ (i0 : InnerValue) (gone : List (List ℕ)) where
   pub record WentAsPlanned (i : InnerValue) (p : PacketValue) (plan : Plan) : Type 0 where
     pub formed : IsWellFormed p
     pub wide : IsWide p
-    pub went : (to : HardwareAddress) → plan ≡ Way.Go to → (n : ℕ) × (slice_get gone n ≡ Some (frame_of i (Whole to (numbered i p))))
+    pub went : (to : HardwareAddress) → plan ≡ Way.Go to → IsGone gone (frame_of i (Whole to (numbered i p)))
 
   -- The host was so when it answered by this packet, which waited for its next hop, or went as planned.
   pub record AnswerLeft (p : PacketValue) : Type 0 where
