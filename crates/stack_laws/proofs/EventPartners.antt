@@ -33,6 +33,7 @@ use Rattle.stack_laws.proofs.EventComes.{brought_over}
 use Rattle.stack_laws.proofs.EventLeave.{are_let_go}
 use Rattle.stack_laws.proofs.EventMoves.{events_move}
 use Rattle.stack_laws.proofs.EventReads.{are_read}
+use Rattle.stack_laws.proofs.EventStamps.{fresh_unstamped}
 use Rattle.stack_laws.proofs.EventStreams.{keep_streams}
 use Rattle.stack_laws.proofs.MovedOn as MovedOn
 use Rattle.stack_laws.proofs.StillPartners.{clocks, mid, on_between, shown, still_partners}
@@ -154,6 +155,7 @@ go_on_by_events starts past more hosts places news fresh typed still new keys te
             };
         in_time_anywhere = anywhere;
         heard_over_links = λ moves is delay linked fit. brought moves is delay linked IsHeardBy fit;
+        fresh_without_timestamps = λ moves is unstamped. fresh_unstamped starts at past more hosts still places moves (by moves is) unstamped;
         in_time_over_links = λ moves is read wait delay so streams linked fit.
             anywhere moves is read wait delay so streams (are_let_go starts fresh linked.medium seats at past more hosts still moves (by moves is) linked.leave)
             (brought moves is delay linked IsFreshFor fit);

@@ -50,7 +50,7 @@ ghost use Rattle.stack_laws.specs.Progress.Segments.{CanLeave, OffersSegment};
 ghost use Rattle.stack_laws.specs.Progress.Serving.{AreServed, GiveLeave, IsAtHost, IsAtRest, IsQuietPoll, IsReadOften, WaitsForNone, with_rest};
 ghost use Rattle.stack_laws.specs.Progress.Takings.{ComesBy, IsForHost, IsOfConnection};
 
-use super::heard::{what_links_hand_over_comes_in_time, what_links_hand_over_is_heard};
+use super::heard::{what_links_hand_over_comes_in_time, what_links_hand_over_is_heard, without_timestamps_nothing_is_old};
 use super::inboxes::ports_refuse_nothing;
 use super::partners::{moves_go_on, partners_are_reached, partners_go_on};
 
@@ -167,7 +167,8 @@ pub fn quiet_polls_go_on_in_time()
 /// themselves whether they come in time: of hosts, that they are polled in time, of links, that they give leave to send, and of users, that they read. Of
 /// the moves nothing else is asked than that each segment is heard in time, or one that equals it, or only comes, wherever it lies, where both users read
 /// and close no empty stream; and, where hosts ask for hardware addresses, that what the sockets offer goes. Over links that bring what is sent in time
-/// each comes: then no more is asked of the moves than that no segment which comes is older than TS.Recent says.
+/// each comes: then no more is asked of the moves than that no segment which comes is older than TS.Recent says; and where no timestamps were agreed on
+/// nothing is.
 pub fn partners_go_on_by_their_events()
     ensures { (starts : Starts) (past more : List Entry) (hosts : Stations) (places : Side → ℕ) (news : Side → NewSocket)
         → IsFreshWorld starts → AreTyped (more ++ past) → (still : StillRun starts (more ++ past) hosts)
@@ -185,4 +186,5 @@ pub fn partners_go_on_by_their_events()
     offers_go_while_links_give_leave();
     what_links_hand_over_comes_in_time();
     what_links_hand_over_is_heard();
+    without_timestamps_nothing_is_old();
 }
