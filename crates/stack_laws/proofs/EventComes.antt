@@ -1,12 +1,11 @@
 -- Where frames are taken in time, each segment that the socket of an end sends in the moves of events comes to the other end in time.
-use Rattle.std.proofs.Common.{◌≡◌, ◌⊎◌, inl, inr, ℕ, ◌<◌, ◌≤◌, Bool, true, ℤ, pos, ◌+ℤ◌, ◌≤ℤ◌, List, [], ◌∷◌, ◌++◌, length, Option, Some, None, refl, sym, ap, ◌∙◌, subst}
+use Rattle.std.proofs.Common.{◌≡◌, inl, inr, ℕ, ℤ, pos, ◌+ℤ◌, List, [], ◌∷◌, ◌++◌, Some, sym, ap, ◌∙◌, subst}
 use Rattle.std.specs.Prelude.{slice_get}
 use Rattle.std.specs.List.{AllByRecursion}
-use Rattle.ip_packet.specs.Ip.{destination_of, source_of}
 use Rattle.ip_wire.specs.TcpHeader.{TcpHeader}
 use Rattle.tcp_control.specs.declared.endpoints.EndpointPair.{EndpointPair}
 use Rattle.tcp_model.specs.Value.{TcpValue}
-use Rattle.tcp_tie.specs.Host.{Made, made_of}
+use Rattle.tcp_tie.specs.Host.{Made}
 use Rattle.lan_base.specs.Medium.TheVariants as Medium
 use Rattle.lan.specs.declared.at_link.history.event.Side.{Side}
 use Rattle.lan.specs.declared.at_link.history.event.Side.TheVariants.{A, B}
@@ -17,7 +16,7 @@ use Rattle.lan.specs.Worlds.AtLink.History.{Entry, opening}
 use Rattle.lan.specs.Worlds.AtLink.Kinds.{Kind, kind_of, other}
 use Rattle.lan.specs.Worlds.AtLink.Kinds.Act.{Asks, Calls, Opens, Polls, Sets}
 use Rattle.lan.specs.Worlds.AtLink.Kinds.Kind.{OfHost, OfLink}
-use Rattle.lan.specs.Worlds.AtLink.Moves.{IsRun, May, Move, Step, after, run}
+use Rattle.lan.specs.Worlds.AtLink.Moves.{IsRun, Move, Step, after, run}
 use Rattle.lan.specs.Worlds.AtLink.Moves.Move.{Invokes, Passes, Offers, Gives, Takes, Receives, Resets, Changes}
 use Rattle.lan.specs.Worlds.AtLink.Paired.{Seat}
 use Rattle.lan.specs.Worlds.AtLink.Parties.{Net}
@@ -26,7 +25,6 @@ use Rattle.lan.specs.Worlds.AtLink.Runs.{Starts}
 use Rattle.lan.specs.Worlds.AtLink.Station.{Stations}
 use Rattle.lan.specs.Worlds.AtLink.Tables.{Places}
 use Rattle.lan.specs.Worlds.Events.{AreTyped}
-use Rattle.lan.specs.Worlds.Moves.Follows.{IsNetOf}
 use Rattle.lan.specs.Worlds.Moves.Joined.{first_net}
 use Rattle.lan.specs.Worlds.Still.{StillRun, seats_of}
 use Rattle.lan.proofs.Worlds.AtLink.Runs.{Kept, fresh_kept, kept_run, step_by}
@@ -34,15 +32,15 @@ use Rattle.lan.proofs.Worlds.Moves.Calls.{names}
 use Rattle.lan.proofs.Worlds.Moves.Worlds.{fresh_net}
 use Rattle.stack_laws.specs.Progress.Carried.{AreCarried}
 use Rattle.stack_laws.specs.Progress.Ends.{AreConnected, AreEnds}
-use Rattle.stack_laws.specs.Progress.Events.{AreOfEvent, IsOfCall, IsOfPoll, MoveBy, clock_in, shown_in, untimed}
+use Rattle.stack_laws.specs.Progress.Events.{AreOfEvent, IsOfPoll, MoveBy, clock_in, shown_in, untimed}
 use Rattle.stack_laws.specs.Progress.Hearing.{AreSo, IsSoAt}
 use Rattle.stack_laws.specs.Progress.Linked.{AreLinked}
 use Rattle.stack_laws.specs.Progress.Moving as Moving
 use Rattle.stack_laws.specs.Progress.OneClock.{timed}
 use Rattle.stack_laws.specs.Progress.Serving.{GiveLeave}
-use Rattle.stack_laws.proofs.EventCarried.{AreBrought, AreFacts, BroughtIn, all_are}
+use Rattle.stack_laws.proofs.EventCarried.{AreBrought, BroughtIn, all_are}
 use Rattle.stack_laws.proofs.EventFacts as Facts
-use Rattle.stack_laws.proofs.EventFacts.{call_none, moves_run, net_at, opened_on}
+use Rattle.stack_laws.proofs.EventFacts.{call_none, moves_run}
 use Rattle.stack_laws.proofs.EventFrames.{IsFrameOf}
 use Rattle.stack_laws.proofs.EventHears.{Brings, IsBroughtBy, poll_quiet}
 use Rattle.stack_laws.proofs.EventMade.{AreOpened, IsNoReset, are_opened_then, stays_sent}

@@ -1,12 +1,8 @@
 -- What is asked of each event: that a frame which is taken brings its segment, and that a segment which is new goes in a frame.
-use Rattle.std.proofs.Common.{◌≡◌, ◌≢◌, ◌⊎◌, inl, inr, ℕ, ◌<◌, ◌≤◌, Bool, true, false, ℤ, IsTrue, List, [], ◌∷◌, ◌++◌, Option, Some, None, refl, sym, ap, ◌∙◌, subst, arith}
+use Rattle.std.proofs.Common.{◌≡◌, ◌≢◌, inl, inr, ℕ, ◌≤◌, Bool, true, false, ℤ, IsTrue, List, [], ◌∷◌, ◌++◌, Option, Some, None, refl, sym, ap, ◌∙◌, subst, arith}
 use Rattle.std.specs.Prelude.{slice_get, slice_index_or, not, ◌&&◌}
-use Rattle.std.specs.List.{AllByRecursion}
-use Rattle.ip_packet.specs.Ip.{destination_of, source_of}
 use Rattle.ip_packet.specs.declared.ip.repr.IpRepr.{IpRepr}
-use Rattle.ip_wire.specs.HardwareAddress.{HardwareAddress}
 use Rattle.ip_wire.specs.HardwareAddress.TheVariants as Hardware
-use Rattle.ip_wire.specs.IpAddress.{IpAddress}
 use Rattle.ip_wire.specs.TcpHeader.{TcpHeader}
 use Rattle.tcp_control.specs.Endpoints.{local_of, remote_of}
 use Rattle.tcp_control.specs.States.{is_listening}
@@ -18,12 +14,8 @@ use Rattle.tcp_model.specs.Value.{TcpValue}
 use Rattle.tcp_progress.specs.Arrivals.{is_synchronized}
 use Rattle.tcp_progress.proofs.Accepts.{accepted_by, between}
 use Rattle.tcp_tie.specs.Host.{Made, made_of}
-use Rattle.interface_ingress.specs.Delivered.{is_connected}
-use Rattle.interface_ingress.specs.Packet.{Segment, packet_of}
-use Rattle.interface_ingress.specs.Socket.TheVariants as Kind
 use Rattle.interface_tables.specs.Inner.{InnerValue}
 use Rattle.interface_tables.specs.Settings.{is_mtu}
-use Rattle.interface_egress.specs.Departing.{HasSettingsOf}
 use Rattle.lan_base.specs.DeviceCapabilities.{DeviceCapabilities}
 use Rattle.lan_base.specs.Medium.TheVariants as Medium
 use Rattle.lan_base.specs.Port.{has_leave}
@@ -37,10 +29,10 @@ use Rattle.lan.specs.Worlds.AtLink.Kinds.{Kind, kind_of, other}
 use Rattle.lan.specs.Worlds.AtLink.Kinds.Act.{Asks, Calls, Opens, Polls, Sets}
 use Rattle.lan.specs.Worlds.AtLink.Kinds.Kind.{OfHost, OfLink}
 use Rattle.lan.specs.Worlds.AtLink.Call.{SocketCall}
-use Rattle.lan.specs.Worlds.AtLink.Moves.{IsRun, May, Move, Step, after, run}
+use Rattle.lan.specs.Worlds.AtLink.Moves.{IsRun, Move, Step, after, run}
 use Rattle.lan.specs.Worlds.AtLink.Moves.Move.{Invokes, Passes, Offers, Gives, Takes, Receives, Resets, Changes}
 use Rattle.lan.specs.Worlds.AtLink.Paired.{Seat}
-use Rattle.lan.specs.Worlds.AtLink.Parties.{Net, party, places_of}
+use Rattle.lan.specs.Worlds.AtLink.Parties.{Net, places_of}
 use Rattle.lan.specs.Worlds.AtLink.Parties as Parties
 use Rattle.lan.specs.Worlds.AtLink.Runs.{Leads, Starts, start}
 use Rattle.lan.specs.Worlds.AtLink.Safe.{first_port}
@@ -59,17 +51,17 @@ use Rattle.lan.proofs.Worlds.Moves.Nets.{step_of}
 use Rattle.lan.proofs.Worlds.Moves.Worlds.{fresh_net}
 use Rattle.lan.proofs.Worlds.Runs.{AreWell, has_come}
 use Rattle.lan.proofs.Worlds.StillOnward.{ran, seen_in_run}
-use Rattle.stack_laws.specs.Progress.Carried.{SendsIn, TakesIn}
+use Rattle.stack_laws.specs.Progress.Carried.{SendsIn}
 use Rattle.stack_laws.specs.Progress.Ends.{AreBoth, AreConnected, AreEnds, AreThroughout, GoesAlong, IsConnected}
-use Rattle.stack_laws.specs.Progress.Events.{AreGone, AreOfEvent, HappensBy, IsOfCall, MoveBy, all_at, clock_in, shown_in, untimed}
+use Rattle.stack_laws.specs.Progress.Events.{AreGone, AreOfEvent, HappensBy, IsOfCall, MoveBy, clock_in, shown_in, untimed}
 use Rattle.stack_laws.specs.Progress.Leave.{LiesAmong}
 use Rattle.stack_laws.specs.Progress.Moving.{IsTcp}
-use Rattle.stack_laws.specs.Progress.Serving.{GiveLeave, GivesLeave, IsAtHost}
+use Rattle.stack_laws.specs.Progress.Serving.{GiveLeave, GivesLeave}
 use Rattle.stack_laws.specs.Progress.Takings.{ComesBy, IsForHost, IsOfConnection}
-use Rattle.stack_laws.proofs.EventCarried.{AreFacts, BringsAmong, IsAmong, IsFact, IsNew, WentIn}
+use Rattle.stack_laws.proofs.EventCarried.{AreFacts, BringsAmong, IsAmong, IsFact, WentIn}
 use Rattle.stack_laws.proofs.EventFrames.{IsFrameOf, can_read, for_host_same, never_same, stayed, with_routes}
 use Rattle.stack_laws.proofs.EventHeard.{IsReadyHost}
-use Rattle.stack_laws.proofs.EventHears.{Brings, IsBroughtBy}
+use Rattle.stack_laws.proofs.EventHears.{Brings}
 use Rattle.stack_laws.proofs.EventHears as Hears
 use Rattle.stack_laws.proofs.EventLeave.{on_ip, same_link}
 use Rattle.stack_laws.proofs.EventMade.{AreOpened, IsNoReset, Makes, new_of}
@@ -232,8 +224,7 @@ module _ (starts : Starts) (fresh : IsFreshWorld starts) (ip_medium : starts.a.c
       → IsRun names net steps → steps ≡ step_of s move ∷ [] → IsNoReset move → ((place : ℕ) (x : Made) → Makes place x move → ⊥)
       → WentIn Brought Frame (sent_in seats) Goes net steps
   none_goes Goes net steps s move kept opened may is quiet none =
-      subst (λ (ss : List Step). WentIn Brought Frame (sent_in seats) Goes net ss) (sym is)
-      (
+      subst (λ (ss : List Step). WentIn Brought Frame (sent_in seats) Goes net ss) (sym is) (
         λ side k new. absurd (
             let mays : IsRun names net (step_of s move ∷ []) = subst (IsRun names net) is may in
             let found = new_of ports pls seats net kept opened s move mays.0 quiet side k new.0 new.1 in

@@ -1,8 +1,7 @@
 -- A frame of a segment of a connection, as it goes from the one host and is taken by the other.
-use Rattle.std.proofs.Common.{◌≡◌, ◌≢◌, ℕ, ◌+◌, ◌^◌, ◌<◌, ◌≤◌, min, max, Bool, true, false, nat_le, not, ◌&&◌, ◌||◌, if◌then◌else◌, ℤ, List, [], ◌∷◌, length, Option, Some, None, refl, sym, ap, ◌∙◌, subst}
+use Rattle.std.proofs.Common.{◌≡◌, ℕ, ◌^◌, ◌<◌, ◌≤◌, Bool, true, false, nat_le, not, ◌&&◌, ◌||◌, if◌then◌else◌, ℤ, List, Option, Some, None, refl, sym, ap, ◌∙◌, subst}
 use Rattle.std.proofs.Common.{arith, le-leb}
 use Rattle.std.specs.Prelude.{int_lt}
-use Rattle.net_base.specs.Checksum.TheVariants as Checksum
 use Rattle.ip_packet.specs.Ip.{destination_of, source_of}
 use Rattle.ip_packet.specs.declared.ip.repr.IpRepr.{IpRepr}
 use Rattle.ip_wire.specs.AddressTests.{is_loopback, is_multicast, is_unspecified}
@@ -12,19 +11,17 @@ use Rattle.ip_wire.specs.IpAddress.{IpAddress}
 use Rattle.ip_wire.specs.IpAddress.TheVariants as Address
 use Rattle.ip_wire.specs.Tcp.{normal}
 use Rattle.ip_wire.specs.TcpHeader.{TcpHeader}
-use Rattle.tcp_control.specs.Endpoints.{local_of, remote_of}
 use Rattle.tcp_control.specs.declared.endpoints.EndpointPair.{EndpointPair}
 use Rattle.tcp_tie.specs.Host.{Made, made_of}
 use Rattle.interface_egress.specs.Departing.{HasSettingsOf}
 use Rattle.interface_egress.specs.Departure.{Whole}
 use Rattle.interface_egress.specs.GoesOut.{frame_of, numbered}
 use Rattle.interface_egress.specs.Plan.{can_be_cut, comes_from_here, long_plan, never_leaves, plan_by, plan_of, stays, total_len}
-use Rattle.interface_egress.specs.declared.plan.Plan.{Plan}
 use Rattle.interface_egress.specs.declared.plan.Plan.TheVariants as Way
-use Rattle.interface_ingress.specs.Packet.{PacketValue, Segment, packet_of}
+use Rattle.interface_ingress.specs.Packet.{Segment, packet_of}
 use Rattle.interface_ingress.specs.Sent.{AreSealed, CanBeRead}
 use Rattle.interface_ingress.specs.WellFormed.{IsWellFormed}
-use Rattle.interface_tables.specs.Inner.{InnerValue, is_foreign_loopback, is_local_broadcast, link_address, link_on, may_come_from, mtu_to}
+use Rattle.interface_tables.specs.Inner.{InnerValue, link_address, link_on, may_come_from, mtu_to}
 use Rattle.interface_tables.specs.PathMtu.{least_mtu, mtu_by, mtu_towards, narrowed, path_to}
 use Rattle.interface_tables.specs.declared.link.LinkAddress.{LinkAddress}
 use Rattle.interface_tables.specs.declared.link.LinkAddress.TheVariants as Link
@@ -32,10 +29,8 @@ use Rattle.interface_tables.specs.declared.path_mtu.Path.{Path}
 use Rattle.interface.specs.Delivered.{AreOfOneMedium}
 use Rattle.interface.specs.Ingress.{is_question}
 use Rattle.interface.specs.Taken.{CanRead, HasWidths}
-use Rattle.lan.specs.declared.at_link.history.event.Side.{Side}
 use Rattle.lan.specs.Worlds.Link.Made.{sealed}
 use Rattle.lan.proofs.Worlds.Moves.Held.{IsSeenAs}
-use Rattle.interface.proofs.Settings.{settings_then}
 use Rattle.stack_laws.specs.Progress.Delivered.{reader_of}
 use Rattle.stack_laws.specs.Progress.Ends.{GoesAlong}
 use Rattle.stack_laws.specs.Progress.Queued.{frame_under, with_ident}

@@ -1,18 +1,14 @@
 -- Each segment that the socket of an end sends in a poll goes in a frame, and a frame that the other host takes brings it to the other end.
-use Rattle.std.proofs.Common.{◌≡◌, ◌≢◌, ◌⊎◌, inl, inr, ℕ, ◌+◌, ◌<◌, ◌≤◌, Bool, true, false, if◌then◌else◌, ◌||◌, not, ℤ, IsTrue, List, [], ◌∷◌, ◌++◌, length, Option, Some, None, IfSome}
+use Rattle.std.proofs.Common.{◌≡◌, ◌≢◌, ◌⊎◌, inl, inr, ℕ, ◌≤◌, Bool, true, false, if◌then◌else◌, ◌||◌, not, ℤ, List, [], Option, Some}
 use Rattle.std.proofs.Common.{refl, sym, ap, ◌∙◌, subst, arith}
 use Rattle.std.specs.Prelude.{slice_get}
-use Rattle.std.specs.List.{AllByRecursion}
 use Rattle.ip_packet.specs.Ip.{destination_of, header_len_in, source_of}
 use Rattle.ip_packet.specs.declared.ip.repr.IpRepr.{IpRepr}
 use Rattle.ip_packet.specs.declared.ip.repr.IpRepr.TheVariants as Ip
-use Rattle.ip_wire.specs.HardwareAddress.{HardwareAddress}
 use Rattle.ip_wire.specs.HardwareAddress.TheVariants as Hardware
 use Rattle.ip_wire.specs.IpAddress.{IpAddress}
-use Rattle.ip_wire.specs.Tcp.{normal}
 use Rattle.ip_wire.specs.TcpHeader.{TcpHeader}
 use Rattle.sockets.specs.Context.{ContextValue}
-use Rattle.tcp_control.specs.Endpoints.{local_of, remote_of}
 use Rattle.tcp_control.specs.States.{is_listening}
 use Rattle.tcp_control.specs.declared.endpoints.EndpointPair.{EndpointPair}
 use Rattle.tcp_control.specs.declared.offer.OpenOffer.{OpenOffer}
@@ -27,24 +23,19 @@ use Rattle.tcp_tie.proofs.NameLaws.{answer_back, offer_between_ends}
 use Rattle.tcp_tie.proofs.NameLaws.{accepted as accepted_for}
 use Rattle.tcp_rules.proofs.ReadRules.{answers_read}
 use Rattle.interface.specs.Ingress.{is_question}
-use Rattle.interface.specs.Remote.{context_for}
 use Rattle.interface.specs.Taken.{HasWidths}
 use Rattle.interface.specs.Turn.{sourced, with_source}
-use Rattle.interface_egress.specs.Departing.{HasSettingsOf}
 use Rattle.interface_egress.specs.Departure.{Whole}
 use Rattle.interface_egress.specs.GoesOut.{frame_of, numbered}
 use Rattle.interface_egress.specs.Plan.{comes_from_here, never_leaves, plan_of, total_len}
-use Rattle.interface_egress.specs.declared.plan.Plan.{Plan}
-use Rattle.interface_egress.specs.declared.plan.Plan.TheVariants as Way
-use Rattle.interface_ingress.specs.Delivered.{packet_by}
 use Rattle.interface_ingress.specs.Packet.{PacketValue, Segment, packet_of}
 use Rattle.interface_ingress.specs.Socket.TheVariants as Kind
-use Rattle.interface_tables.specs.Inner.{InnerValue, is_foreign_loopback, may_come_from, mtu_to}
+use Rattle.interface_tables.specs.Inner.{InnerValue, is_foreign_loopback, mtu_to}
 use Rattle.ip_wire.specs.AddressTests.{is_unspecified}
 use Rattle.interface_tables.specs.Source.{source_for}
 use Rattle.lan.specs.Worlds.Link.Made.{sealed}
 use Rattle.lan.specs.Worlds.Moves.Answered.{AnswerLeft, WentAsPlanned}
-use Rattle.lan.specs.Worlds.Moves.Went.{IsGone, LeftFrom, WentBy}
+use Rattle.lan.specs.Worlds.Moves.Went.{LeftFrom, WentBy}
 use Rattle.stack_laws.specs.Progress.Ends.{GoesAlong}
 use Rattle.stack_laws.specs.Progress.Segments.{OffersSegment}
 use Rattle.stack_laws.proofs.EventFrames.{IsFrameOf, frame_made, goes_whole, never_asks, never_same, path_enough}

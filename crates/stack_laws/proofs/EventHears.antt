@@ -1,16 +1,11 @@
 -- Over a link that brings what is sent, and where hosts are polled, each segment that the socket of an end sends comes to the other end in time.
-use Rattle.std.proofs.Common.{◌≡◌, ◌≢◌, ◌⊎◌, inl, inr, ℕ, ◌<◌, ◌≤◌, Bool, true, false, ℤ, pos, ◌+ℤ◌, ◌≤ℤ◌, IsTrue, List, [], ◌∷◌, ◌++◌, length, Option, Some, None, IfSome}
-use Rattle.std.proofs.Common.{refl, sym, ap, ◌∙◌, subst, arith}
-use Rattle.std.specs.Prelude.{slice_get, slice_index_or}
+use Rattle.std.proofs.Common.{◌≡◌, ◌≢◌, ◌⊎◌, inl, inr, ℕ, Bool, true, false, ℤ, List, [], ◌∷◌, Option, Some}
+use Rattle.std.proofs.Common.{refl, sym, ap, ◌∙◌, subst}
+use Rattle.std.specs.Prelude.{slice_get}
 use Rattle.std.specs.List.{AllByRecursion}
 use Rattle.ip_packet.specs.Ip.{destination_of, source_of}
-use Rattle.ip_packet.specs.declared.ip.repr.IpRepr.{IpRepr}
-use Rattle.ip_wire.specs.HardwareAddress.TheVariants as Hardware
-use Rattle.ip_wire.specs.TcpHeader.{TcpHeader}
-use Rattle.sockets.specs.Context.{ContextValue}
 use Rattle.tcp_control.specs.States.{is_closed, is_listening}
 use Rattle.tcp_control.specs.declared.endpoints.EndpointPair.{EndpointPair}
-use Rattle.tcp_control.specs.declared.offer.OpenOffer.{OpenOffer}
 use Rattle.tcp_control.specs.declared.state.State.{State as TcpState}
 use Rattle.tcp_control.specs.declared.state.State.TheVariants as In
 use Rattle.tcp_model.specs.Arrival.{arrives}
@@ -19,9 +14,8 @@ use Rattle.tcp_model.specs.Reply.{Reply}
 use Rattle.tcp_model.specs.Value.{TcpValue}
 use Rattle.tcp_progress.specs.Arrivals.{is_synchronized}
 use Rattle.tcp_progress.specs.Sent.{is_early}
-use Rattle.tcp_tie.specs.Host.{Made, made_by, made_of}
+use Rattle.tcp_tie.specs.Host.{Made, made_of}
 use Rattle.interface_ingress.specs.Delivered.{packet_by}
-use Rattle.interface_ingress.specs.Packet.{PacketValue}
 use Rattle.interface_ingress.specs.Socket.TheVariants as Kind
 use Rattle.interface_tables.specs.Inner.{InnerValue}
 use Rattle.lan.specs.declared.at_link.history.event.Side.{Side}
@@ -31,22 +25,21 @@ use Rattle.lan.specs.Worlds.AtLink.Kinds.{other}
 use Rattle.lan.specs.Worlds.AtLink.Moves.{IsRun, May, Move, Step, after, run}
 use Rattle.lan.specs.Worlds.AtLink.Moves.Move.{Invokes, Passes, Offers, Gives, Takes, Receives, Resets, Changes}
 use Rattle.lan.specs.Worlds.AtLink.Paired.{Seat}
-use Rattle.lan.specs.Worlds.AtLink.Parties.{Net, Party, party, socket_at}
+use Rattle.lan.specs.Worlds.AtLink.Parties.{Net, party, socket_at}
 use Rattle.lan.specs.Worlds.AtLink.Parties.Socket.{Tcp}
 use Rattle.lan.specs.Worlds.AtLink.Tables.{Places}
 use Rattle.lan.specs.Worlds.Moves.Answered.{AnswerLeft, HasAnswered}
 use Rattle.lan.specs.Worlds.Moves.Went.{HasLeft, LeftFrom}
 use Rattle.lan.proofs.Worlds.AtLink.Runs.{Kept, step_by}
 use Rattle.lan.proofs.Worlds.Moves.Calls.{names}
-use Rattle.lan.proofs.Worlds.Moves.Nets.{step_of}
 use Rattle.lan.proofs.Worlds.Moves.Offering.{some_so}
 use Rattle.stack_laws.specs.Progress.Events.{IsOfPoll}
-use Rattle.stack_laws.proofs.EventCarried.{BringsAmong, WentIn}
+use Rattle.stack_laws.proofs.EventCarried.{WentIn}
 use Rattle.stack_laws.proofs.EventFrames.{IsFrameOf}
 use Rattle.stack_laws.proofs.EventHeard.{GoesIn, IsReadyHost, answer, answer_goes, offer_goes, p, packet_is}
 use Rattle.stack_laws.proofs.EventMade.{AreOpened, IsNoReset, Makes, are_opened_then, new_of}
 use Rattle.stack_laws.proofs.EventPlaces.{Later, all_moved, step_moved}
-use Rattle.stack_laws.proofs.Polls.Connected.{StaysLate, not_over, then_late}
+use Rattle.stack_laws.proofs.Polls.Connected.{StaysLate, not_over}
 
 clash : {X : Type 0} → true ≡ false → X
 clash {X} e = absurd cc

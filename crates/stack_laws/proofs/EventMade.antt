@@ -1,21 +1,21 @@
 -- Which segments of the sockets of two seats are new behind a step.
-use Rattle.std.proofs.Common.{◌≡◌, ◌≢◌, ◌⊎◌, inl, inr, ℕ, zero, suc, ◌+◌, ◌==◌, ◌<◌, ◌≤◌, Bool, true, false, ℤ, List, [], ◌∷◌, ◌++◌, length, Option, Some, None}
+use Rattle.std.proofs.Common.{◌≡◌, ◌≢◌, ◌⊎◌, inl, inr, ℕ, zero, suc, ◌+◌, ◌==◌, ◌<◌, ◌≤◌, Bool, true, false, List, [], ◌∷◌, ◌++◌, length, Option, Some, None}
 use Rattle.std.proofs.Common.{refl, sym, ap, ◌∙◌, subst, arith, length-append}
 use Rattle.std.specs.Prelude.{slice_get}
 use Rattle.std.proofs.lemmas.Bool.Decides.{eqb_tells}
-use Rattle.ip_wire.specs.Ip.{source_of, destination_of}
+use Rattle.ip_wire.specs.Ip.{destination_of}
 use Rattle.tcp_model.specs.Arrival.{arrives}
 use Rattle.tcp_model.specs.Offers.{offer_of, payload_of}
 use Rattle.tcp_model.specs.OpenOffer.{OpenOffer}
 use Rattle.tcp_model.specs.Reply.{Reply}
-use Rattle.tcp_tie.specs.Host.{IsSeenAmong, Made, and_answer, and_offer, made_by, made_of, source_port}
+use Rattle.tcp_tie.specs.Host.{IsSeenAmong, Made, and_answer, and_offer, made_by, made_of}
 use Rattle.lan.specs.declared.at_link.history.event.Side.{Side}
-use Rattle.lan.specs.declared.at_link.history.event.Side.TheVariants.{A, B}
+use Rattle.lan.specs.declared.at_link.history.event.Side.TheVariants.{A}
 use Rattle.lan.specs.declared.at_link.history.record.Opening.{Opening}
 use Rattle.lan.specs.Worlds.AtLink.Happening.{sent_by, sent_in}
-use Rattle.lan.specs.Worlds.AtLink.History.{Entry, call_of, first_of, opening, opening_by}
+use Rattle.lan.specs.Worlds.AtLink.History.{Entry, opening}
 use Rattle.lan.specs.Worlds.AtLink.Kinds.{other}
-use Rattle.lan.specs.Worlds.AtLink.Moves.{IsRun, May, Move, Step, after, history_after, offered_segments, party_after, run}
+use Rattle.lan.specs.Worlds.AtLink.Moves.{May, Move, after, history_after, offered_segments, party_after}
 use Rattle.lan.specs.Worlds.AtLink.Moves.Move.{Invokes, Passes, Offers, Gives, Takes, Receives, Resets, Changes}
 use Rattle.lan.specs.Worlds.AtLink.Paired.{Seat, from_port}
 use Rattle.lan.specs.Worlds.AtLink.Parties.{Net, Party, party, socket_at}
@@ -23,9 +23,9 @@ use Rattle.lan.specs.Worlds.AtLink.Parties.Socket.{Tcp}
 use Rattle.lan.specs.Worlds.AtLink.Tables.{Places}
 use Rattle.lan.proofs.Worlds.AtLink.Kept.{KeptFrom}
 use Rattle.lan.proofs.Worlds.AtLink.PartnerLemmas.{AreApart, opened_apart, opening_stays}
-use Rattle.lan.proofs.Worlds.AtLink.Paired.Elsewhere.{IsMoreOf, accepting_opened, answer_port, answers_more, offer_port, offers_more, unopened_silent}
+use Rattle.lan.proofs.Worlds.AtLink.Paired.Elsewhere.{IsMoreOf, answer_port, answers_more, offer_port, offers_more}
 use Rattle.lan.proofs.Worlds.AtLink.Paired.Parts.{from_apart, from_more}
-use Rattle.lan.proofs.Worlds.AtLink.Runs.{Kept, kept_at, step_by}
+use Rattle.lan.proofs.Worlds.AtLink.Runs.{Kept, kept_at}
 use Rattle.lan.proofs.Worlds.Moves.Places.{get_more}
 use Rattle.lan.proofs.Worlds.Moves.Nets.{either_side, mine, step_of, theirs}
 

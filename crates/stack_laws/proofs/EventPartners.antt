@@ -102,26 +102,26 @@ go_on_by_events starts past more hosts places news fresh typed still new keys te
     → ((s : Side) → AreEventsInTime starts places read wait s past between more hosts still) → ((s : Side) → KeepsStreamBy (places s) s past more)
     → AreLetGo seats moves → ComeFresh seats delay at moves → ComeInTime read wait delay (clock_in past) seats at_clocks at moves =
     λ moves is read wait delay so streams let_go come.
-        record {
-          opened = λ s. to_net starts places at between past ways.of s (λ v. IsOpen v.block) ((so A).opened s);
-          stay = λ s.
-              to_net starts places (run at (steps_of (moves_of moves))) hosts (more ++ past)
-              (subst (λ (ss : List Step). IsNetOf (run at ss) hosts (more ++ past)) (these moves is) ways.of_these) s
-              (λ v. is_synchronized v.block.state ≡ true) ((so A).stay s);
-          clock = λ s. upto (at_clocks s) (shown_in starts past s) (clock_in past) (them.showed places s) (so s).clock;
-          moments = at_moments starts at past more hosts moves seats at_clocks still (by moves is) (so A).one_clock;
-          asked = are_asked starts at past more hosts still places moves wait (so A).rested (by moves is) (so A).one_clock (so A).are_served;
-          let_go = let_go;
-          come = come;
-          read_in_time = λ s.
-              subst (λ (of : Side). IsReadInTime seats read (clock_in past) at of moves) (back s)
-              (are_read starts at past more hosts still seats moves (other (other s)) read (so (other s)).last (by moves is) (so (other s)).one_clock
-              (so (other s)).reads);
-          streams = λ s. keep_streams starts at past more hosts still seats moves s (by moves is) (streams s);
-          rooms = λ s.
-              subst (λ (of : Side). SocketIs seats at of (λ v. 1 ≤ room_of v.received)) (back s)
-              (to_net starts places at between past ways.of (other (other s)) (λ v. 1 ≤ room_of v.received) (so (other s)).room);
-        } in
+    record {
+      opened = λ s. to_net starts places at between past ways.of s (λ v. IsOpen v.block) ((so A).opened s);
+      stay = λ s.
+          to_net starts places (run at (steps_of (moves_of moves))) hosts (more ++ past)
+          (subst (λ (ss : List Step). IsNetOf (run at ss) hosts (more ++ past)) (these moves is) ways.of_these) s
+          (λ v. is_synchronized v.block.state ≡ true) ((so A).stay s);
+      clock = λ s. upto (at_clocks s) (shown_in starts past s) (clock_in past) (them.showed places s) (so s).clock;
+      moments = at_moments starts at past more hosts moves seats at_clocks still (by moves is) (so A).one_clock;
+      asked = are_asked starts at past more hosts still places moves wait (so A).rested (by moves is) (so A).one_clock (so A).are_served;
+      let_go = let_go;
+      come = come;
+      read_in_time = λ s.
+          subst (λ (of : Side). IsReadInTime seats read (clock_in past) at of moves) (back s)
+          (are_read starts at past more hosts still seats moves (other (other s)) read (so (other s)).last (by moves is) (so (other s)).one_clock
+          (so (other s)).reads);
+      streams = λ s. keep_streams starts at past more hosts still seats moves s (by moves is) (streams s);
+      rooms = λ s.
+          subst (λ (of : Side). SocketIs seats at of (λ v. 1 ≤ room_of v.received)) (back s)
+          (to_net starts places at between past ways.of (other (other s)) (λ v. 1 ≤ room_of v.received) (so (other s)).room);
+    } in
     let brought : (moves : List (ℤ × Happening)) → timed moves ≡ them.moves → (delay : ℕ) → AreLinked starts places delay past more hosts still
     → (IsSo : TcpValue → TcpHeader → List ℕ → Type 0) → AreSo IsSo seats moves → AreBrought IsSo seats delay at moves =
     λ moves is delay linked IsSo fit.

@@ -1,17 +1,16 @@
 -- Where no timestamps were agreed on, no segment that comes is older than TS.Recent.
-use Rattle.std.proofs.Common.{◌≡◌, ℕ, ◌&&◌, Bool, true, false, ℤ, List, [], ◌∷◌, ◌++◌, Option, Some, refl, sym, ap, ◌∙◌, subst}
+use Rattle.std.proofs.Common.{◌≡◌, ℕ, ◌&&◌, Bool, true, false, ℤ, List, [], ◌∷◌, ◌++◌, Some, sym, ap, ◌∙◌, subst}
 use Rattle.std.specs.List.{AllByRecursion}
 use Rattle.ip_wire.specs.TcpHeader.{TcpHeader}
+use Rattle.tcp_model.specs.Timestamps.{comes_older}
 use Rattle.tcp_model.specs.Value.{TcpValue}
 use Rattle.tcp_progress.specs.Arrivals.{is_synchronized}
-use Rattle.tcp_progress.specs.Clocks.{comes_older, comes_stale}
 use Rattle.tcp_progress.specs.Sent.{is_early}
 use Rattle.lan.specs.declared.at_link.history.event.Side.{Side}
-use Rattle.lan.specs.declared.at_link.history.event.Side.TheVariants.{A, B}
 use Rattle.lan.specs.Worlds.AtLink.Happening.{Happening}
 use Rattle.lan.specs.Worlds.AtLink.History.{Entry}
 use Rattle.lan.specs.Worlds.AtLink.Call.{SocketCall}
-use Rattle.lan.specs.Worlds.AtLink.Kinds.{Kind, kind_of, same_side}
+use Rattle.lan.specs.Worlds.AtLink.Kinds.{Kind, kind_of}
 use Rattle.lan.specs.Worlds.AtLink.Kinds.Act.{Asks, Calls, Opens, Polls, Sets}
 use Rattle.lan.specs.Worlds.AtLink.Kinds.Kind.{OfHost, OfLink}
 use Rattle.lan.specs.Worlds.AtLink.Moves.{IsRun, May, Move, Step, after, run}

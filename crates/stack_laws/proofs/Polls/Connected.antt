@@ -110,12 +110,12 @@ pub then_late : (v mid new : TcpValue) → StaysLate v mid → StaysLate mid new
 then_late v mid new one two =
     record { late = two.late; closed = λ over. two.closed (one.closed over); pair = by one.pair two.pair; stamps = two.stamps ∙ one.stamps }
   where
-  by : (is_closed mid.block.state ≡ true) ⊎ (mid.block.names.pair ≡ v.block.names.pair)
-      → (is_closed new.block.state ≡ true) ⊎ (new.block.names.pair ≡ mid.block.names.pair)
-      → (is_closed new.block.state ≡ true) ⊎ (new.block.names.pair ≡ v.block.names.pair)
-  by (inl over) last = inl (two.closed over)
-  by (inr same) (inl over) = inl over
-  by (inr same) (inr last) = inr (last ∙ same)
+    by : (is_closed mid.block.state ≡ true) ⊎ (mid.block.names.pair ≡ v.block.names.pair)
+        → (is_closed new.block.state ≡ true) ⊎ (new.block.names.pair ≡ mid.block.names.pair)
+        → (is_closed new.block.state ≡ true) ⊎ (new.block.names.pair ≡ v.block.names.pair)
+    by (inl over) last = inl (two.closed over)
+    by (inr same) (inl over) = inl over
+    by (inr same) (inr last) = inr (last ∙ same)
 
 module _ {D : Type 0} (moves : D → Move → D → Type 0) (t : ℤ) (from : State D) where
   event_late : (v : TcpValue) (event : Event) → IsOfPoll moves t from v event → is_early v.block.state ≡ false → StaysLate v (after v event)

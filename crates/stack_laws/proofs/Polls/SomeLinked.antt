@@ -1,5 +1,5 @@
 -- A world on numerals whose link brings what is sent at once.
-use Rattle.std.proofs.Common.{◌≡◌, ◌≢◌, ◌⊎◌, inl, inr, ℕ, ◌<◌, ltb-true, Bool, true, false, ◌||◌, None, ℤ, List, [], ◌∷◌, ◌++◌, Some, refl, sym, ap, ◌∙◌, subst, arith}
+use Rattle.std.proofs.Common.{◌≡◌, ◌≢◌, ◌⊎◌, inl, inr, ℕ, ltb-true, Bool, true, false, ◌||◌, None, ℤ, List, [], ◌∷◌, ◌++◌, refl, sym, ap, ◌∙◌, subst, arith}
 use Rattle.std.specs.Prelude.{◌≤ℤ◌, pos}
 use Rattle.std.specs.List.{AllByRecursion}
 use Rattle.std.proofs.lemmas.Int.{ints}
@@ -13,13 +13,14 @@ use Rattle.ip_wire.specs.IpAddress.{IpAddress}
 use Rattle.ip_wire.specs.IpAddress.TheVariants as Address
 use Rattle.interface.specs.Ingress.{is_read}
 use Rattle.interface_egress.specs.Plan.{never_leaves, stays}
-use Rattle.interface_ingress.specs.Handed.{names_nobody}
 use Rattle.interface_ingress.specs.Reassembled.{is_astray}
 use Rattle.interface_tables.specs.Inner.{is_for_us, is_local_broadcast, may_come_from}
-use Rattle.interface_tables.specs.PathMtu.{end_towards, mtu_towards}
+use Rattle.interface_tables.specs.PathMtu.{mtu_towards}
 use Rattle.tcp_control.specs.Endpoints.{local_of, remote_of}
 use Rattle.tcp_control.specs.declared.endpoints.AddressPair.TheVariants as Pair
 use Rattle.tcp_control.specs.declared.endpoints.EndpointPair.{EndpointPair}
+use Rattle.tcp_model.specs.Value.{TcpValue}
+use Rattle.tcp_progress.specs.Arrivals.{is_synchronized}
 use Rattle.lan.specs.declared.at_link.history.event.Side.{Side}
 use Rattle.lan.specs.declared.at_link.history.event.Side.TheVariants.{A, B}
 use Rattle.lan.specs.declared.at_link.history.answer.Answer.TheVariants as To
@@ -33,7 +34,7 @@ use Rattle.lan.specs.Worlds.AtLink.Station.{StationValue, Stations}
 use Rattle.lan.specs.Worlds.Still.{StillRun}
 use Rattle.stack_laws.specs.Progress.Carried.{AreCarried, IsOnItsWay, SendsIn, TakesIn}
 use Rattle.stack_laws.specs.Progress.Delivered.{may_be_sender}
-use Rattle.stack_laws.specs.Progress.Ends.{AreBoth, AreConnected, AreEnds, GoesAlong, IsConnected}
+use Rattle.stack_laws.specs.Progress.Ends.{AreBoth, AreConnected, AreEnds, AreThroughout, AreUnstamped, GoesAlong, IsConnected}
 use Rattle.stack_laws.specs.Progress.Leave.{LiesAmong}
 use Rattle.stack_laws.specs.Progress.Linked.{AreLinked}
 use Rattle.stack_laws.specs.Progress.Serving.{GiveLeave, IsAtHost}
@@ -71,6 +72,7 @@ module _ (side : Side) (ip : IpRepr) (along : GoesAlong (pair side) ip) where
     by B = refl
 
 lets_go : (side : Side) (ip : IpRepr) → GoesAlong (pair side) ip → never_leaves (first_host side).inner ip ≡ false
+unfolding v4_number
 lets_go side ip along =
     (λ k. stays (first_host side).inner (may_come_from (first_host side).inner (source side ip along k) (destination side ip along k)) (destination side ip along k))
     ∙ by side
@@ -84,6 +86,7 @@ abbrev nobody : Side → IpAddress → IpAddress → Bool
 nobody s a b = is_unspecified a || (is_unspecified b || (is_local_broadcast (first_host s).inner b || is_multicast b))
 
 takes_in : (side : Side) (ip : IpRepr) → GoesAlong (pair side) ip → IsForHost (first_host (other side)).inner Hardware.Ip ip
+unfolding v4_number
 takes_in side ip along = record {
   heard = refl;
   sender = ap (may_be_sender (first_host (other side)).inner) (source side ip along) ∙ sent side;
@@ -171,67 +174,58 @@ now = omega (arith, ints)
 soon : later ≤ℤ later
 soon = omega (arith, ints)
 
--- THE CONNECTION
+-- THE CONNECTION, which has no timestamps
+
+abbrev Unstamped : Side → TcpValue → Type 0
+Unstamped side v = (is_synchronized v.block.state ≡ true) × (v.block.peer.timestamps ≡ false)
 
 -- both sockets, wherever their stations are
-module _ (a b : StationValue) where
-  pub both_are : IsAtHost 0 a (IsConnected (pair A)) → IsAtHost 0 b (IsConnected (pair B)) → AreBoth (λ side. IsConnected (pair side)) place (record { a = a; b = b })
-  both_are is_a is_b A = is_a
-  both_are is_a is_b B = is_b
+module _ (IsSo : Side → TcpValue → Type 0) where
+  both_are : (a b : StationValue) → IsAtHost 0 a (IsSo A) → IsAtHost 0 b (IsSo B) → AreBoth IsSo place (record { a = a; b = b })
+  both_are a b is_a is_b A = is_a
+  both_are a b is_a is_b B = is_b
 
-a_open : IsConnected (pair A) (opened A)
-a_open = (refl, refl)
-
-a_writing : IsConnected (pair A) writing
-a_writing = (refl, refl)
-
-a_written : IsConnected (pair A) written
-unfolding v4_number mtu_towards
-a_written = (refl, refl)
-
-a_through : IsConnected (pair A) (through A)
-unfolding v4_number mtu_towards
-a_through = (refl, refl)
-
-b_open : IsConnected (pair B) (opened B)
-b_open = (refl, refl)
-
-b_heard : IsConnected (pair B) heard
-unfolding v4_number mtu_towards
-b_heard = (refl, refl)
-
-b_through : IsConnected (pair B) (through B)
-unfolding v4_number mtu_towards
-b_through = (refl, refl)
-
-are_connected : AreConnected starts place pair both_open since_open hosts stayed
-are_connected = (
-  (
+  -- through all events, where so is each socket
+  throughout : IsSo A (opened A) → IsSo A writing → IsSo A written → IsSo A (through A) → IsSo B (opened B) → IsSo B heard → IsSo B (through B)
+      → AreThroughout IsSo starts place both_open since_open hosts stayed
+  unfolding stayed asked learned handed_back told read handed sent wrote
+  throughout a_open a_writing a_written a_through b_open b_heard b_through = (
     (
       (
         (
           (
             (
               (
-                (both_are open_a (open_b []) a_open b_open, both_are writing_a (open_b []) a_writing b_open),
-                both_are (written_a []) (open_b []) a_written b_open,
+                (
+                  (both_are open_a (open_b []) a_open b_open, both_are writing_a (open_b []) a_writing b_open),
+                  both_are (written_a []) (open_b []) a_written b_open,
+                ),
+                both_are (written_a []) (open_b (push_frame ∷ [])) a_written b_open,
               ),
-              both_are (written_a []) (open_b (push_frame ∷ [])) a_written b_open,
+              both_are (written_a []) heard_b a_written b_heard,
             ),
-            both_are (written_a []) heard_b a_written b_heard,
+            both_are (written_a []) through_b a_written b_through,
           ),
-          both_are (written_a []) through_b a_written b_through,
+          both_are (written_a (last_frame ∷ [])) through_b a_written b_through,
         ),
-        both_are (written_a (last_frame ∷ [])) through_b a_written b_through,
+        both_are through_a through_b a_through b_through,
       ),
       both_are through_a through_b a_through b_through,
     ),
     both_are through_a through_b a_through b_through,
-  ),
-  both_are through_a through_b a_through b_through,
-)
+  )
+
+are_connected : AreConnected starts place pair both_open since_open hosts stayed
+unfolding v4_number mtu_towards
+are_connected =
+    throughout (λ side. IsConnected (pair side)) (refl, refl) (refl, refl) (refl, refl) (refl, refl) (refl, refl) (refl, refl) (refl, refl)
+
+are_unstamped : AreUnstamped starts place both_open since_open hosts stayed
+unfolding v4_number mtu_towards
+are_unstamped = throughout Unstamped (refl, refl) (refl, refl) (refl, refl) (refl, refl) (refl, refl) (refl, refl) (refl, refl)
 
 leaves : GiveLeave starts both_open since_open hosts stayed
+unfolding stayed asked learned handed_back told read handed sent wrote
 leaves = (((((((((tt, tt), refl), tt), refl), refl), tt), refl), tt), tt)
 
 -- THE FRAMES
@@ -291,9 +285,11 @@ abbrev Carried : (more : List Entry) (hosts : Stations) → StillRun starts (mor
 Carried more hosts still on_way = AreCarried starts 0 both_open more hosts still on_way
 
 carried1 : Carried e1 (both writing_a (open_b [])) wrote none
+unfolding wrote
 carried1 = (none, (λ side. refl), (λ side. tt), (λ side frames sends. absurd sends))
 
 carried2 : Carried e2 (both (written_a []) (open_b [])) sent text_on_way
+unfolding sent
 carried2 = (none, carried1, (λ side. tt), sends) where
   sends : (side : Side) (frames : Frames) → SendsIn (OfHost A (Polls (pos 0) 1)) (both writing_a (open_b [])) (both (written_a []) (open_b [])) side frames
       → AllByRecursion (λ frame. IsOnItsWay (text_on_way side) (pos 0) frame) frames
@@ -302,12 +298,14 @@ carried2 = (none, carried1, (λ side. tt), sends) where
   sends B frames (same, is) = apart_ab same
 
 carried3 : Carried e3 (both (written_a []) (open_b (push_frame ∷ []))) handed text_on_way
+unfolding handed
 carried3 = (text_on_way, carried2, kept, (λ side frames sends. absurd sends)) where
   kept : (side : Side) → AllByRecursion (λ x. (pos 0 ≤ℤ x.0) × (IsOnItsWay (text_on_way side) x.0 x.1 ⊎ ⊥)) (text_on_way side)
   kept A = ((now, inl (inl refl)), tt)
   kept B = tt
 
 carried4 : Carried e4 (both (written_a []) heard_b) read none
+unfolding read
 carried4 = (text_on_way, carried3, kept, sends) where
   kept : (side : Side) → AllByRecursion (λ x. (pos 0 ≤ℤ x.0)
       × (IsOnItsWay (none side) x.0 x.1 ⊎ TakesIn (OfHost B (Polls (pos 0) 1)) (both (written_a []) (open_b (push_frame ∷ []))) (other side) x.1)) (text_on_way side)
@@ -321,6 +319,7 @@ carried4 = (text_on_way, carried3, kept, sends) where
   sends B frames (same, is) = subst (AllByRecursion (λ frame. IsOnItsWay (none B) (pos 0) frame)) (sym (none_of_one syn_ack_frame frames is)) tt
 
 carried5 : Carried e5 (both (written_a []) through_b) told last_on_way
+unfolding told
 carried5 = (none, carried4, (λ side. tt), sends) where
   sends : (side : Side) (frames : Frames) → SendsIn (OfHost B (Polls later 1)) (both (written_a []) heard_b) (both (written_a []) through_b) side frames
       → AllByRecursion (λ frame. IsOnItsWay (last_on_way side) later frame) frames
@@ -329,12 +328,14 @@ carried5 = (none, carried4, (λ side. tt), sends) where
       subst (AllByRecursion (λ frame. IsOnItsWay (last_on_way B) later frame)) (sym (then_one syn_ack_frame last_frame frames is)) (inl refl, tt)
 
 carried6 : Carried e6 (both (written_a (last_frame ∷ [])) through_b) handed_back last_on_way
+unfolding handed_back
 carried6 = (last_on_way, carried5, kept, (λ side frames sends. absurd sends)) where
   kept : (side : Side) → AllByRecursion (λ x. (later ≤ℤ x.0) × (IsOnItsWay (last_on_way side) x.0 x.1 ⊎ ⊥)) (last_on_way side)
   kept A = tt
   kept B = ((soon, inl (inl refl)), tt)
 
 carried7 : Carried e7 (both through_a through_b) learned none
+unfolding learned
 carried7 = (last_on_way, carried6, kept, sends) where
   kept : (side : Side) → AllByRecursion (λ x. (later ≤ℤ x.0)
       × (IsOnItsWay (none side) x.0 x.1 ⊎ TakesIn (OfHost A (Polls later 1)) (both (written_a (last_frame ∷ [])) through_b) (other side) x.1)) (last_on_way side)
@@ -349,12 +350,15 @@ carried7 = (last_on_way, carried6, kept, sends) where
   sends B frames (same, is) = apart_ab same
 
 carried8 : Carried e8 (both through_a through_b) asked none
+unfolding asked
 carried8 = (none, carried7, (λ side. tt), (λ side frames sends. absurd sends))
 
 are_carried : Carried since_open hosts stayed none
+unfolding stayed
 are_carried = (none, carried8, (λ side. tt), (λ side frames sends. absurd sends))
 
 pub are_linked : (still : StillRun starts (since_open ++ both_open) hosts) × AreLinked starts place 0 both_open since_open hosts still
+    × AreUnstamped starts place both_open since_open hosts still
 are_linked = (
   stayed,
   record {
@@ -366,4 +370,5 @@ are_linked = (
     on_way = none;
     carried = are_carried;
   },
+  are_unstamped,
 )

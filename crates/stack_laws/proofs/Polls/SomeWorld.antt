@@ -173,7 +173,7 @@ opened_both = (
 
 -- THE TEXT
 
-pub wrote : StillRun starts told_to_send (both writing_a (open_b []))
+unfoldable pub wrote : StillRun starts told_to_send (both writing_a (open_b []))
 unfolding v4_number mtu_towards
 wrote = (
   both open_a (open_b []),
@@ -182,7 +182,7 @@ wrote = (
   both_stay writing_a (open_b []) a_behind_two b_behind_one,
 )
 
-pub sent : StillRun starts text_sent (both (written_a []) (open_b []))
+unfoldable pub sent : StillRun starts text_sent (both (written_a []) (open_b []))
 sent = (
   both writing_a (open_b []),
   wrote,
@@ -193,7 +193,7 @@ sent = (
 text_came : both (written_a []) (open_b (push_frame ∷ [])) ≡ both (written_a []) (open_b ((push_frame ++ []) ∷ []))
 text_came = ap (λ (frame : List ℕ). both (written_a []) (open_b (frame ∷ []))) (sym (append-nil push_frame))
 
-pub handed : StillRun starts text_brought (both (written_a []) (open_b (push_frame ∷ [])))
+unfoldable pub handed : StillRun starts text_brought (both (written_a []) (open_b (push_frame ∷ [])))
 handed = (
   both (written_a []) (open_b []),
   sent,
@@ -201,7 +201,7 @@ handed = (
   both_stay (written_a []) (open_b (push_frame ∷ [])) a_behind_three b_behind_one,
 )
 
-pub read : StillRun starts text_read (both (written_a []) heard_b)
+unfoldable pub read : StillRun starts text_read (both (written_a []) heard_b)
 read = (
   both (written_a []) (open_b (push_frame ∷ [])),
   handed,
@@ -211,7 +211,7 @@ read = (
 
 -- ITS ACKNOWLEDGEMENT
 
-pub told : StillRun starts last_sent (both (written_a []) through_b)
+unfoldable pub told : StillRun starts last_sent (both (written_a []) through_b)
 told = (
   both (written_a []) heard_b,
   read,
@@ -222,7 +222,7 @@ told = (
 last_came : both (written_a (last_frame ∷ [])) through_b ≡ both (written_a ((last_frame ++ []) ∷ [])) through_b
 last_came = ap (λ (frame : List ℕ). both (written_a (frame ∷ [])) through_b) (sym (append-nil last_frame))
 
-pub handed_back : StillRun starts last_brought (both (written_a (last_frame ∷ [])) through_b)
+unfoldable pub handed_back : StillRun starts last_brought (both (written_a (last_frame ∷ [])) through_b)
 handed_back = (
   both (written_a []) through_b,
   told,
@@ -230,7 +230,7 @@ handed_back = (
   both_stay (written_a (last_frame ∷ [])) through_b a_behind_three b_at_last,
 )
 
-pub learned : StillRun starts all_through (both through_a through_b)
+unfoldable pub learned : StillRun starts all_through (both through_a through_b)
 learned = (
   both (written_a (last_frame ∷ [])) through_b,
   handed_back,
@@ -240,7 +240,7 @@ learned = (
 
 -- THE QUESTIONS
 
-pub asked : StillRun starts a_asked (both through_a through_b)
+unfoldable pub asked : StillRun starts a_asked (both through_a through_b)
 unfolding v4_number mtu_towards end_towards
 asked = (
   both through_a through_b,
@@ -249,7 +249,7 @@ asked = (
   both_stay through_a through_b a_at_last b_at_last,
 )
 
-pub stays : StillRun starts history hosts
+unfoldable pub stays : StillRun starts history hosts
 unfolding v4_number mtu_towards end_towards
 stays = (
   both through_a through_b,

@@ -50,7 +50,10 @@ ghost use Rattle.stack_laws.specs.Progress.Segments.{CanLeave, OffersSegment};
 ghost use Rattle.stack_laws.specs.Progress.Serving.{AreServed, GiveLeave, IsAtHost, IsAtRest, IsQuietPoll, IsReadOften, WaitsForNone, with_rest};
 ghost use Rattle.stack_laws.specs.Progress.Takings.{ComesBy, IsForHost, IsOfConnection};
 
-use super::heard::{what_links_hand_over_comes_in_time, what_links_hand_over_is_heard, without_timestamps_nothing_is_old};
+use super::heard::{
+    what_links_hand_over_comes_in_time, what_links_hand_over_is_heard,
+    without_timestamps_nothing_is_old,
+};
 use super::inboxes::ports_refuse_nothing;
 use super::partners::{moves_go_on, partners_are_reached, partners_go_on};
 

@@ -1,10 +1,9 @@
 -- What answers a frame that was taken goes as planned, where the device gives leave.
-use Rattle.std.proofs.Common.{◌≡◌, ◌⊎◌, inl, inr, ℕ, ◌^◌, ◌<◌, Bool, true, false, ◌&&◌, List, [], ◌∷◌, ◌++◌, Option, Some, None, IfSome, is_some, refl, sym, ap, ◌∙◌, subst}
+use Rattle.std.proofs.Common.{◌≡◌, ◌⊎◌, inl, inr, ℕ, ◌^◌, ◌<◌, Bool, true, false, List, [], ◌∷◌, ◌++◌, Option, Some, None, IfSome, is_some, refl, sym, ◌∙◌, subst}
 use Rattle.std.proofs.lemmas.Bool.{and_parts}
-use Rattle.std.specs.Prelude.{ℤ, slice_get}
+use Rattle.std.specs.Prelude.{slice_get}
 use Rattle.interface.specs.Host.{Sender}
 use Rattle.interface.specs.Ingress.{Replied, is_question, would_ask}
-use Rattle.interface.specs.IpRepr.{IpRepr}
 use Rattle.interface.specs.Turn.{is_done}
 use Rattle.interface_egress.specs.Departing.{HasSettingsOf}
 use Rattle.interface_egress.specs.Departure.{Whole, Tells}
@@ -21,14 +20,14 @@ use Rattle.interface_ingress.specs.Arrives.{ReplyValue}
 use Rattle.interface_ingress.specs.HardwareAddress.{HardwareAddress}
 use Rattle.interface_ingress.specs.Kept.{HasSameSettings}
 use Rattle.interface_tables.specs.Inner.{InnerValue}
-use Rattle.lan_base.specs.Device.{Move, Denied, Emitted}
+use Rattle.lan_base.specs.Device.{Move, Denied}
 use Rattle.sockets.specs.Packet.{PacketValue}
 use Rattle.sockets.specs.WellFormed.{IsWellFormed}
 use Rattle.lan.specs.Worlds.Moves.Answered.{AnswerLeft, WentAsPlanned}
 use Rattle.lan.specs.Worlds.Moves.Made.{IsWide}
 use Rattle.lan.specs.Worlds.Moves.Went.{WentBy}
 use Rattle.lan.proofs.Worlds.Moves.Frames as Frames
-use Rattle.lan.proofs.Worlds.Moves.Frames.{Frames, IsTaking, and_gone, none_sent}
+use Rattle.lan.proofs.Worlds.Moves.Frames.{Frames, IsTaking, none_sent}
 use Rattle.lan.proofs.Worlds.Moves.Leave.{IsGiving}
 use Rattle.lan.proofs.Worlds.Moves.Leaving.{Left, out_by}
 use Rattle.lan.proofs.Worlds.Moves.Wide.{CanBeWide}

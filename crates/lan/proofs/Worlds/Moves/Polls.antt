@@ -28,7 +28,6 @@ use Rattle.lan.specs.Worlds.Moves.Follows.{sockets_of}
 use Rattle.interface.proofs.Runs.{receives_same}
 use Rattle.interface.proofs.SameHost.{place_same}
 use Rattle.interface_tables.specs.Inner.{InnerValue}
-use Rattle.lan.proofs.Worlds.Moves.Devices as Devices
 use Rattle.lan.proofs.Worlds.Moves.Devices.{piece_leaves, place_turns, takes}
 use Rattle.lan.proofs.Worlds.Moves.Following.{Follows, Reaches, narrowed, sent_more, took_one}
 use Rattle.lan.proofs.Worlds.Moves.Frames.{Frames, IsTaking, Sent, and_gone, and_taken, none_sent, sent_on}
@@ -167,15 +166,15 @@ module _ {D : Type 0} (moves : D → Move → D → Type 0) (t : ℤ) (names : L
         frames = and_gone with_it out.more;
         taken = out.taken;
         reaches = took_one names side (Stays i0 s'.host.inner) (Gives s'.device) F i0 t net end.moved.next frame end.moved.reaches (λ read. record {
-              i = s.host.inner;
-              settings = like.settings;
-              moment = like.moment;
-              timeout = s.host.timeout;
-              slots = s.host.slots;
-              content = content;
-              is = is;
-              brings = end.brings;
-            });
+          i = s.host.inner;
+          settings = like.settings;
+          moment = like.moment;
+          timeout = s.host.timeout;
+          slots = s.host.slots;
+          content = content;
+          is = is;
+          brings = end.brings;
+        });
         sockets = end.moved.sockets_are ∙ ap (λ (ps : Places). sockets_of ps) (sym receives.2);
         link = subst (λ (u : State D). L (n + 1) u p') there placed;
       }
