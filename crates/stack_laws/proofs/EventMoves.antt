@@ -426,6 +426,7 @@ module _ (starts : Starts) (fresh : IsFreshWorld starts) (past : List Entry) (ol
             pol.are_sent,
             left_narrowed (station old side).host.inner t (Stays (station old side).host.inner (station new side).host.inner)
                 ((station new side).host.inner.paths ≡ []) pol.frames.gone (λ none. (none, (all side).errors ∙ sym (was side).errors)) c.steps pol.left,
+            pol.answered,
           );
         }
 

@@ -2,6 +2,7 @@
 use Rattle.std.proofs.Common.{◌≡◌, ℕ, ◌≤◌, ℤ, ◌≤ℤ◌, true, List, [], ◌∷◌, ◌++◌, Option, None, refl, sym, ap, ◌∙◌, subst, arith}
 use Rattle.std.specs.Prelude.{slice_index_or}
 use Rattle.std.proofs.lemmas.Int.{ints}
+use Rattle.ip_wire.specs.TcpHeader.{TcpHeader}
 use Rattle.tcp_model.specs.Value.{TcpValue, room_of}
 use Rattle.tcp_progress.specs.Arrivals.{is_synchronized}
 use Rattle.tcp_progress.specs.Exchange.{IsOpen}
@@ -28,18 +29,22 @@ use Rattle.lan.proofs.Worlds.Moves.Calls.{names}
 use Rattle.lan.proofs.Worlds.Moves.Worlds.{fresh_net}
 use Rattle.stack_laws.proofs.EventAsked.{are_asked}
 use Rattle.stack_laws.proofs.EventClocks.{at_moments}
+use Rattle.stack_laws.proofs.EventComes.{brought_over}
 use Rattle.stack_laws.proofs.EventLeave.{are_let_go}
 use Rattle.stack_laws.proofs.EventMoves.{events_move}
 use Rattle.stack_laws.proofs.EventReads.{are_read}
+use Rattle.stack_laws.proofs.EventStamps.{fresh_unstamped}
 use Rattle.stack_laws.proofs.EventStreams.{keep_streams}
 use Rattle.stack_laws.proofs.MovedOn as MovedOn
 use Rattle.stack_laws.proofs.StillPartners.{clocks, mid, on_between, shown, still_partners}
 use Rattle.stack_laws.specs.Progress.ByEvents.{GoOnByEvents}
+use Rattle.stack_laws.specs.Progress.Hearing.{AreSo}
+use Rattle.stack_laws.specs.Progress.Linked.{AreLinked}
 use Rattle.stack_laws.specs.Progress.Events.{MoveBy, clock_in, shown_in, untimed}
-use Rattle.stack_laws.specs.Progress.Moving.{IsReadInTime, IsTcp, SocketIs, moves_of}
+use Rattle.stack_laws.specs.Progress.Moving.{AreBrought, AreLetGo, ComeFresh, ComeInTime, IsFreshFor, IsHeardBy, IsReadInTime, IsTcp, SocketIs, moves_of}
 use Rattle.stack_laws.specs.Progress.OneClock.{timed}
 use Rattle.stack_laws.specs.Progress.Partners.{HoldText}
-use Rattle.stack_laws.specs.Progress.Serving.{IsAtHost}
+use Rattle.stack_laws.specs.Progress.Serving.{AreEventsInTime, IsAtHost, KeepsStreamBy}
 
 upto : (a b c : ℤ) → a ≤ℤ b → b ≤ℤ c → a ≤ℤ c
 upto a b c one two = omega (arith, ints, one, two)
@@ -92,7 +97,35 @@ go_on_by_events starts past more hosts places news fresh typed still new keys te
     let these : (moves : List (ℤ × Happening)) → timed moves ≡ them.moves → ways.steps ≡ steps_of (moves_of moves) =
     λ moves is. sym them.are_these ∙ ap untimed (sym is) ∙ all_steps moves in
     let by : (moves : List (ℤ × Happening)) → timed moves ≡ them.moves → MoveBy starts at past more hosts still (timed moves) =
-    λ moves is. subst (MoveBy starts at past more hosts still) (sym is) them.of_events in (
+    λ moves is. subst (MoveBy starts at past more hosts still) (sym is) them.of_events in
+    let anywhere : (moves : List (ℤ × Happening)) → timed moves ≡ them.moves → (read wait delay : ℕ)
+    → ((s : Side) → AreEventsInTime starts places read wait s past between more hosts still) → ((s : Side) → KeepsStreamBy (places s) s past more)
+    → AreLetGo seats moves → ComeFresh seats delay at moves → ComeInTime read wait delay (clock_in past) seats at_clocks at moves =
+    λ moves is read wait delay so streams let_go come.
+    record {
+      opened = λ s. to_net starts places at between past ways.of s (λ v. IsOpen v.block) ((so A).opened s);
+      stay = λ s.
+          to_net starts places (run at (steps_of (moves_of moves))) hosts (more ++ past)
+          (subst (λ (ss : List Step). IsNetOf (run at ss) hosts (more ++ past)) (these moves is) ways.of_these) s
+          (λ v. is_synchronized v.block.state ≡ true) ((so A).stay s);
+      clock = λ s. upto (at_clocks s) (shown_in starts past s) (clock_in past) (them.showed places s) (so s).clock;
+      moments = at_moments starts at past more hosts moves seats at_clocks still (by moves is) (so A).one_clock;
+      asked = are_asked starts at past more hosts still places moves wait (so A).rested (by moves is) (so A).one_clock (so A).are_served;
+      let_go = let_go;
+      come = come;
+      read_in_time = λ s.
+          subst (λ (of : Side). IsReadInTime seats read (clock_in past) at of moves) (back s)
+          (are_read starts at past more hosts still seats moves (other (other s)) read (so (other s)).last (by moves is) (so (other s)).one_clock
+          (so (other s)).reads);
+      streams = λ s. keep_streams starts at past more hosts still seats moves s (by moves is) (streams s);
+      rooms = λ s.
+          subst (λ (of : Side). SocketIs seats at of (λ v. 1 ≤ room_of v.received)) (back s)
+          (to_net starts places at between past ways.of (other (other s)) (λ v. 1 ≤ room_of v.received) (so (other s)).room);
+    } in
+    let brought : (moves : List (ℤ × Happening)) → timed moves ≡ them.moves → (delay : ℕ) → AreLinked starts places delay past more hosts still
+    → (IsSo : TcpValue → TcpHeader → List ℕ → Type 0) → AreSo IsSo seats moves → AreBrought IsSo seats delay at moves =
+    λ moves is delay linked IsSo fit.
+    brought_over starts ways.before past more hosts still places moves delay IsSo fresh typed ways.may partners (by moves is) linked fit in (
       between,
       record {
         goes = on_between starts past more between hosts places news fresh new keys text partners was ways;
@@ -120,26 +153,11 @@ go_on_by_events starts past more hosts places news fresh typed still new keys te
               stream = subst (λ (h : List Entry). HasStream (told h side (places side))) (sym ways.of.history) so.stream;
               room = to_net starts places at between past ways.of (other side) (λ v. 1 ≤ room_of v.received) so.room;
             };
-        in_time_anywhere = λ moves is read wait delay so streams let_go come.
-            record {
-              opened = λ s. to_net starts places at between past ways.of s (λ v. IsOpen v.block) ((so A).opened s);
-              stay = λ s.
-                  to_net starts places (run at (steps_of (moves_of moves))) hosts (more ++ past)
-                  (subst (λ (ss : List Step). IsNetOf (run at ss) hosts (more ++ past)) (these moves is) ways.of_these) s
-                  (λ v. is_synchronized v.block.state ≡ true) ((so A).stay s);
-              clock = λ s. upto (at_clocks s) (shown_in starts past s) (clock_in past) (them.showed places s) (so s).clock;
-              moments = at_moments starts at past more hosts moves seats at_clocks still (by moves is) (so A).one_clock;
-              asked = are_asked starts at past more hosts still places moves wait (so A).rested (by moves is) (so A).one_clock (so A).are_served;
-              let_go = let_go;
-              come = come;
-              read_in_time = λ s.
-                  subst (λ (of : Side). IsReadInTime seats read (clock_in past) at of moves) (back s)
-                  (are_read starts at past more hosts still seats moves (other (other s)) read (so (other s)).last (by moves is) (so (other s)).one_clock
-                  (so (other s)).reads);
-              streams = λ s. keep_streams starts at past more hosts still seats moves s (by moves is) (streams s);
-              rooms = λ s.
-                  subst (λ (of : Side). SocketIs seats at of (λ v. 1 ≤ room_of v.received)) (back s)
-                  (to_net starts places at between past ways.of (other (other s)) (λ v. 1 ≤ room_of v.received) (so (other s)).room);
-            };
+        in_time_anywhere = anywhere;
+        heard_over_links = λ moves is delay linked fit. brought moves is delay linked IsHeardBy fit;
+        fresh_without_timestamps = λ moves is unstamped. fresh_unstamped starts at past more hosts still places moves (by moves is) unstamped;
+        in_time_over_links = λ moves is read wait delay so streams linked fit.
+            anywhere moves is read wait delay so streams (are_let_go starts fresh linked.medium seats at past more hosts still moves (by moves is) linked.leave)
+            (brought moves is delay linked IsFreshFor fit);
       },
     )

@@ -8,6 +8,7 @@ use Rattle.std.proofs.lemmas.Bool.Decides.{eqb_tells}
 use Rattle.std.proofs.lemmas.List.{get_or-set_same, get_or_past}
 use Rattle.ip_packet.specs.declared.ip.repr.IpRepr.{IpRepr}
 use Rattle.ip_wire.specs.HardwareAddress.{HardwareAddress}
+use Rattle.ip_wire.specs.Tcp.{normal}
 use Rattle.ip_wire.specs.TcpHeader.{TcpHeader}
 use Rattle.sockets.specs.SocketValue as Datagrams
 use Rattle.sockets.specs.Udp as Udps
@@ -26,6 +27,7 @@ use Rattle.tcp_model.specs.declared.block.Block.{Block}
 use Rattle.tcp_progress.specs.Arrivals.{is_synchronized}
 use Rattle.tcp_progress.specs.Sent.{is_early}
 use Rattle.interface_ingress.specs.Packet.{Segment, packet_of}
+use Rattle.interface_ingress.specs.Sent.{CanBeRead}
 use Rattle.interface_ingress.specs.Socket.TheVariants as Kind
 use Rattle.interface_ingress.specs.WellFormed.{IsWellFormed}
 use Rattle.interface_tables.specs.Inner.{InnerValue}
@@ -67,7 +69,7 @@ use Rattle.stack_laws.specs.Progress.Serving.{IsAtHost}
 use Rattle.stack_laws.specs.Progress.Takings.{ComesBy, IsForHost, IsOfConnection}
 use Rattle.stack_laws.proofs.EventTakes.{IsForPlace, IsForPlaceThroughout, comes_in_a_poll}
 use Rattle.stack_laws.proofs.Polls.Connected.{Has, StaysLate, arrival_late, late_at, not_over, offer_late, still_has, then_late}
-use Rattle.stack_laws.proofs.Polls.Segments.{came_between}
+use Rattle.stack_laws.proofs.Polls.Segments.{as_written, came_between, can_be_read}
 
 clash : {X : Type 0} → true ≡ false → X
 clash {X} e = absurd cc
@@ -128,13 +130,13 @@ module _ (e : Entry) (t : ℤ) (side : Side) (place : ℕ) where
   abbrev Stands : Party → TcpValue → Type 0
   Stands p v = socket_at p place ≡ Some (Tcp v)
 
-  record Later (p : Party) (v : TcpValue) : Type 0 where
+  pub record Later (p : Party) (v : TcpValue) : Type 0 where
     pub new : TcpValue
     pub stands : Stands p new
     pub stays : StaysLate v new
 
   stayed : (p : Party) (v : TcpValue) → Stands p v → is_early v.block.state ≡ false → Later p v
-  stayed p v is late = record { new = v; stands = is; stays = record { late = late; closed = λ over. over; pair = inr refl } }
+  stayed p v is late = record { new = v; stands = is; stays = record { late = late; closed = λ over. over; pair = inr refl; stamps = refl } }
 
   -- a TCP socket is exchanged
   tcp_set : (p : Party) (at : ℕ) (old new : TcpValue) → socket_at p at ≡ Some (Tcp old) → (is_early old.block.state ≡ false → StaysLate old new) →
@@ -183,13 +185,13 @@ module _ (e : Entry) (t : ℤ) (side : Side) (place : ℕ) where
   moved net (Resets x) of may v is late = absurd of
   moved net (Changes at old new) of may v is late = absurd of
 
-  step_moved : (net : Net) (s : Side) (move : Move) → s ≡ side → IsOfPoll e t move → May names net s move → (v : TcpValue) → Stands (party net side) v →
+  pub step_moved : (net : Net) (s : Side) (move : Move) → s ≡ side → IsOfPoll e t move → May names net s move → (v : TcpValue) → Stands (party net side) v →
       is_early v.block.state ≡ false → Later (party (after net (step_of s move)) side) v
   step_moved net s move same of may v is late =
       subst (λ (x : Side). Later (party (after net (step_of x move)) side) v) (sym same)
       (there net side move (λ (p : Party). Later p v) (moved net move of (subst (λ (x : Side). May names net x move) same may) v is late))
 
-  all_moved : (steps : List Step) (net : Net) (v : TcpValue) → AllByRecursion Its steps → IsRun names net steps → Stands (party net side) v →
+  pub all_moved : (steps : List Step) (net : Net) (v : TcpValue) → AllByRecursion Its steps → IsRun names net steps → Stands (party net side) v →
       is_early v.block.state ≡ false → Later (party (run net steps) side) v
   all_moved [] net v all may is late = stayed (party net side) v is late
   all_moved (step ∷ steps) net v all may is late =
@@ -266,7 +268,7 @@ module _ (e : Entry) (t : ℤ) (side : Side) (place : ℕ) where
 
 -- IN A WORLD
 
-is_tcp : (o : Option Socket) (P : TcpValue → Type 0) → IsTcp o P → (v : TcpValue) × (o ≡ Some (Tcp v)) × P v
+pub is_tcp : (o : Option Socket) (P : TcpValue → Type 0) → IsTcp o P → (v : TcpValue) × (o ≡ Some (Tcp v)) × P v
 is_tcp None P is = absurd is
 is_tcp (Some (Tcp v)) P is = (v, refl, is)
 is_tcp (Some (Udp v)) P is = absurd is
@@ -274,10 +276,34 @@ is_tcp (Some Icmp) P is = absurd is
 is_tcp (Some Raw) P is = absurd is
 
 -- the socket at a place of a host is that of a net of it
-at_net : (net : Net) (hosts : Stations) (past : List Entry) (side : Side) (place : ℕ) (P : TcpValue → Type 0) → IsNetOf net hosts past →
+pub at_net : (net : Net) (hosts : Stations) (past : List Entry) (side : Side) (place : ℕ) (P : TcpValue → Type 0) → IsNetOf net hosts past →
     IsAtHost place (station hosts side) P → (v : TcpValue) × (socket_at (party net side) place ≡ Some (Tcp v)) × P v
 at_net net hosts past side place P of is =
     is_tcp (socket_at (party net side) place) P (subst (λ (sockets : List (Option Socket)). IsTcp (slice_index_or sockets place None) P) (sym (of.sockets side)) is)
+
+-- a segment as a reader has it
+pub comes_as_read : (starts : Starts) (so_far steps : List Step) (past : List Entry) (old new : Stations) (e : Entry) (side : Side) (t : ℤ) (budget place : ℕ)
+    (i : InnerValue) (ident : ℕ) (ip : IpRepr) (header : TcpHeader) (bytes : List ℕ) (to : HardwareAddress)
+    → IsFreshWorld starts → IsRun names (first_net starts) so_far → IsNetOf (run (first_net starts) so_far) old past
+    → HappensBy starts past e old new (run (first_net starts) so_far) steps → Leads past old e new → kind_of e.event ≡ OfHost side (Polls t budget)
+    → IsTrue (has_leave (station new side).link) → HasWidths (with_ident i ident) → normal header ≡ header → CanBeRead ip (Segment header bytes)
+    → CanLeave i to (packet_of ip (Segment header bytes)) → IsWellFormed (packet_of ip (Segment header bytes))
+    → LiesAmong (station old side).link.waiting budget (frame_under i ident to (packet_of ip (Segment header bytes)))
+    → CanRead i to (reader_of (station old side).host.inner) → IsForHost (station old side).host.inner to ip
+    → IsAtHost place (station old side) (IsOfConnection ip header) → IsAtHost place (station new side) (λ w. is_synchronized w.block.state ≡ true)
+    → ComesBy side place t ip header bytes steps
+comes_as_read starts so_far steps past old new e side t budget place i ident ip header bytes to fresh ran of by leads is given wide written readable can formed
+    lies reads for_host connected still =
+    let net : Net = run (first_net starts) so_far in
+    let places : Places = places_of names (first_net starts) in
+    let kept : Kept (first_port starts) places net =
+    kept_run (first_port starts) places (first_net starts) so_far (fresh_kept (first_port starts) names (first_net starts) (fresh_net starts fresh)) ran in
+    let start = at_net net old past side place (IsOfConnection ip header) of connected in
+    let end = at_net (run net steps) new (e ∷ past) side place (λ w. is_synchronized w.block.state ≡ true) by.of still in
+    let all : AllByRecursion (Its e t side place) steps = subst (λ (k : Kind). AreOfEvent e k (shown_in starts past) steps) is by.are in
+    comes_in_a_poll starts past old new e net steps side t budget place i ident ip header bytes to by leads is given wide written readable can formed lies reads
+    for_host
+    (throughout e t side place ip header (first_port starts) places net kept refl steps all by.may start.0 end.0 start.1 start.2 end.1 end.2)
 
 pub comes_in_a_world : (starts : Starts) (so_far steps : List Step) (past : List Entry) (old new : Stations) (e : Entry) (side : Side) (t : ℤ)
     (budget place : ℕ) (i : InnerValue) (ident : ℕ) (v : TcpValue) (ip : IpRepr) (header : TcpHeader) (bytes : List ℕ) (to : HardwareAddress)
@@ -291,13 +317,5 @@ pub comes_in_a_world : (starts : Starts) (so_far steps : List Step) (past : List
     → ComesBy side place t ip header bytes steps
 comes_in_a_world starts so_far steps past old new e side t budget place i ident v ip header bytes to fresh ran of by leads is given wide offers can formed lies
     reads for_host connected still =
-    let net : Net = run (first_net starts) so_far in
-    let places : Places = places_of names (first_net starts) in
-    let kept : Kept (first_port starts) places net =
-    kept_run (first_port starts) places (first_net starts) so_far (fresh_kept (first_port starts) names (first_net starts) (fresh_net starts fresh)) ran in
-    let start = at_net net old past side place (IsOfConnection ip header) of connected in
-    let end = at_net (run net steps) new (e ∷ past) side place (λ w. is_synchronized w.block.state ≡ true) by.of still in
-    let all : AllByRecursion (Its e t side place) steps = subst (λ (k : Kind). AreOfEvent e k (shown_in starts past) steps) is by.are in
-    comes_in_a_poll starts past old new e net steps side t budget place i ident v ip header bytes to by leads is given wide offers can formed lies reads
-    for_host
-    (throughout e t side place ip header (first_port starts) places net kept refl steps all by.may start.0 end.0 start.1 start.2 end.1 end.2)
+    comes_as_read starts so_far steps past old new e side t budget place i ident ip header bytes to fresh ran of by leads is given wide
+    (as_written i v ip header bytes offers) (can_be_read i v ip header bytes offers formed) can formed lies reads for_host connected still

@@ -8,6 +8,7 @@ use Rattle.ip_packet.specs.Ip.{destination_of, source_of}
 use Rattle.ip_packet.specs.declared.ip.repr.IpRepr.{IpRepr}
 use Rattle.ip_packet.specs.declared.ip.repr.IpRepr.TheVariants as Ip
 use Rattle.ip_wire.specs.HardwareAddress.{HardwareAddress}
+use Rattle.ip_wire.specs.Tcp.{normal}
 use Rattle.ip_wire.specs.TcpHeader.{TcpHeader}
 use Rattle.ip_wire.specs.declared.ethernet.repr.EthernetRepr.{EthernetRepr}
 use Rattle.tcp_model.specs.Value.{TcpValue}
@@ -18,7 +19,7 @@ use Rattle.interface_ingress.specs.Handed.{names_nobody}
 use Rattle.interface_ingress.specs.Incoming.{IncomingValue, Ip6, IsContent}
 use Rattle.interface_ingress.specs.Packet.{PacketValue, PayloadValue, Segment, packet_of, payload_written}
 use Rattle.interface_ingress.specs.Reassembled.{Slots, bytes_at, kept, place_in, rebuilt_v6, taken_in}
-use Rattle.interface_ingress.specs.Sent.{ether_for, uncut}
+use Rattle.interface_ingress.specs.Sent.{CanBeRead, ether_for, uncut}
 use Rattle.interface_ingress.specs.Socket.{Socket}
 use Rattle.interface_ingress.specs.Socket.TheVariants as Kind
 use Rattle.interface_ingress.specs.Upper.{IsBrought, upper_header, upper_payload}
@@ -57,7 +58,7 @@ use Rattle.stack_laws.specs.Progress.Delivered.{reader_of}
 use Rattle.stack_laws.specs.Progress.Events.{AreTaken, HappensBy}
 use Rattle.stack_laws.specs.Progress.Leave.{LiesAmong}
 use Rattle.stack_laws.specs.Progress.Queued.{frame_under, with_ident}
-use Rattle.stack_laws.specs.Progress.Segments.{CanLeave, OffersSegment}
+use Rattle.stack_laws.specs.Progress.Segments.{CanLeave}
 use Rattle.stack_laws.specs.Progress.Takings.{ComesBy, IsForHost}
 use Rattle.stack_laws.proofs.Peers.Devices.{device_kept}
 use Rattle.stack_laws.proofs.Polls.Connected.{Has}
@@ -67,7 +68,7 @@ use Rattle.stack_laws.proofs.Polls.Frames.{Comes, IsInOrder, Waits, comes, ins, 
 use Rattle.stack_laws.proofs.Polls.Inboxes.{Frames, leave, ports, waiting}
 use Rattle.stack_laws.proofs.Polls.Reached.{IsNoPiece, no_piece}
 use Rattle.stack_laws.proofs.Polls.Readers.{brings, packet_read}
-use Rattle.stack_laws.proofs.Polls.Segments.{as_written, can_be_read, named_same, place_same}
+use Rattle.stack_laws.proofs.Polls.Segments.{named_same, place_same}
 use Rattle.stack_laws.proofs.Polls.Stays.{astray, for_us, heard, position_is, sender}
 
 clash : {X : Type 0} → true ≡ false → X
@@ -186,8 +187,8 @@ module _ (side : Side) (i0 : InnerValue) (t : ℤ) (net : Net) (steps : List Ste
     destination = destination;
   }
 
-  module _ (i : InnerValue) (ident : ℕ) (v : TcpValue) (ip : IpRepr) (header : TcpHeader) (bytes : List ℕ) (to : HardwareAddress)
-      (wide : HasWidths (with_ident i ident)) (offers : OffersSegment i v ip header bytes) (can : CanLeave i to (packet_of ip (Segment header bytes)))
+  module _ (i : InnerValue) (ident : ℕ) (ip : IpRepr) (header : TcpHeader) (bytes : List ℕ) (to : HardwareAddress) (wide : HasWidths (with_ident i ident))
+      (written : normal header ≡ header) (readable : CanBeRead ip (Segment header bytes)) (can : CanLeave i to (packet_of ip (Segment header bytes)))
       (formed : IsWellFormed (packet_of ip (Segment header bytes))) (reads : CanRead i to (reader_of i0)) (for_host : IsForHost i0 to ip) (padding : List ℕ)
       (moved : IsMoved side i0 t net (frame_under i ident to (packet_of ip (Segment header bytes)) ++ padding) steps) where
     abbrev p : PacketValue
@@ -210,8 +211,8 @@ module _ (side : Side) (i0 : InnerValue) (t : ℤ) (net : Net) (steps : List Ste
 
     carries : IsBrought i0.checksums read payload (Some (Segment header bytes))
     carries =
-        subst (λ (h : TcpHeader). IsBrought i0.checksums read payload (Some (Segment h bytes))) (as_written i v ip header bytes offers)
-        (brings i ident to p (reader_of i0) wide can formed reads (can_be_read i v ip header bytes offers formed))
+        subst (λ (h : TcpHeader). IsBrought i0.checksums read payload (Some (Segment h bytes))) written
+        (brings i ident to p (reader_of i0) wide can formed reads readable)
 
     content_is : moved.content ≡ content
     content_is =
@@ -358,15 +359,15 @@ module _ (old new : Stations) (side : Side) (t : ℤ) (budget : ℕ) (changed : 
   was_taken frames waited = among frames (station new side).link.waiting before frame behind (sym waited ∙ wait) fewer_wait
 
 pub comes_in_a_poll : (starts : Starts) (past : List Entry) (old new : Stations) (e : Entry) (net : Net) (steps : List Step) (side : Side) (t : ℤ)
-    (budget place : ℕ) (i : InnerValue) (ident : ℕ) (v : TcpValue) (ip : IpRepr) (header : TcpHeader) (bytes : List ℕ) (to : HardwareAddress)
+    (budget place : ℕ) (i : InnerValue) (ident : ℕ) (ip : IpRepr) (header : TcpHeader) (bytes : List ℕ) (to : HardwareAddress)
     → HappensBy starts past e old new net steps → Leads past old e new → kind_of e.event ≡ OfHost side (Polls t budget)
-    → IsTrue (has_leave (station new side).link) → HasWidths (with_ident i ident) → OffersSegment i v ip header bytes
+    → IsTrue (has_leave (station new side).link) → HasWidths (with_ident i ident) → normal header ≡ header → CanBeRead ip (Segment header bytes)
     → CanLeave i to (packet_of ip (Segment header bytes)) → IsWellFormed (packet_of ip (Segment header bytes))
     → LiesAmong (station old side).link.waiting budget (frame_under i ident to (packet_of ip (Segment header bytes)))
     → CanRead i to (reader_of (station old side).host.inner) → IsForHost (station old side).host.inner to ip
     → IsForPlaceThroughout side place ip header net steps → ComesBy side place t ip header bytes steps
-comes_in_a_poll starts past old new e net steps side t budget place i ident v ip header bytes to by leads is given wide offers can formed lies reads for_host
-    throughout =
+comes_in_a_poll starts past old new e net steps side t budget place i ident ip header bytes to by leads is given wide written readable can formed lies reads
+    for_host throughout =
     let acts = (subst (λ (k : Kind). Happens old k e.answer e.found new) is leads.happens).acts in
     let taken : AreTaken (OfHost side (Polls t budget)) old new net steps = subst (λ (k : Kind). AreTaken k old new net steps) is by.taken in
     let frame : List ℕ = frame_under i ident to (packet_of ip (Segment header bytes)) ++ lies.padding in
@@ -374,5 +375,5 @@ comes_in_a_poll starts past old new e net steps side t budget place i ident v ip
     let moved : IsMoved side (station old side).host.inner t net frame steps =
     moved_there side (station old side).host.inner t net steps lies.before frame rest.0
     (subst (λ (fs : Frames). AreMoved side (station old side).host.inner t net fs steps) rest.1 taken.2) lies.short in
-    comes_by side (station old side).host.inner t net steps i ident v ip header bytes to wide offers can formed reads for_host lies.padding moved place
+    comes_by side (station old side).host.inner t net steps i ident ip header bytes to wide written readable can formed reads for_host lies.padding moved place
     throughout

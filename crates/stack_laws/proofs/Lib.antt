@@ -22,6 +22,14 @@ pub mod EventAsked
 pub mod EventQuiet
 pub mod EventTurns
 pub mod EventReads
+pub mod EventCarried
+pub mod EventMade
+pub mod EventFrames
+pub mod EventHeard
+pub mod EventHears
+pub mod EventFacts
+pub mod EventComes
+pub mod EventStamps
 pub mod EventStreams
 pub mod EventPartners
 pub mod Blocks

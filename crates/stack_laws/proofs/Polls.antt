@@ -66,6 +66,7 @@ pub mod SomeTells
 pub mod SomeLearns
 pub mod SomeStarts
 pub mod SomeWorld
+pub mod SomeLinked
 pub mod NextAtPorts
 pub mod SomeNeighbors
 pub mod SomeExchange

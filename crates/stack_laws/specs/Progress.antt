@@ -27,6 +27,10 @@ pub mod Gone
 pub mod Takings
 pub mod OneClock
 pub mod Serving
+pub mod Carried
+pub mod Ends
+pub mod Hearing
+pub mod Linked
 pub mod ByEvents
 pub mod Edges
 pub mod EdgesMet

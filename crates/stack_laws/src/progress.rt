@@ -6,6 +6,7 @@ pub mod delivered;
 pub mod edges;
 pub mod events;
 pub mod excluded;
+pub mod heard;
 pub mod inboxes;
 pub mod met;
 pub mod neighbors;

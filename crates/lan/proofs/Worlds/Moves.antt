@@ -3,6 +3,7 @@ pub mod Devices
 pub mod Frames
 pub mod Idents
 pub mod Leaving
+pub mod AnswersGone
 pub mod Leave
 pub mod Following
 pub mod Held

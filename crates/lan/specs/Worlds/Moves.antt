@@ -8,3 +8,4 @@ pub mod Protocols
 pub mod Fit
 pub mod Taken
 pub mod Went
+pub mod Answered

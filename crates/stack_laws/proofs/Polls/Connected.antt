@@ -75,41 +75,47 @@ not_listening In.Listen late = absurd (cc)
 not_listening other late = refl
 
 -- An event of a poll leaves a socket with its connection, or one whose connection is over: the first has the same endpoints still, or its connection is
--- over; the second stays as it is.
+-- over; the second stays as it is. Whether timestamps were agreed on stays, too.
 pub record StaysLate (v new : TcpValue) : Type 0 where
   pub late : is_early new.block.state ≡ false
   pub closed : is_closed v.block.state ≡ true → is_closed new.block.state ≡ true
   pub pair : (is_closed new.block.state ≡ true) ⊎ (new.block.names.pair ≡ v.block.names.pair)
+  pub stamps : new.block.peer.timestamps ≡ v.block.peer.timestamps
 
 left_late : (v new : TcpValue) → is_early v.block.state ≡ false → is_early new.block.state ≡ false
-    → (is_closed v.block.state ≡ true → is_closed new.block.state ≡ true) → IsLeftBy v.block new.block → StaysLate v new
-left_late v new late then_late closed (inl falls) = clash (sym (early_answering v.block.state falls.answering) ∙ late)
-left_late v new late then_late closed (inr (inl keeps)) = record { late = then_late; closed = closed; pair = inr (λ k. (keeps.names k).pair) }
-left_late v new late then_late closed (inr (inr forgets)) = record { late = then_late; closed = closed; pair = inl forgets.state }
+    → (is_closed v.block.state ≡ true → is_closed new.block.state ≡ true) → new.block.peer.timestamps ≡ v.block.peer.timestamps → IsLeftBy v.block new.block
+    → StaysLate v new
+left_late v new late then_late closed stamps (inl falls) = clash (sym (early_answering v.block.state falls.answering) ∙ late)
+left_late v new late then_late closed stamps (inr (inl keeps)) =
+    record { late = then_late; closed = closed; pair = inr (λ k. (keeps.names k).pair); stamps = stamps }
+left_late v new late then_late closed stamps (inr (inr forgets)) = record { late = then_late; closed = closed; pair = inl forgets.state; stamps = stamps }
 
 renamed_late : (v new : TcpValue) (ip : IpRepr) (header : TcpHeader) → is_early v.block.state ≡ false → is_early new.block.state ≡ false
-    → (is_closed v.block.state ≡ true → is_closed new.block.state ≡ true) → IsRenamed ip header v.block new.block → StaysLate v new
-renamed_late v new ip header late then_late closed (inl opened) = clash (sym (listening_early v.block.state opened.listening) ∙ late)
-renamed_late v new ip header late then_late closed (inr left) = left_late v new late then_late closed left
+    → (is_closed v.block.state ≡ true → is_closed new.block.state ≡ true) → new.block.peer.timestamps ≡ v.block.peer.timestamps
+    → IsRenamed ip header v.block new.block → StaysLate v new
+renamed_late v new ip header late then_late closed stamps (inl opened) = clash (sym (listening_early v.block.state opened.listening) ∙ late)
+renamed_late v new ip header late then_late closed stamps (inr left) = left_late v new late then_late closed stamps left
 
 pub arrival_late : (cx : ContextValue) (v : TcpValue) (ip : IpRepr) (header : TcpHeader) (bytes : List ℕ) → is_early v.block.state ≡ false
     → StaysLate v (arrives cx v ip header bytes).socket
 arrival_late cx v ip header bytes late =
     let calm = arrival_calm cx ip header bytes v late in
-    renamed_late v (arrives cx v ip header bytes).socket ip header late (calm.early late) calm.closed (arrival_names cx v ip header bytes)
+    renamed_late v (arrives cx v ip header bytes).socket ip header late (calm.early late) calm.closed calm.stamps (arrival_names cx v ip header bytes)
 
 pub offer_late : (cx : ContextValue) (v : TcpValue) (sent : Bool) → is_early v.block.state ≡ false → StaysLate v (settled sent (offer_of cx v).socket)
-offer_late cx v true late = let calm = offer_calm cx v late in left_late v _ late (calm.early late) calm.closed (sent_names cx v)
-offer_late cx v false late = let calm = refused_calm cx v late in left_late v _ late (calm.early late) calm.closed (withheld_names cx v)
+offer_late cx v true late = let calm = offer_calm cx v late in left_late v _ late (calm.early late) calm.closed calm.stamps (sent_names cx v)
+offer_late cx v false late = let calm = refused_calm cx v late in left_late v _ late (calm.early late) calm.closed calm.stamps (withheld_names cx v)
 
 pub then_late : (v mid new : TcpValue) → StaysLate v mid → StaysLate mid new → StaysLate v new
-then_late v mid new one two = record { late = two.late; closed = λ over. two.closed (one.closed over); pair = by one.pair two.pair } where
-  by : (is_closed mid.block.state ≡ true) ⊎ (mid.block.names.pair ≡ v.block.names.pair)
-      → (is_closed new.block.state ≡ true) ⊎ (new.block.names.pair ≡ mid.block.names.pair)
-      → (is_closed new.block.state ≡ true) ⊎ (new.block.names.pair ≡ v.block.names.pair)
-  by (inl over) last = inl (two.closed over)
-  by (inr same) (inl over) = inl over
-  by (inr same) (inr last) = inr (last ∙ same)
+then_late v mid new one two =
+    record { late = two.late; closed = λ over. two.closed (one.closed over); pair = by one.pair two.pair; stamps = two.stamps ∙ one.stamps }
+  where
+    by : (is_closed mid.block.state ≡ true) ⊎ (mid.block.names.pair ≡ v.block.names.pair)
+        → (is_closed new.block.state ≡ true) ⊎ (new.block.names.pair ≡ mid.block.names.pair)
+        → (is_closed new.block.state ≡ true) ⊎ (new.block.names.pair ≡ v.block.names.pair)
+    by (inl over) last = inl (two.closed over)
+    by (inr same) (inl over) = inl over
+    by (inr same) (inr last) = inr (last ∙ same)
 
 module _ {D : Type 0} (moves : D → Move → D → Type 0) (t : ℤ) (from : State D) where
   event_late : (v : TcpValue) (event : Event) → IsOfPoll moves t from v event → is_early v.block.state ≡ false → StaysLate v (after v event)
@@ -122,7 +128,7 @@ module _ {D : Type 0} (moves : D → Move → D → Type 0) (t : ℤ) (from : St
 
   pub events_late : (v : TcpValue) (events : List Event) → AreOfPoll moves t from v events → is_early v.block.state ≡ false
       → StaysLate v (after_all v events)
-  events_late v [] are late = record { late = late; closed = λ over. over; pair = inr refl }
+  events_late v [] are late = record { late = late; closed = λ over. over; pair = inr refl; stamps = refl }
   events_late v (event ∷ events) are late =
       let one = event_late v event are.0 late in
       then_late v (after v event) (after_all (after v event) events) one (events_late (after v event) events are.1 one.late)

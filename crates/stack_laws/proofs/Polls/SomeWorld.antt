@@ -51,22 +51,22 @@ a_at_first = stays_a (pos 0) at_first (first_host A).inner.ident true
 a_behind_one : IsStill (first_host A).inner (with_next_ident (found A))
 a_behind_one = stays_a (pos 0) at_first (with_next_ident (found A)).ident false
 
-a_behind_two : IsStill (first_host A).inner a_second
+pub a_behind_two : IsStill (first_host A).inner a_second
 a_behind_two = stays_a (pos 0) at_first a_second.ident false
 
-a_behind_three : IsStill (first_host A).inner a_third
+pub a_behind_three : IsStill (first_host A).inner a_third
 a_behind_three = stays_a (pos 0) at_first a_third.ident false
 
-a_at_last : IsStill (first_host A).inner a_later
+pub a_at_last : IsStill (first_host A).inner a_later
 a_at_last = stays_a later at_later a_third.ident false
 
 b_at_first : IsStill (first_host B).inner (first_host B).inner
 b_at_first = stays_b (pos 0) at_first (first_host B).inner.ident true
 
-b_behind_one : IsStill (first_host B).inner b_first
+pub b_behind_one : IsStill (first_host B).inner b_first
 b_behind_one = stays_b (pos 0) at_first b_first.ident false
 
-b_at_last : IsStill (first_host B).inner (with_next_ident b_later)
+pub b_at_last : IsStill (first_host B).inner (with_next_ident b_later)
 b_at_last = stays_b later at_later (with_next_ident b_later).ident false
 
 -- THE CALLS
@@ -137,7 +137,7 @@ answer_came = (
 -- THE ACKNOWLEDGEMENT OF A
 
 -- a poll is taken of a host that sent one frame, or two, whatever is in them
-few : (test : List ℕ → Bool) (frame : List ℕ)
+pub few : (test : List ℕ → Bool) (frame : List ℕ)
     → first_refusal ((nat_le (2 ^ 16) (count_by test (frame ∷ []) + 1 * 2), For.TooManyCut) ∷ (false, For.Moment) ∷ []) ≡ None
 few test frame = by (test frame) where
   by : (x : Bool) → first_refusal ((nat_le (2 ^ 16) (0 + cond x 1 0 + 1 * 2), For.TooManyCut) ∷ (false, For.Moment) ∷ []) ≡ None
@@ -163,7 +163,7 @@ came = (
   both_stay open_a (answered_b (ack_frame ∷ [])) a_behind_two b_behind_one,
 )
 
-opened_both : StillRun starts both_open (both open_a (open_b []))
+pub opened_both : StillRun starts both_open (both open_a (open_b []))
 opened_both = (
   both open_a (answered_b (ack_frame ∷ [])),
   came,
@@ -173,7 +173,7 @@ opened_both = (
 
 -- THE TEXT
 
-wrote : StillRun starts told_to_send (both writing_a (open_b []))
+unfoldable pub wrote : StillRun starts told_to_send (both writing_a (open_b []))
 unfolding v4_number mtu_towards
 wrote = (
   both open_a (open_b []),
@@ -182,7 +182,7 @@ wrote = (
   both_stay writing_a (open_b []) a_behind_two b_behind_one,
 )
 
-sent : StillRun starts text_sent (both (written_a []) (open_b []))
+unfoldable pub sent : StillRun starts text_sent (both (written_a []) (open_b []))
 sent = (
   both writing_a (open_b []),
   wrote,
@@ -190,10 +190,10 @@ sent = (
   both_stay (written_a []) (open_b []) a_behind_three b_behind_one,
 )
 
-text_came : both (written_a []) (open_b (push_frame ∷ [])) ≡ both (written_a []) (open_b ((push_frame ++ []) ∷ []))
+pub text_came : both (written_a []) (open_b (push_frame ∷ [])) ≡ both (written_a []) (open_b ((push_frame ++ []) ∷ []))
 text_came = ap (λ (frame : List ℕ). both (written_a []) (open_b (frame ∷ []))) (sym (append-nil push_frame))
 
-handed : StillRun starts text_brought (both (written_a []) (open_b (push_frame ∷ [])))
+unfoldable pub handed : StillRun starts text_brought (both (written_a []) (open_b (push_frame ∷ [])))
 handed = (
   both (written_a []) (open_b []),
   sent,
@@ -201,7 +201,7 @@ handed = (
   both_stay (written_a []) (open_b (push_frame ∷ [])) a_behind_three b_behind_one,
 )
 
-read : StillRun starts text_read (both (written_a []) heard_b)
+unfoldable pub read : StillRun starts text_read (both (written_a []) heard_b)
 read = (
   both (written_a []) (open_b (push_frame ∷ [])),
   handed,
@@ -211,7 +211,7 @@ read = (
 
 -- ITS ACKNOWLEDGEMENT
 
-told : StillRun starts last_sent (both (written_a []) through_b)
+unfoldable pub told : StillRun starts last_sent (both (written_a []) through_b)
 told = (
   both (written_a []) heard_b,
   read,
@@ -219,10 +219,10 @@ told = (
   both_stay (written_a []) through_b a_behind_three b_at_last,
 )
 
-last_came : both (written_a (last_frame ∷ [])) through_b ≡ both (written_a ((last_frame ++ []) ∷ [])) through_b
+pub last_came : both (written_a (last_frame ∷ [])) through_b ≡ both (written_a ((last_frame ++ []) ∷ [])) through_b
 last_came = ap (λ (frame : List ℕ). both (written_a (frame ∷ [])) through_b) (sym (append-nil last_frame))
 
-handed_back : StillRun starts last_brought (both (written_a (last_frame ∷ [])) through_b)
+unfoldable pub handed_back : StillRun starts last_brought (both (written_a (last_frame ∷ [])) through_b)
 handed_back = (
   both (written_a []) through_b,
   told,
@@ -230,7 +230,7 @@ handed_back = (
   both_stay (written_a (last_frame ∷ [])) through_b a_behind_three b_at_last,
 )
 
-learned : StillRun starts all_through (both through_a through_b)
+unfoldable pub learned : StillRun starts all_through (both through_a through_b)
 learned = (
   both (written_a (last_frame ∷ [])) through_b,
   handed_back,
@@ -240,7 +240,7 @@ learned = (
 
 -- THE QUESTIONS
 
-asked : StillRun starts a_asked (both through_a through_b)
+unfoldable pub asked : StillRun starts a_asked (both through_a through_b)
 unfolding v4_number mtu_towards end_towards
 asked = (
   both through_a through_b,
@@ -249,7 +249,7 @@ asked = (
   both_stay through_a through_b a_at_last b_at_last,
 )
 
-pub stays : StillRun starts history hosts
+unfoldable pub stays : StillRun starts history hosts
 unfolding v4_number mtu_towards end_towards
 stays = (
   both through_a through_b,

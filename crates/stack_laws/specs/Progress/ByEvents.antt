@@ -8,8 +8,11 @@ use Rattle.lan.specs.Worlds.AtLink.Runs.{Starts}
 use Rattle.lan.specs.Worlds.AtLink.Station.{Stations}
 use Rattle.lan.specs.Worlds.Still.{StillRun, seats_of}
 use Rattle.lan_base.specs.Medium.TheVariants as Medium
+use Rattle.stack_laws.specs.Progress.Ends.{AreUnstamped}
 use Rattle.stack_laws.specs.Progress.Events.{MoveBy, clock_in}
-use Rattle.stack_laws.specs.Progress.Moving.{AreHeard, AreLetGo, ComeFresh, ComeInTime, GoOnByMoves, MoveInTime, moves_of}
+use Rattle.stack_laws.specs.Progress.Hearing.{AreSo}
+use Rattle.stack_laws.specs.Progress.Linked.{AreLinked}
+use Rattle.stack_laws.specs.Progress.Moving.{AreHeard, AreLetGo, ComeFresh, ComeInTime, GoOnByMoves, IsFreshFor, IsHeardBy, MoveInTime, moves_of}
 use Rattle.stack_laws.specs.Progress.OneClock.{timed}
 use Rattle.stack_laws.specs.Progress.Partners.{GoOnBetween}
 use Rattle.stack_laws.specs.Progress.Serving.{AreEventsInTime, GiveLeave, KeepsStreamBy}
@@ -17,7 +20,9 @@ use Rattle.stack_laws.specs.Progress.Serving.{AreEventsInTime, GiveLeave, KeepsS
 -- The sockets of two partners at the hosts between are a pair that events led to, which goes on by the moves of the later events, whatever numbers are
 -- given to the segments that come; and some fit. Over a medium that has no hardware addresses, where each link gives leave to send, what the sockets offer
 -- goes. If those events are in time, what the sockets offer goes, and each segment is heard in time, then the moves are in time. If the events are in time
--- for both, and both streams stay no empty ones, it is enough that each segment comes in time, wherever it lies.
+-- for both, and both streams stay no empty ones, it is enough that each segment comes in time, wherever it lies. Over links that bring what is sent in time
+-- each does: so of the moves nothing else is asked than that no segment which comes has a timestamp that is older than TS.Recent, as none has where no
+-- timestamps were agreed on; or that each that comes is heard.
 pub record GoOnByEvents (starts : Starts) (past : List Entry) (between : Stations) (more : List Entry) (hosts : Stations)
     (still : StillRun starts (more ++ past) hosts) (places : Side → ℕ) : Type 0 where
   pub goes : GoOnBetween starts past between (more ++ past) hosts (seats_of starts places)
@@ -36,4 +41,13 @@ pub record GoOnByEvents (starts : Starts) (past : List Entry) (between : Station
       → ((side : Side) → AreEventsInTime starts places read wait side past between more hosts still)
       → ((side : Side) → KeepsStreamBy (places side) side past more) → AreLetGo (seats_of starts places) moves
       → ComeFresh (seats_of starts places) delay goes.net moves
+      → ComeInTime read wait delay (clock_in past) (seats_of starts places) goes.clocks goes.net moves
+  pub heard_over_links : (moves : List (ℤ × Happening)) → timed moves ≡ steps → (delay : ℕ) → AreLinked starts places delay past more hosts still
+      → AreSo IsHeardBy (seats_of starts places) moves → AreHeard (seats_of starts places) delay goes.net moves
+  pub fresh_without_timestamps : (moves : List (ℤ × Happening)) → timed moves ≡ steps → AreUnstamped starts places past more hosts still
+      → AreSo IsFreshFor (seats_of starts places) moves
+  pub in_time_over_links : (moves : List (ℤ × Happening)) → timed moves ≡ steps → (read wait delay : ℕ)
+      → ((side : Side) → AreEventsInTime starts places read wait side past between more hosts still)
+      → ((side : Side) → KeepsStreamBy (places side) side past more) → AreLinked starts places delay past more hosts still
+      → AreSo IsFreshFor (seats_of starts places) moves
       → ComeInTime read wait delay (clock_in past) (seats_of starts places) goes.clocks goes.net moves

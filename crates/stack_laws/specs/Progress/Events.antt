@@ -16,6 +16,7 @@ use Rattle.lan.specs.Worlds.AtLink.Paired.{at_zero, clocks_in}
 use Rattle.lan.specs.Worlds.AtLink.Parties.{Net}
 use Rattle.lan.specs.Worlds.AtLink.Runs.{Starts, start}
 use Rattle.lan.specs.Worlds.AtLink.Station.{Stations, station}
+use Rattle.lan.specs.Worlds.Moves.Answered.{HasAnswered}
 use Rattle.lan.specs.Worlds.Moves.Follows.{IsNetOf}
 use Rattle.lan.specs.Worlds.Moves.Joined.{first_net}
 use Rattle.lan.specs.Worlds.Moves.Taken.{AreMoved}
@@ -92,11 +93,13 @@ AreTaken (OfHost side (Polls moment budget)) old new net steps =
     × AreMoved side (station old side).host.inner moment net frames steps
 AreTaken kind old new net steps = Unit {0}
 
--- The link of its host took these frames in a poll, and whatever TCP sockets offered in it, and were told that it went, left so.
+-- The link of its host took these frames in a poll, and whatever TCP sockets offered in it, and were told that it went, left so; and where the link gives
+-- leave to send behind the poll, so did whatever they answered.
 abbrev pub AreGone : Kind → Stations → Stations → List Step → Type 0
 AreGone (OfHost side (Polls moment budget)) old new steps =
     (gone : List (List ℕ)) × ((station new side).link.sent ≡ (station old side).link.sent ++ gone)
     × AllByRecursion (λ step. HasLeft (station old side).host.inner moment ((station new side).host.inner.paths ≡ []) gone step.move) steps
+    × (IsTrue (has_leave (station new side).link) → AllByRecursion (λ step. HasAnswered (station old side).host.inner gone step.move) steps)
 AreGone kind old new steps = Unit {0}
 
 -- These moves are an event's own, and lead on from a net of the hosts before it to one of those behind it.

@@ -307,3 +307,12 @@ history = entry (E.PollAt B later) (To.At None) (counts 3 2 0 0) ∷ a_asked
 
 abbrev pub hosts : Stations
 hosts = record { a = through_a; b = through_b }
+
+-- what happened since both are open
+abbrev pub since_open : List Entry
+since_open =
+    entry (E.PollAt B later) (To.At None) (counts 3 2 0 0) ∷ entry (E.PollAt A later) (To.At None) (counts 3 2 0 0)
+    ∷ entry (E.Poll A later 1) (To.Poll true) (counts 3 2 1 0) ∷ entry (E.Deliver B 1 []) To.Done (counts 3 2 0 0)
+    ∷ entry (E.Poll B later 1) (To.Poll true) (counts 3 1 0 0) ∷ entry (E.Poll B (pos 0) 1) (To.Poll true) (counts 3 1 0 1)
+    ∷ entry (E.Deliver A 2 []) To.Done (counts 3 1 0 0) ∷ entry (E.Poll A (pos 0) 1) (To.Poll true) (counts 2 1 0 0)
+    ∷ entry (E.Send A 0 text) (To.Count 3) (counts 2 1 0 0) ∷ []

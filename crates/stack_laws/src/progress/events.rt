@@ -50,6 +50,10 @@ ghost use Rattle.stack_laws.specs.Progress.Segments.{CanLeave, OffersSegment};
 ghost use Rattle.stack_laws.specs.Progress.Serving.{AreServed, GiveLeave, IsAtHost, IsAtRest, IsQuietPoll, IsReadOften, WaitsForNone, with_rest};
 ghost use Rattle.stack_laws.specs.Progress.Takings.{ComesBy, IsForHost, IsOfConnection};
 
+use super::heard::{
+    what_links_hand_over_comes_in_time, what_links_hand_over_is_heard,
+    without_timestamps_nothing_is_old,
+};
 use super::inboxes::ports_refuse_nothing;
 use super::partners::{moves_go_on, partners_are_reached, partners_go_on};
 
@@ -165,7 +169,9 @@ pub fn quiet_polls_go_on_in_time()
 /// Law: in such a world two TCP sockets that were partners before some last events go on by the moves of those events. So one can ask of the events
 /// themselves whether they come in time: of hosts, that they are polled in time, of links, that they give leave to send, and of users, that they read. Of
 /// the moves nothing else is asked than that each segment is heard in time, or one that equals it, or only comes, wherever it lies, where both users read
-/// and close no empty stream; and, where hosts ask for hardware addresses, that what the sockets offer goes.
+/// and close no empty stream; and, where hosts ask for hardware addresses, that what the sockets offer goes. Over links that bring what is sent in time
+/// each comes: then no more is asked of the moves than that no segment which comes is older than TS.Recent says; and where no timestamps were agreed on
+/// nothing is.
 pub fn partners_go_on_by_their_events()
     ensures { (starts : Starts) (past more : List Entry) (hosts : Stations) (places : Side → ℕ) (news : Side → NewSocket)
         → IsFreshWorld starts → AreTyped (more ++ past) → (still : StillRun starts (more ++ past) hosts)
@@ -181,4 +187,7 @@ pub fn partners_go_on_by_their_events()
     sockets_that_are_served_are_asked();
     users_that_read_often_read_in_time();
     offers_go_while_links_give_leave();
+    what_links_hand_over_comes_in_time();
+    what_links_hand_over_is_heard();
+    without_timestamps_nothing_is_old();
 }

@@ -1,6 +1,6 @@
 //! What is at rest has arrived.
 
-ghost use Rattle.std.specs.Prelude.{◌≡◌, ℕ, ℤ, List};
+ghost use Rattle.std.specs.Prelude.{◌≡◌, ◌++◌, ℕ, ℤ, List};
 ghost use Rattle.interface_ingress.specs.PollAt.TheVariants as At;
 ghost use Rattle.tcp_model.specs.Due.{poll_of};
 ghost use Rattle.tcp_model.specs.Value.{TcpValue};
@@ -19,6 +19,8 @@ ghost use Rattle.lan.specs.Worlds.Events.{AreTyped};
 ghost use Rattle.lan.specs.Worlds.Moves.Joined.{first_net};
 ghost use Rattle.lan.specs.Worlds.Settling.{AreAtRest};
 ghost use Rattle.lan.specs.Worlds.Still.{StillRun, seats_of};
+ghost use Rattle.stack_laws.specs.Progress.Ends.{AreUnstamped};
+ghost use Rattle.stack_laws.specs.Progress.Linked.{AreLinked};
 ghost use Rattle.stack_laws.specs.Progress.Partners.{HoldText};
 ghost use Rattle.stack_laws.specs.Progress.Settled.{HasArrived, IsConnected};
 ghost use Rattle.stack_laws.specs.Progress.SettledNumerals as Numerals;
@@ -63,7 +65,8 @@ pub fn what_has_settled_has_arrived()
 }
 
 /// Law: there is a world that settles, and meets all that this asks for, of both sides: two hosts with keys on a medium of bare packets. B listens, A connects
-/// and then writes abc, each segment is handed over as it goes, and ten milliseconds later neither wants to be polled any more: abc waits at B to be read.
+/// and then writes abc, each segment is handed over as it goes, and ten milliseconds later neither wants to be polled any more: abc waits at B to be read. Since
+/// both are open, its link brought each frame at once, and no timestamps were agreed on.
 pub fn a_world_that_settles_meets_what_is_asked()
     ensures fresh { IsFreshWorld Numerals.starts }
     ensures typed { AreTyped Numerals.history }
@@ -77,4 +80,7 @@ pub fn a_world_that_settles_meets_what_is_asked()
     ensures connected { (side : Side) → IsConnected (through side) }
     ensures rest { AreAtRest later Numerals.history }
     ensures arrived { (through B).received.waiting ≡ text }
+    ensures linked { (still : StillRun Numerals.starts (Numerals.since_open ++ Numerals.both_open) Numerals.hosts)
+        × AreLinked Numerals.starts place 0 Numerals.both_open Numerals.since_open Numerals.hosts still
+        × AreUnstamped Numerals.starts place Numerals.both_open Numerals.since_open Numerals.hosts still }
 {}

@@ -40,6 +40,7 @@ use Rattle.lan.specs.Worlds.AtLink.Moves as Moves
 use Rattle.lan.specs.Worlds.AtLink.Parties as Parties
 use Rattle.lan.specs.Worlds.AtLink.Parties.{Party, Net, party, WasMade}
 use Rattle.lan.specs.Worlds.AtLink.Safe.{seen}
+use Rattle.lan.specs.Worlds.Moves.Answered.{AnswerLeft}
 use Rattle.lan.specs.Worlds.Moves.Follows.{seen_place, sockets_of}
 use Rattle.interface_tables.specs.Inner.{InnerValue}
 use Rattle.lan.proofs.Worlds.Moves.Following.{Reaches}
@@ -165,7 +166,7 @@ module _ (names : List ℕ → Bool) (side : Side) (C G : Type 0) (F : Frames) (
         subst (λ (x : Socket). Given (slice_set places at (record { inner = Some (record item { socket = x }) }))) (sym takes)
         (moves_by names side C G F i0 t net now r move _ (found at (record item { socket = Is.Udp v }) here, accepts, made) refl
         (set_there at (record { inner = Some (record item { socket = Is.Udp (Udps.process_after v ip udp bytes) }) }))
-        (grows_to (party now side) (Moves.party_after (party now side) move) refl refl) (λ c. tt) (λ c g. tt) tt)
+        (grows_to (party now side) (Moves.party_after (party now side) move) refl refl) (λ c. tt) (λ c g. tt) tt (λ g. tt))
       where
         move : Moves.Move
         move = Moves.Receives at cx v ip udp bytes
@@ -205,6 +206,10 @@ module _ (names : List ℕ → Bool) (side : Side) (C G : Type 0) (F : Frames) (
       pub v : TcpValue
       pub are : ends.moved.reaches.steps ≡ r.steps ++ step_of side (Moves.Takes at cx v ip header bytes) ∷ []
 
+    -- what answers it goes, where the device gives leave
+    abbrev pub IsLeft : Option PacketValue → Type 0
+    IsLeft reply = G → IfSome reply (AnswerLeft i0 F.gone)
+
     abbrev Taken : ℕ → SocketStorage Socket → Type 0
     Taken at place = CameBy at (sockets_of (slice_set places at (with_change (with_segment cx ip header bytes) place)))
         (answer_in (answer_of cx ip header bytes) place.inner)
@@ -219,13 +224,13 @@ module _ (names : List ℕ → Bool) (side : Side) (C G : Type 0) (F : Frames) (
         grows_by (party now side) v (made_by reply ∷ []) [] s (d ∙ sym (append-nil (party now side).datagrams))
 
     socket_takes : (at : ℕ) (item : Item Socket) (s : Socket) → holds_at at (Some (record item { socket = s })) → accepts_segment s ip header ≡ true →
-        Taken at (record { inner = Some (record item { socket = s }) })
-    socket_takes at item (Is.Tcp v) here accepts = record {
+        IsLeft (answer_in (answer_of cx ip header bytes) (Some (record item { socket = s }))) → Taken at (record { inner = Some (record item { socket = s }) })
+    socket_takes at item (Is.Tcp v) here accepts left = record {
       ends = record {
         moved =
             moves_by names side C G F i0 t net now r move _ (found at (record item { socket = Is.Tcp v }) here, accepts, came) refl
             (set_there at (with_change (with_segment cx ip header bytes) (record { inner = Some (record item { socket = Is.Tcp v }) })))
-            (grown (Moves.party_after (party now side) move) (arrives cx v ip header bytes).answer refl refl) (λ c. (shown, made, between)) (λ c g. tt) tt;
+            (grown (Moves.party_after (party now side) move) (arrives cx v ip header bytes).answer refl refl) (λ c. (shown, made, between)) (λ c g. tt) tt left;
         made = there now side move (λ (y : Party). IfSome (packet_by (arrives cx v ip header bytes).answer) (IsMade y))
             (reply_made (Moves.party_after (party now side) move) (party now side).segments (arrives cx v ip header bytes).answer refl);
       };
@@ -234,23 +239,23 @@ module _ (names : List ℕ → Bool) (side : Side) (C G : Type 0) (F : Frames) (
     } where
       move : Moves.Move
       move = Moves.Takes at cx v ip header bytes
-    socket_takes at item (Is.Raw v) here accepts = absurd (cc)
-    socket_takes at item (Is.Icmp v) here accepts = absurd (cc)
-    socket_takes at item (Is.Udp v) here accepts = absurd (cc)
-    socket_takes at item (Is.Dhcpv4 v) here accepts = absurd (cc)
-    socket_takes at item (Is.Dns v) here accepts = absurd (cc)
+    socket_takes at item (Is.Raw v) here accepts left = absurd (cc)
+    socket_takes at item (Is.Icmp v) here accepts left = absurd (cc)
+    socket_takes at item (Is.Udp v) here accepts left = absurd (cc)
+    socket_takes at item (Is.Dhcpv4 v) here accepts left = absurd (cc)
+    socket_takes at item (Is.Dns v) here accepts left = absurd (cc)
 
     place_takes : (at : ℕ) (o : Option (Item Socket)) → holds_at at o → passes (λ s. accepts_segment s ip header) (record { inner = o }) ≡ true →
-        Taken at (record { inner = o })
-    place_takes at None here passing = absurd (cc)
-    place_takes at (Some item) here passing = socket_takes at item item.socket here passing
+        IsLeft (answer_in (answer_of cx ip header bytes) o) → Taken at (record { inner = o })
+    place_takes at None here passing left = absurd (cc)
+    place_takes at (Some item) here passing left = socket_takes at item item.socket here passing left
 
     -- nobody accepts it, and it is reset
     pub reset : (C → ⊥) → Ends (sockets_of places) (packet_by (Some (rst_reply ip header (length bytes))))
     reset none = record {
       moved =
           moves_by names side C G F i0 t net now r move (sockets_of places) refl refl has
-          (grows_by (party now side) (Moves.party_after (party now side) move) (x ∷ []) [] refl (sym (append-nil (party now side).datagrams))) none (λ c g. tt) tt;
+          (grows_by (party now side) (Moves.party_after (party now side) move) (x ∷ []) [] refl (sym (append-nil (party now side).datagrams))) none (λ c g. tt) tt (λ g. tt);
       made = there now side move (λ (y : Party). IfSome (packet_by (Some (rst_reply ip header (length bytes)))) (IsMade y))
           (reply_made (Moves.party_after (party now side) move) (party now side).segments (Some (rst_reply ip header (length bytes))) refl);
     } where
@@ -261,13 +266,14 @@ module _ (names : List ℕ → Bool) (side : Side) (C G : Type 0) (F : Frames) (
       move = Moves.Resets x
 
     -- one accepts it
-    pub segment_taken : (taken : Bool) (at : ℕ) → segment_place ip header places ≡ Some at
+    pub segment_taken : (taken : Bool) (at : ℕ) → segment_place ip header places ≡ Some at → IsLeft (segment_answer_at (Some at) cx ip header bytes taken places)
         → CameBy at (sockets_of (changed_at (with_segment cx ip header bytes) (Some at) places)) (segment_answer_at (Some at) cx ip header bytes taken places)
-    segment_taken taken at is =
+    segment_taken taken at is left =
         let first = accepted_there ip header places at free is in
         let place = get_or places at free in
         subst (λ (o : Option PacketValue). CameBy at (sockets_of (changed_at (with_segment cx ip header bytes) (Some at) places)) o)
         (sym (answer_here (answer_of cx ip header bytes) places at place (slice_get-get_or places at free first.0)))
         (subst (λ (qs : Places). CameBy at (sockets_of qs) (answer_in (answer_of cx ip header bytes) place.inner))
         (sym (changed_here (with_segment cx ip header bytes) places at place (slice_get-get_or places at free first.0)))
-        (place_takes at place.inner (first.0, refl) first.1))
+        (place_takes at place.inner (first.0, refl) first.1
+        (subst IsLeft (answer_here (answer_of cx ip header bytes) places at place (slice_get-get_or places at free first.0)) left)))

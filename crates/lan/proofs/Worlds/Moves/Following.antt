@@ -10,7 +10,7 @@ use Rattle.lan.specs.Worlds.AtLink.Parties.{Party, Net, party}
 use Rattle.lan.specs.Worlds.Moves.Made.{Grows}
 use Rattle.lan.specs.Worlds.Moves.Follows.{sockets_of}
 use Rattle.lan.specs.Worlds.Moves.Taken.{AreMoved, IsMoved}
-use Rattle.lan.proofs.Worlds.Moves.Frames.{Frames, HaveLeft, and_gone, and_taken, left_more, left_narrowed, one_moved}
+use Rattle.lan.proofs.Worlds.Moves.Frames.{Frames, HaveAnswered, HaveLeft, all_answered, and_gone, and_taken, left_more, left_narrowed, one_moved}
 use Rattle.lan.proofs.Worlds.Moves.Held.{AreHeld, Stays}
 use Rattle.lan.proofs.Worlds.Moves.Leave.{AreLet}
 
@@ -28,6 +28,7 @@ pub record Reaches (names : List ℕ → Bool) (side : Side) (C G : Type 0) (F :
   pub went : C → G → AreLet i0 t steps
   pub took : AreMoved side i0 t net F.taken steps
   pub left : HaveLeft i0 t C F.gone steps
+  pub answered : G → HaveAnswered i0 F.gone steps
 
 -- moves of this host lead to a net with these sockets, of which L holds with what was made, where Gives says what a device is that gives leave,
 -- and Taken by which frames it came to be so
@@ -54,6 +55,7 @@ narrowed names side C C' G G' F i0 t net now back gives r = record {
   went = λ c g. r.went (back c) (gives g);
   took = r.took;
   left = left_narrowed i0 t C C' F.gone back r.steps r.left;
+  answered = λ g. r.answered (gives g);
 }
 
 -- one frame more was taken
@@ -71,6 +73,7 @@ took_one names side C G F i0 t net now frame r moved = record {
   went = r.went;
   took = one_moved side i0 t net F.taken frame r.steps r.took moved;
   left = r.left;
+  answered = r.answered;
 }
 
 -- more frames were sent
@@ -87,4 +90,5 @@ sent_more names side C G F i0 t net now more r = record {
   went = r.went;
   took = r.took;
   left = left_more i0 t C F.gone more r.steps r.left;
+  answered = λ g. all_answered i0 F.gone more r.steps (r.answered g);
 }

@@ -1,5 +1,5 @@
 -- Frames that are taken and sent in a poll, the oldest first: each segment that one brings comes by a move, and each that a socket offers goes in one.
-use Rattle.std.proofs.Common.{◌≡◌, ℕ, ℤ, true, false, List, [], ◌∷◌, ◌++◌, append-nil, Option, Some, None, IfSome, sym, ap, ◌∙◌, subst, append_assoc}
+use Rattle.std.proofs.Common.{◌≡◌, ◌⊎◌, inl, inr, ℕ, ℤ, true, false, List, [], ◌∷◌, ◌++◌, append-nil, Option, Some, None, IfSome, sym, ap, ◌∙◌, subst, append_assoc}
 use Rattle.std.specs.List.{AllByRecursion}
 use Rattle.ip_tcp.specs.declared.header.TcpHeader.{TcpHeader}
 use Rattle.lan_base.specs.Device.{Move, Took, Empty, Allowed, Emitted, Denied}
@@ -7,8 +7,9 @@ use Rattle.sockets.specs.Context.{ContextValue}
 use Rattle.sockets.specs.Packet.{PacketValue, PayloadValue, ControlV4, ControlV6, Bytes, Datagram, Segment}
 use Rattle.sockets.specs.declared.socket.Socket.{Socket}
 use Rattle.sockets.specs.declared.socket.Socket.TheVariants as Is
+use Rattle.tcp_model.specs.Arrival.{arrives}
 use Rattle.tcp_model.specs.Offers.{offer_of, offered_packet}
-use Rattle.interface.specs.Ingress.{is_read}
+use Rattle.interface.specs.Ingress.{is_question, is_read}
 use Rattle.interface.specs.IpRepr.{IpRepr}
 use Rattle.interface.specs.IpRepr.TheVariants as Ip
 use Rattle.interface.specs.Turn.{sourced}
@@ -20,6 +21,7 @@ use Rattle.interface_egress.specs.declared.plan.Plan.{Plan}
 use Rattle.interface_egress.specs.declared.plan.Plan.TheVariants as Way
 use Rattle.interface_ingress.specs.IpAddress.{IpAddress}
 use Rattle.interface_ingress.specs.Arrives.{whole_after}
+use Rattle.interface_ingress.specs.Delivered.{packet_by}
 use Rattle.interface_ingress.specs.Incoming.{IncomingValue, Arp, Ip4, Ip6}
 use Rattle.interface_ingress.specs.Reassembled.{taken_in}
 use Rattle.interface_tables.specs.Inner.{InnerValue}
@@ -29,6 +31,7 @@ use Rattle.lan.specs.Worlds.AtLink.Moves.{Step}
 use Rattle.lan.specs.Worlds.AtLink.Moves.Move.{Invokes, Passes, Offers, Gives, Takes, Receives, Resets, Changes}
 use Rattle.lan.specs.Worlds.AtLink.Parties.{Net}
 use Rattle.lan.specs.Worlds.Moves.Taken.{AreMoved, BringsIn, ComesIn, ComesNext, IfSegment, IsMoved}
+use Rattle.lan.specs.Worlds.Moves.Answered.{AnswerLeft, HasAnswered, WentAsPlanned}
 use Rattle.lan.specs.Worlds.Moves.Went.{HasLeft, IsGone, LeftFrom, WentBy}
 use Rattle.lan.proofs.Worlds.Moves.Places.{get_more}
 
@@ -214,3 +217,51 @@ module _ (i0 : InnerValue) (t : ℤ) where
   pub left_more : (C : Type 0) (gone more : List (List ℕ)) (steps : List Step) → HaveLeft C gone steps → HaveLeft C (gone ++ more) steps
   left_more C gone more steps left =
       all_left C C gone (gone ++ more) (λ c. c) (λ frame is. (is.0, get_more gone more is.0 frame is.1)) steps left
+
+-- WHAT WAS ANSWERED
+
+module _ (i0 : InnerValue) where
+  abbrev pub HaveAnswered : List (List ℕ) → List Step → Type 0
+  HaveAnswered gone steps = AllByRecursion (λ step. HasAnswered i0 gone step.move) steps
+
+  pub answered-append : (gone : List (List ℕ)) (steps more : List Step) → HaveAnswered gone steps → HaveAnswered gone more → HaveAnswered gone (steps ++ more)
+  answered-append gone [] more first second = second
+  answered-append gone (step ∷ steps) more first second = (first.0, answered-append gone steps more first.1 second)
+
+  module _ (gone more : List (List ℕ)) where
+    still_as_planned : (i : InnerValue) (p : PacketValue) (plan : Plan) → WentAsPlanned i0 gone i p plan → WentAsPlanned i0 (gone ++ more) i p plan
+    still_as_planned i p plan w = record {
+      formed = w.formed;
+      wide = w.wide;
+      went = λ to is. (let n = w.went to is in (n.0, get_more gone more n.0 (frame_of i (Whole to (numbered i p))) n.1));
+    }
+
+    still_what : (i : InnerValue) (p : PacketValue) (plan : Plan) → (is_question plan ≡ true) ⊎ WentAsPlanned i0 gone i p plan →
+        (is_question plan ≡ true) ⊎ WentAsPlanned i0 (gone ++ more) i p plan
+    still_what i p plan (inl asks) = inl asks
+    still_what i p plan (inr went) = inr (still_as_planned i p plan went)
+
+    still_answered : (o : Option PacketValue) → IfSome o (AnswerLeft i0 gone) → IfSome o (AnswerLeft i0 (gone ++ more))
+    still_answered None left = tt
+    still_answered (Some p) left = record {
+      i = left.i;
+      settings = left.settings;
+      ident = left.ident;
+      busy = left.busy;
+      what = still_what left.i p (plan_of left.i left.busy p.header) left.what;
+    }
+
+    still_so : (move : Moves.Move) → HasAnswered i0 gone move → HasAnswered i0 (gone ++ more) move
+    still_so (Takes at cx v ip header bytes) left = still_answered (packet_by (arrives cx v ip header bytes).answer) left
+    still_so (Offers at cx v from sent) left = tt
+    still_so (Invokes at cx old entry call new) left = tt
+    still_so (Passes entry) left = tt
+    still_so (Gives at cx v answer new sent) left = tt
+    still_so (Receives at cx v ip udp bytes) left = tt
+    still_so (Resets x) left = tt
+    still_so (Changes at old new) left = tt
+
+    -- as more frames went
+    pub all_answered : (steps : List Step) → HaveAnswered gone steps → HaveAnswered (gone ++ more) steps
+    all_answered [] left = tt
+    all_answered (step ∷ steps) left = (still_so step.move left.0, all_answered steps left.1)

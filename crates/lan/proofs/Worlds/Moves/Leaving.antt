@@ -96,7 +96,7 @@ module _ {D : Type 0} (moves : D → Move → D → Type 0) (Taken : Frames → 
   cut d d' i i' l l' p to Outcome.Dropped goes taken = absurd goes
   cut d d' i i' l l' p to Outcome.Busy goes taken = absurd goes
 
-  out_by : (d d' : D) (i i' : InnerValue) (l l' : Option LeftValue) (p : PacketValue) (plan : Plan) (sent : Sent) →
+  pub out_by : (d d' : D) (i i' : InnerValue) (l l' : Option LeftValue) (p : PacketValue) (plan : Plan) (sent : Sent) →
       GoesOut moves d i l p plan sent d' i' l' → Taken F d → Left i p plan sent d'
   out_by d d' i i' l l' p Way.Drop sent goes taken =
       record { out = none_sent moves Taken taking F d' (kept d d' goes.1.0 taken); went = λ done. tt }

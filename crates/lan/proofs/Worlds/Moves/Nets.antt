@@ -10,10 +10,11 @@ use Rattle.tcp_tie.specs.Host.{Made}
 use Rattle.lan.proofs.Worlds.AtLink.Extended.{run-append, IsRun-append}
 use Rattle.interface_tables.specs.Inner.{InnerValue}
 use Rattle.lan.proofs.Worlds.Moves.Following.{Reaches}
-use Rattle.lan.proofs.Worlds.Moves.Frames.{Frames, all_moved_on, left-append, no_frames}
+use Rattle.lan.proofs.Worlds.Moves.Frames.{Frames, all_moved_on, answered-append, left-append, no_frames}
 use Rattle.lan.proofs.Worlds.Moves.Held.{AreHeld, IsHeld, held-append}
 use Rattle.lan.proofs.Worlds.Moves.Leave.{IsLet, let-append}
 use Rattle.lan.specs.Worlds.Moves.Made.{Grows}
+use Rattle.lan.specs.Worlds.Moves.Answered.{HasAnswered}
 use Rattle.lan.specs.Worlds.Moves.Went.{HasLeft}
 use Rattle.lan.proofs.Worlds.Moves.Places.{get_more}
 
@@ -77,13 +78,14 @@ module _ (names : List ℕ → Bool) (side : Side) (C G : Type 0) (i0 : InnerVal
     went = λ c g. tt;
     took = tt;
     left = tt;
+    answered = λ g. tt;
   }
 
 module _ (names : List ℕ → Bool) (side : Side) (C G : Type 0) (F : Frames) (i0 : InnerValue) (t : ℤ) where
   abbrev pub goes_on : (net now : Net) (move : Move) → Reaches names side C G F i0 t net now → May names now side move → history_after now.history move ≡ now.history
       → Grows (party now side) (party_after (party now side) move) → (C → IsHeld i0 t now side move) → (C → G → IsLet i0 t move) →
-      HasLeft i0 t C F.gone move → Reaches names side C G F i0 t net (after now (step_of side move))
-  goes_on net now move r may same grows held goes left = record {
+      HasLeft i0 t C F.gone move → (G → HasAnswered i0 F.gone move) → Reaches names side C G F i0 t net (after now (step_of side move))
+  goes_on net now move r may same grows held goes left answered = record {
     steps = r.steps ++ step_of side move ∷ [];
     may = IsRun-append names net r.steps (step_of side move ∷ []) r.may (subst (λ n. IsRun names n (step_of side move ∷ [])) (sym r.ends) (may, tt));
     ends = run-append net r.steps (step_of side move ∷ []) ∙ ap (λ n. after n (step_of side move)) r.ends;
@@ -96,6 +98,7 @@ module _ (names : List ℕ → Bool) (side : Side) (C G : Type 0) (F : Frames) (
     went = λ c g. let-append i0 t r.steps (step_of side move ∷ []) (r.went c g) (goes c g, tt);
     took = all_moved_on side i0 t net F.taken r.steps (step_of side move ∷ []) r.took;
     left = left-append i0 t C F.gone r.steps (step_of side move ∷ []) r.left (left, tt);
+    answered = λ g. answered-append i0 F.gone r.steps (step_of side move ∷ []) (r.answered g) (answered g, tt);
   }
 
 -- ONE MOVE
@@ -113,10 +116,11 @@ module _ (names : List ℕ → Bool) (side : Side) (C G : Type 0) (F : Frames) (
 
   abbrev pub moves_by : (move : Move) (sockets : List (Option Socket)) → May names now side move → history_after now.history move ≡ now.history
       → (party_after (party now side) move).sockets ≡ sockets → Grows (party now side) (party_after (party now side) move) →
-      (C → IsHeld i0 t now side move) → (C → G → IsLet i0 t move) → HasLeft i0 t C F.gone move → Moved names side C G F i0 t net now sockets
-  moves_by move sockets may same sockets_are grows held goes left = record {
+      (C → IsHeld i0 t now side move) → (C → G → IsLet i0 t move) → HasLeft i0 t C F.gone move → (G → HasAnswered i0 F.gone move) →
+      Moved names side C G F i0 t net now sockets
+  moves_by move sockets may same sockets_are grows held goes left answered = record {
     next = after now (step_of side move);
-    reaches = goes_on names side C G F i0 t net now move r may same grows held goes left;
+    reaches = goes_on names side C G F i0 t net now move r may same grows held goes left answered;
     sockets_are = ap (λ (p : Party). p.sockets) (mine now side move) ∙ sockets_are;
     grows = there now side move (Grows (party now side)) grows;
   }

@@ -17,7 +17,7 @@ use Rattle.lan.specs.Worlds.Moves.Follows.{IsNetOf, Comes, sockets_of}
 use Rattle.interface_tables.specs.Inner.{InnerValue}
 use Rattle.lan.specs.Worlds.AtLink.Moves as Moves
 use Rattle.lan.proofs.Worlds.Moves.Following.{Follows}
-use Rattle.lan.proofs.Worlds.Moves.Frames.{Frames, HaveLeft, all_moved_on, left-append, no_frames}
+use Rattle.lan.proofs.Worlds.Moves.Frames.{Frames, HaveAnswered, HaveLeft, all_moved_on, answered-append, left-append, no_frames}
 use Rattle.lan.proofs.Worlds.Moves.Held.{AreHeld, Stays, held-append}
 use Rattle.lan.proofs.Worlds.Moves.Later.{since_itself}
 use Rattle.lan.proofs.Worlds.Moves.Leave.{AreLet, let-append}
@@ -49,6 +49,7 @@ pub record Polled (i0 : InnerValue) (waits sent : List (List ℕ)) (t : ℤ) (ne
   pub took : AreMoved side i0 t net frames.taken comes.steps
   pub are_sent : (station new side).link.sent ≡ sent ++ frames.gone
   pub left : HaveLeft i0 t (Stays i0 (station new side).host.inner) frames.gone comes.steps
+  pub answered : IsTrue (has_leave (station new side).link) → HaveAnswered i0 frames.gone comes.steps
   pub went : Stays i0 (station new side).host.inner → IsTrue (has_leave (station new side).link) → AreLet i0 t comes.steps
 
 module _ (net : Net) (old new : Stations) (past : List Entry) (e : Entry) (side : Side) (t : ℤ) (budget n : ℕ) (L : ℕ → State PortValue → Party →
@@ -93,6 +94,7 @@ module _ (net : Net) (old new : Stations) (past : List Entry) (e : Entry) (side 
     took = all_moved_on side i0 t net f.frames.taken f.reaches.steps (step_of side (Moves.Passes e) ∷ []) f.reaches.took;
     are_sent = sym (ap (λ (l : LinkEnd). l.sent) end) ∙ f.taken.1;
     left = left-append i0 t (Stays i0 (station new side).host.inner) f.frames.gone f.reaches.steps (step_of side (Moves.Passes e) ∷ []) f.reaches.left (tt, tt);
+    answered = λ given. answered-append i0 f.frames.gone f.reaches.steps (step_of side (Moves.Passes e) ∷ []) (f.reaches.answered (gave p end none given)) (tt, tt);
     went = λ c given. let-append i0 t f.reaches.steps (step_of side (Moves.Passes e) ∷ []) (f.reaches.went c (gave p end none given)) (tt, tt);
   }
 

@@ -1,5 +1,5 @@
 -- A poll of a host is a run of moves.
-use Rattle.std.proofs.Common.{◌≡◌, ◌≤◌, ◌+◌, ◌*◌, arith, ℕ, Bool, true, false, inl, inr, List, Option, Some, None, IfSome, refl, sym, ap, ◌∙◌, subst}
+use Rattle.std.proofs.Common.{◌≡◌, ◌<◌, ◌≤◌, ◌+◌, ◌*◌, ◌^◌, arith, ℕ, Bool, true, false, inl, inr, List, Option, Some, None, IfSome, refl, sym, ap, ◌∙◌, subst}
 use Rattle.std.specs.Prelude.{ℤ}
 use Rattle.std.proofs.Math.Nat.{mul-le-mul_left}
 use Rattle.lan_base.specs.Device.{Move, Empty, Took}
@@ -28,11 +28,11 @@ use Rattle.lan.specs.Worlds.Moves.Follows.{sockets_of}
 use Rattle.interface.proofs.Runs.{receives_same}
 use Rattle.interface.proofs.SameHost.{place_same}
 use Rattle.interface_tables.specs.Inner.{InnerValue}
-use Rattle.lan.proofs.Worlds.Moves.Devices as Devices
 use Rattle.lan.proofs.Worlds.Moves.Devices.{piece_leaves, place_turns, takes}
 use Rattle.lan.proofs.Worlds.Moves.Following.{Follows, Reaches, narrowed, sent_more, took_one}
 use Rattle.lan.proofs.Worlds.Moves.Frames.{Frames, IsTaking, Sent, and_gone, and_taken, none_sent, sent_on}
 use Rattle.lan.proofs.Worlds.Moves.Held.{IsAsAt, Stays, stays_before}
+use Rattle.lan.proofs.Worlds.Moves.AnswersGone.{replied_left, settings_on}
 use Rattle.lan.proofs.Worlds.Moves.Idents.{StaysSmall, small_counted}
 use Rattle.lan.proofs.Worlds.Moves.Later.{IsSince, as_since, brings_later, brought_home, since_arrival, since_begun, since_out, stayed}
 use Rattle.lan.proofs.Worlds.Moves.Leave.{IsGiving}
@@ -125,24 +125,30 @@ module _ {D : Type 0} (moves : D → Move → D → Type 0) (t : ℤ) (names : L
 
   read : (n : ℕ) (s s' : State D) (frame : List ℕ) (mid : D) → moves s.device (Took s.host.inner.moment frame) mid → is_read frame ≡ true →
       Reads moves frame (at_device s mid) s' →
-      IsAsAt i0 t s.host.inner → At n s → At (n + 1) s'
-  read n s s' frame mid took reads (content, is, receives) like f =
+      IsAsAt i0 t s.host.inner → Begun s.device → At n s → At (n + 1) s'
+  read n s s' frame mid took reads (content, is, receives) like begins f =
       let a = receives.0 in
       let back : Stays i0 s'.host.inner → Stays i0 a.inner =
       stays_before i0 a.inner s'.host.inner (receives_same moves content (at_device s mid) s' receives).1 in
       let gave = takes moves (GaveAt s.device) (gave_back s.device) s s' (Some true) (frame, mid, took, reads, (content, is, receives)) (λ g. g) in
-      let so_far = narrowed names side (Stays i0 s.host.inner) (Stays i0 s'.host.inner) (Gives s.device) (Gives s'.device) f.frames i0 t net f.now
-      (λ c. stayed i0 s.host.inner a.inner like.low (brings_later s.host.inner s.places (brought s content) a receives.1.1) (back c)) gave f.reaches in
+      let same = (receives_same moves content (at_device s mid) s' receives).0 in
+      let with_it : Frames = and_taken f.frames frame in
+      let answers = replied_left moves Taken taking with_it i0 Begun Gives giving (is_awaited a) a.reply (sender mid a.inner s.host.left) (sender_of moves s')
+      receives.3 (taking.takes s.device mid s.host.inner.moment frame f.frames took f.taken) (giving.since s.device mid (Took s.host.inner.moment frame) took begins)
+      (settings_on i0 s.host.inner a.inner like.settings same)
+      (λ small. subst (λ (k : ℕ). k < 2 ^ 16) (sym same.ident) (like.ident small))
+      (brings_wide s.host.inner s.places (brought s content) a receives.1.1) in
+      let out : Sent Taken with_it s'.device = answers.out in
+      let F : Frames = and_gone f.frames out.more in
+      let so_far = sent_more names side (Stays i0 s'.host.inner) (Gives s'.device) f.frames i0 t net f.now out.more
+      (narrowed names side (Stays i0 s.host.inner) (Stays i0 s'.host.inner) (Gives s.device) (Gives s'.device) f.frames i0 t net f.now
+      (λ c. stayed i0 s.host.inner a.inner like.low (brings_later s.host.inner s.places (brought s content) a receives.1.1) (back c)) gave f.reaches) in
       let p = party f.now side in
       let g : HostValue = record s.host { slots = s'.host.slots } in
       let x = sender mid a.inner s.host.left in
       let made = link.brings n s p frame mid content took reads is f.link in
-      let end = brings_moves names side (Stays i0 s'.host.inner) (Gives s'.device) f.frames i0 t net f.now so_far s.host.inner s.places f.sockets like (brought s content) a
-      (brought_home s.host.inner s.host.timeout s.host.slots content) (λ c. (back c).1) receives.1.1 made in
-      let with_it : Frames = and_taken f.frames frame in
-      let out : Sent Taken with_it s'.device =
-      Devices.reads moves (Sent Taken with_it) (sent_on moves Taken taking with_it) s s' (frame, mid, took, reads, (content, is, receives))
-      (none_sent moves Taken taking with_it mid (taking.takes s.device mid s.host.inner.moment frame f.frames took f.taken)) in
+      let end = brings_moves names side (Stays i0 s'.host.inner) (Gives s'.device) F i0 t net f.now so_far s.host.inner s.places f.sockets like (brought s content) a
+      (brought_home s.host.inner s.host.timeout s.host.slots content) (λ c. (back c).1) receives.1.1 made answers.left in
       let p' = party end.moved.next side in
       let taken : L n (sending_as g x s.places) p = link.takes n s p frame mid content s'.host.slots a took reads is receives.1 f.link in
       let given : L n (sending_as g x s.places) p' = link.grown n (sending_as g x s.places) s.places p p' end.moved.grows taken in
@@ -159,17 +165,16 @@ module _ {D : Type 0} (moves : D → Move → D → Type 0) (t : ℤ) (names : L
         now = end.moved.next;
         frames = and_gone with_it out.more;
         taken = out.taken;
-        reaches = sent_more names side (Stays i0 s'.host.inner) (Gives s'.device) with_it i0 t net end.moved.next out.more
-            (took_one names side (Stays i0 s'.host.inner) (Gives s'.device) f.frames i0 t net end.moved.next frame end.moved.reaches (λ read. record {
-              i = s.host.inner;
-              settings = like.settings;
-              moment = like.moment;
-              timeout = s.host.timeout;
-              slots = s.host.slots;
-              content = content;
-              is = is;
-              brings = end.brings;
-            }));
+        reaches = took_one names side (Stays i0 s'.host.inner) (Gives s'.device) F i0 t net end.moved.next frame end.moved.reaches (λ read. record {
+          i = s.host.inner;
+          settings = like.settings;
+          moment = like.moment;
+          timeout = s.host.timeout;
+          slots = s.host.slots;
+          content = content;
+          is = is;
+          brings = end.brings;
+        });
         sockets = end.moved.sockets_are ∙ ap (λ (ps : Places). sockets_of ps) (sym receives.2);
         link = subst (λ (u : State D). L (n + 1) u p') there placed;
       }
@@ -185,8 +190,8 @@ module _ {D : Type 0} (moves : D → Move → D → Type 0) (t : ℤ) (names : L
   unread : (frame : List ℕ) (P : Type 0) → is_read frame ≡ false → is_read frame ≡ true → P
   unread frame P none some = let both : true ≡ false = sym some ∙ none in absurd (cc)
 
-  arrivals : (n : ℕ) (s s' : State D) (answer : Option Bool) → IsAsAt i0 t s.host.inner → At n s → Takes moves s answer s' → At (n + 1) s'
-  arrivals n s s' None like f took = more n (n + 1) s' (omega arith) (subst (At n) (sym took.1) (record {
+  arrivals : (n : ℕ) (s s' : State D) (answer : Option Bool) → IsAsAt i0 t s.host.inner → Begun s.device → At n s → Takes moves s answer s' → At (n + 1) s'
+  arrivals n s s' None like begins f took = more n (n + 1) s' (omega arith) (subst (At n) (sym took.1) (record {
     now = f.now;
     frames = f.frames;
     taken = taking.rests s.device s'.device (Empty s.host.inner.moment) f.frames tt took.0 f.taken;
@@ -194,7 +199,7 @@ module _ {D : Type 0} (moves : D → Move → D → Type 0) (t : ℤ) (names : L
     sockets = f.sockets;
     link = link.looks n s (party f.now side) s'.device took.0 f.link;
   }))
-  arrivals n s s' (Some false) like f took = more n (n + 1) s' (omega arith) (subst (At n) (sym took.3) (record {
+  arrivals n s s' (Some false) like begins f took = more n (n + 1) s' (omega arith) (subst (At n) (sym took.3) (record {
     now = f.now;
     frames = and_taken f.frames took.0;
     taken = taking.takes s.device s'.device s.host.inner.moment took.0 f.frames took.1 f.taken;
@@ -203,7 +208,7 @@ module _ {D : Type 0} (moves : D → Move → D → Type 0) (t : ℤ) (names : L
     sockets = f.sockets;
     link = link.skips n s (party f.now side) took.0 s'.device took.1 took.2 f.link;
   }))
-  arrivals n s s' (Some true) like f took = read n s s' took.0 took.1 took.2 took.3 took.4 like f
+  arrivals n s s' (Some true) like begins f took = read n s s' took.0 took.1 took.2 took.3 took.4 like begins f
 
   -- ALL
 
@@ -249,7 +254,7 @@ module _ {D : Type 0} (moves : D → Move → D → Type 0) (t : ℤ) (names : L
           takes moves Begun giving.since s s' answer took both.1.1.0,
           (
             small_priced.arrivals n s s' answer runs both.1.1.1.0 took,
-            arrivals n s s' answer (as_since i0 s.host.inner t runs.0 both.1.0 both.1.1.1.0) both.1.1.1.1 took,
+            arrivals n s s' answer (as_since i0 s.host.inner t runs.0 both.1.0 both.1.1.1.0) both.1.1.0 both.1.1.1.1 took,
           ),
         ),
       ),

@@ -36,6 +36,7 @@ use Rattle.lan.specs.Worlds.AtLink.Kinds.{other}
 use Rattle.lan.specs.Worlds.AtLink.Moves as Moves
 use Rattle.lan.specs.Worlds.AtLink.Moves.{Step}
 use Rattle.lan.specs.Worlds.AtLink.Parties.{Party, Net, party, WasMade}
+use Rattle.lan.specs.Worlds.Moves.Answered.{AnswerLeft}
 use Rattle.lan.specs.Worlds.Moves.Follows.{sockets_of}
 use Rattle.lan.proofs.Worlds.Moves.Following.{Reaches}
 use Rattle.lan.proofs.Worlds.Moves.Frames.{Frames}
@@ -73,6 +74,18 @@ counted_later i0 i after now low same is still = past_it i0.errors_until i.error
     (ap (λ (u : ℤ). answered_at u after.moment) (sym same) ∙ ap (λ (x : InnerValue). x.errors_until) (sym is) ∙ still)
 
 module _ (names : List ℕ → Bool) (side : Side) (C G : Type 0) (F : Frames) (i0 : InnerValue) (t : ℤ) (net now : Net) (r : Reaches names side C G F i0 t net now) where
+  -- WHAT ANSWERS goes, where the device gives leave
+
+  abbrev IsLeft : Option PacketValue → Type 0
+  IsLeft reply = G → IfSome reply (AnswerLeft i0 F.gone)
+
+  abbrev pub AreLeft : Arrived → Type 0
+  AreLeft a = (p : PacketValue) → a.reply ≡ Some (Replies.Answers p) → G → AnswerLeft i0 F.gone p
+
+  left_of : (a : Arrived) → AreLeft a → (o : Option PacketValue) → a.reply ≡ answered o → IsLeft o
+  left_of a answers None is = λ g. tt
+  left_of a answers (Some p) is = λ g. answers p is g
+
   -- A PAYLOAD
 
   module _ (i : InnerValue) (places : Places) (ip : IpRepr) (payload : List ℕ) (taken : Bool) (has : (party now side).sockets ≡ sockets_of places)
@@ -141,10 +154,10 @@ module _ (names : List ℕ → Bool) (side : Side) (C G : Type 0) (F : Frames) (
       }
 
       -- the one that accepts it takes it
-      heard : (at : ℕ) → names_nobody i ip ≡ false → segment_place ip header places ≡ Some at →
+      heard : (at : ℕ) → names_nobody i ip ≡ false → segment_place ip header places ≡ Some at → IsLeft (segment_answer_at (Some at) cx ip header bytes taken places) →
           Came (changed_at (with_segment cx ip header bytes) (Some at) places) (segment_answer_at (Some at) cx ip header bytes taken places)
-      heard at named there =
-          let came = segment_taken names side C G F i0 t net now r places has cx ip header bytes made (shows i0 i t like) (between named) taken at there in
+      heard at named there left =
+          let came = segment_taken names side C G F i0 t net now r places has cx ip header bytes made (shows i0 i t like) (between named) taken at there left in
           record {
             ends = came.ends;
             comes = record {
@@ -163,13 +176,14 @@ module _ (names : List ℕ → Bool) (side : Side) (C G : Type 0) (F : Frames) (
           }
 
       segment_by : (nobody : Bool) (o : Option ℕ) → names_nobody i ip ≡ nobody → segment_place ip header places ≡ o → (Goes → C → ⊥)
+          → IsLeft (let_go (not nobody && not (is_some o)) i (if nobody then None else segment_answer_at o cx ip header bytes taken places))
           → Came (if nobody then places else changed_at (with_segment cx ip header bytes) o places)
           (let_go (not nobody && not (is_some o)) i (if nobody then None else segment_answer_at o cx ip header bytes taken places))
-      segment_by true o named there none =
+      segment_by true o named there none left =
           unheard None (nothing names side C G F i0 t net now r places has)
           (λ at somebody there'. (let both : true ≡ false = sym named ∙ nobodies i0 i (seen_at i0 i t like) ip ∙ somebody in absurd (cc)))
-      segment_by false (Some at) named there none = heard at named there
-      segment_by false None named there none =
+      segment_by false (Some at) named there none left = heard at named there left
+      segment_by false None named there none left =
           subst (λ (x : Option PacketValue). Came places x) (goes_is i (taken || is_rst header.control) (packet_in (rst_reply ip header (length bytes))))
           (unheard _ (reset_if (taken || is_rst header.control) (may_tell i) named (λ quiet may c. none (named, there, quiet, may) c))
           (λ at somebody there'. (let both : None ≡ Some at = sym there ∙ there' in absurd (cc))))
@@ -203,18 +217,19 @@ module _ (names : List ℕ → Bool) (side : Side) (C G : Type 0) (F : Frames) (
 
     handed : (carried : Option PayloadValue) → IsBrought i.checksums ip payload carried → HandsMade (party net (other side)) i.checksums ip payload
         → (a : Arrived) → (C → a.inner.errors_until ≡ i0.errors_until) → a.inner ≡ limited_host i places ip payload taken carried
-        → HandsTo i places ip carried a.places → Handed carried a.places (limited_reply i places ip payload taken carried)
-    handed None is made a c inner to = unsegmented None a.places (λ steps. tt) (same_with a.places _ (ap (λ (ps : Places). sockets_of ps) to)
+        → HandsTo i places ip carried a.places → IsLeft (limited_reply i places ip payload taken carried)
+        → Handed carried a.places (limited_reply i places ip payload taken carried)
+    handed None is made a c inner to left = unsegmented None a.places (λ steps. tt) (same_with a.places _ (ap (λ (ps : Places). sockets_of ps) to)
         (λ p. unread_made p i ip payload taken))
-    handed (Some (ControlV4 message bytes)) is made a c inner to =
+    handed (Some (ControlV4 message bytes)) is made a c inner to left =
         unsegmented (Some (ControlV4 message bytes)) a.places (λ steps. tt)
         (same_with a.places _ (ap (λ (ps : Places). sockets_of ps) to ∙ control_v4 ip message bytes) (λ p. control_v4_made p i ip message bytes))
-    handed (Some (ControlV6 message bytes)) is made a c inner to =
+    handed (Some (ControlV6 message bytes)) is made a c inner to left =
         unsegmented (Some (ControlV6 message bytes)) a.places (λ steps. tt)
         (same_with a.places _ (ap (λ (ps : Places). sockets_of ps) to ∙ control_v6 ip message bytes) (λ p. control_v6_made p i ip message bytes))
-    handed (Some (Bytes bytes)) is made a c inner to =
+    handed (Some (Bytes bytes)) is made a c inner to left =
         unsegmented (Some (Bytes bytes)) a.places (λ steps. tt) (subst (λ (ps : Places). Ends ps None) (sym to) (nothing names side C G F i0 t net now r places has))
-    handed (Some (Datagram udp bytes)) is made a c inner to =
+    handed (Some (Datagram udp bytes)) is made a c inner to left =
         let was : WasMade (party now (other side)) (datagram_of udp bytes) =
         subst (λ (p : Party). WasMade p (datagram_of udp bytes)) (sym r.rests) (made.datagrams udp bytes is) in
         let moved = datagram_given names side C G F i0 t net now r places has (context_of i) ip udp bytes was a.places to in
@@ -222,20 +237,20 @@ module _ (names : List ℕ → Bool) (side : Side) (C G : Type 0) (F : Frames) (
           moved = moved;
           made = port_error_made (party moved.next side) (is_some (datagram_place (context_of i) ip udp places) || taken) i ip payload;
         })
-    handed (Some (Segment header bytes)) is made a c inner to =
+    handed (Some (Segment header bytes)) is made a c inner to left =
         let was : MayCome (party now (other side)).segments (source_of ip) (destination_of ip) header bytes =
         subst (λ (p : Party). MayCome p.segments (source_of ip) (destination_of ip) header bytes) (sym r.rests) (made.segments header bytes is) in
         subst (λ (ps : Places). Handed (Some (Segment header bytes)) ps (limited_reply i places ip payload taken (Some (Segment header bytes)))) (sym to)
-        (segment_by header bytes was (names_nobody i ip) (segment_place ip header places) refl refl (no_reset header bytes a c inner))
+        (segment_by header bytes was (names_nobody i ip) (segment_place ip header places) refl refl (no_reset header bytes a c inner) left)
 
     abbrev ItHands : List Step → Type 0
     ItHands steps = HandsIn side i0 t net ip payload steps
 
     hands : (caps : ChecksumCapabilities) (a : Arrived) → i.checksums ≡ caps → (C → a.inner.errors_until ≡ i0.errors_until) → Hands i places ip payload taken a →
-        HandsMade (party net (other side)) caps ip payload → Ended names side C G F i0 t net now a.places a.reply ItHands
-    hands caps a same c (carried, is, so) made =
+        HandsMade (party net (other side)) caps ip payload → AreLeft a → Ended names side C G F i0 t net now a.places a.reply ItHands
+    hands caps a same c (carried, is, so) made answers =
         let end = handed carried is (subst (λ (c : ChecksumCapabilities). HandsMade (party net (other side)) c ip payload) (sym same) made) a c so.inner
-        so.places_are in
+        so.places_are (left_of a answers (limited_reply i places ip payload taken carried) so.reply) in
         let given : Ended names side C G F i0 t net now a.places (answered (limited_reply i places ip payload taken carried)) ItHands =
         record {
           moved = end.ends.moved;
@@ -286,12 +301,12 @@ module _ (names : List ℕ → Bool) (side : Side) (C G : Type 0) (F : Frames) (
 
     here : (link : Option EthernetRepr) (ip : IpRepr) (payload : List ℕ) (a : Arrived) → is_astray i (source_of ip) (destination_of ip) ≡ false →
         (C → a.inner.errors_until ≡ i0.errors_until) → Hands (renewed i link ip) (packet_delivered ip payload places) ip payload (is_taken_raw ip places) a
-        → HandsMade (party net (other side)) i.checksums ip payload → Ended names side C G F i0 t net now a.places a.reply (IfOurs ip payload)
-    here link ip payload a home c is made =
+        → HandsMade (party net (other side)) i.checksums ip payload → AreLeft a → Ended names side C G F i0 t net now a.places a.reply (IfOurs ip payload)
+    here link ip payload a home c is made answers =
         let later = renewed_as i link ip like in
         let end = hands (renewed i link ip) (packet_delivered ip payload places) ip payload (is_taken_raw ip places) (has ∙
         sym (packet_delivered_same ip payload places)) later (sym (strays i0 i (seen_at i0 i t like) (source_of ip) (destination_of ip)) ∙ home) i.checksums a
-        (later.settings.checksums ∙ sym like.settings.checksums) c is made in
+        (later.settings.checksums ∙ sym like.settings.checksums) c is made answers in
         record { moved = end.moved; made = end.made; brings = λ ours. end.brings }
 
     theirs : (ours : Bool) (ip : IpRepr) (payload : List ℕ) → is_for_us i (destination_of ip) ≡ ours → ours ≡ false → (steps : List Step) → IfOurs ip payload steps
@@ -299,22 +314,22 @@ module _ (names : List ℕ → Bool) (side : Side) (C G : Type 0) (F : Frames) (
 
     v4 : (ours : Bool) (link : Option EthernetRepr) (ip : IpRepr) (payload : List ℕ) (a : Arrived) → is_for_us i (destination_of ip) ≡ ours →
         is_astray i (source_of ip) (destination_of ip) ≡ false → (C → a.inner.errors_until ≡ i0.errors_until) → ArrivesV4 ours i places link ip payload a →
-        HandsMade (party net (other side)) i.checksums ip payload → Ended names side C G F i0 t net now a.places a.reply (IfOurs ip payload)
-    v4 true link ip payload a so home c is made = here link ip payload a home c is made
-    v4 false link ip payload a so home c is made =
+        HandsMade (party net (other side)) i.checksums ip payload → AreLeft a → Ended names side C G F i0 t net now a.places a.reply (IfOurs ip payload)
+    v4 true link ip payload a so home c is made answers = here link ip payload a home c is made answers
+    v4 false link ip payload a so home c is made answers =
         silent i places (packet_delivered ip payload places) a (IfOurs ip payload) (theirs false ip payload so refl) has (packet_delivered_same ip payload places) is
 
     v6 : (ours : Bool) (link : Option EthernetRepr) (ip : IpRepr) (payload : List ℕ) (a : Arrived) → is_for_us i (destination_of ip) ≡ ours →
         is_astray i (source_of ip) (destination_of ip) ≡ false → (C → a.inner.errors_until ≡ i0.errors_until) → ArrivesV6 ours i places link ip payload a →
-        HandsMade (party net (other side)) i.checksums ip payload → Ended names side C G F i0 t net now a.places a.reply (IfOurs ip payload)
-    v6 true link ip payload a so home c is made = here link ip payload a home c is made
-    v6 false link ip payload a so home c is made = silent i places places a (IfOurs ip payload) (theirs false ip payload so refl) has refl is
+        HandsMade (party net (other side)) i.checksums ip payload → AreLeft a → Ended names side C G F i0 t net now a.places a.reply (IfOurs ip payload)
+    v6 true link ip payload a so home c is made answers = here link ip payload a home c is made answers
+    v6 false link ip payload a so home c is made answers = silent i places places a (IfOurs ip payload) (theirs false ip payload so refl) has refl is
 
     pub brings_moves : (content : Option IncomingValue) (a : Arrived) → IsHome i content → (C → a.inner.errors_until ≡ i0.errors_until) →
-        Brings i places content a → BringsMade (party net (other side)) i.checksums content →
+        Brings i places content a → BringsMade (party net (other side)) i.checksums content → AreLeft a →
         Ended names side C G F i0 t net now a.places a.reply (BringsIn side i0 t net i content)
-    brings_moves None a home c is made = silent i places places a (λ steps. Unit {0}) (λ steps. tt) has refl is
-    brings_moves (Some (Arp link packet)) a home c is made =
+    brings_moves None a home c is made answers = silent i places places a (λ steps. Unit {0}) (λ steps. tt) has refl is
+    brings_moves (Some (Arp link packet)) a home c is made answers =
         let told : Ended names side C G F i0 t net now places (Replies.told (arp_answer i packet)) (λ steps. Unit {0}) = record {
           moved = stays names side C G F i0 t net now r (sockets_of places) has;
           made = told_made (party now side) (arp_answer i packet);
@@ -322,7 +337,7 @@ module _ (names : List ℕ → Bool) (side : Side) (C G : Type 0) (F : Frames) (
         } in
         subst (λ (ps : Places). Ended names side C G F i0 t net now ps a.reply (λ steps. Unit {0})) (sym is.places_are)
         (subst (λ (o : Option ReplyValue). Ended names side C G F i0 t net now places o (λ steps. Unit {0})) (sym is.reply) told)
-    brings_moves (Some (Ip4 link header piece payload)) a home c is made =
-        v4 (is_for_us i (Address.Ipv4 header.dst_addr)) link (Ip.Ipv4 header) payload a refl home c is made
-    brings_moves (Some (Ip6 link header payload)) a home c is made =
-        v6 (is_for_us i (Address.Ipv6 header.dst_addr)) link (Ip.Ipv6 header) payload a refl home c is made
+    brings_moves (Some (Ip4 link header piece payload)) a home c is made answers =
+        v4 (is_for_us i (Address.Ipv4 header.dst_addr)) link (Ip.Ipv4 header) payload a refl home c is made answers
+    brings_moves (Some (Ip6 link header payload)) a home c is made answers =
+        v6 (is_for_us i (Address.Ipv6 header.dst_addr)) link (Ip.Ipv6 header) payload a refl home c is made answers

@@ -137,7 +137,7 @@ module _ (names : List ℕ → Bool) (side : Side) (C G : Type 0) (F : Frames) (
         moves_by names side C G F i0 t net now r move (sockets_of (before ++ holding m' (settled sent (Is.Udp v')) ∷ after)) (found m (Is.Udp v) has, offers) refl
         (changed m m' (Is.Udp v) (settled sent (Is.Udp v')) has)
         (grows_by (party now side) (Moves.party_after (party now side) move) [] (datagrams_of v'.offered) (sym (append-nil (party now side).segments)) refl)
-        (λ c. tt) (λ c g. tt) tt;
+        (λ c. tt) (λ c g. tt) tt (λ g. tt);
     made = λ done. there now side move (λ (y : Party). IfSome v'.offered (IsMadeFrom y from))
         (if_some v'.offered (IsMadeFrom (Moves.party_after (party now side) move) from) (λ x is.
         let took = takes_one (Udps.TakesDatagram cx) v (first v.queued) answer v' x offers is in
@@ -165,7 +165,8 @@ module _ (names : List ℕ → Bool) (side : Side) (C G : Type 0) (F : Frames) (
         moves_by names side C G F i0 t net now r move (sockets_of (before ++ holding m' (settled true (Is.Tcp (offer_of cx v).socket)) ∷ after))
         (found m (Is.Tcp v) has, leaves) refl
         (changed m m' (Is.Tcp v) (settled true (Is.Tcp (offer_of cx v).socket)) has)
-        (more_offered (Moves.party_after (party now side) move) (offer_of cx v).socket.offered (offer_of cx v).socket.queued.queue refl refl) held goes (left refl);
+        (more_offered (Moves.party_after (party now side) move) (offer_of cx v).socket.offered (offer_of cx v).socket.queued.queue refl refl) held goes (left refl)
+        (λ g. tt);
     made = λ done. there now side move (λ (y : Party). IfSome (offered_packet (offer_of cx v).socket) (IsMadeFrom y from))
         (if_some (offered_packet (offer_of cx v).socket) (IsMadeFrom (Moves.party_after (party now side) move) from) (λ x is.
         tcp_made (Moves.party_after (party now side) move) from (party now side).segments cx v x refl is));
@@ -177,7 +178,7 @@ module _ (names : List ℕ → Bool) (side : Side) (C G : Type 0) (F : Frames) (
         moves_by names side C G F i0 t net now r move (sockets_of (before ++ holding m' (settled false (Is.Tcp (offer_of cx v).socket)) ∷ after))
         (found m (Is.Tcp v) has, leaves) refl
         (changed m m' (Is.Tcp v) (settled false (Is.Tcp (offer_of cx v).socket)) has)
-        (grows_to (party now side) (Moves.party_after (party now side) move) refl refl) held goes tt;
+        (grows_to (party now side) (Moves.party_after (party now side) move) refl refl) held goes tt (λ g. tt);
     made = λ done. absurd (cc);
   } where
     move : Moves.Move

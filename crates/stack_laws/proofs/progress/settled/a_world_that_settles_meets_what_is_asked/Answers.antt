@@ -1,3 +1,4 @@
+use Rattle.stack_laws.proofs.Polls.SomeLinked.{are_linked}
 use Rattle.stack_laws.proofs.Polls.SomeStarts.{are_new, have_keys, hold_text, is_fresh}
 use Rattle.stack_laws.proofs.Polls.SomeWorld.{are_at_rest, are_partners, are_typed, connected, is_caller, is_listener, stays, waits_there}
 use Rattle.stack_laws.proofs.progress.settled.a_world_that_settles_meets_what_is_asked.Goals as goal
@@ -37,3 +38,6 @@ returns-clause-rest c = are_at_rest
 
 pub returns-clause-arrived : goal.returns-clause-arrived
 returns-clause-arrived c = waits_there
+
+pub returns-clause-linked : goal.returns-clause-linked
+returns-clause-linked c = are_linked

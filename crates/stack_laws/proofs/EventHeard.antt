@@ -1,0 +1,173 @@
+-- Each segment that the socket of an end sends in a poll goes in a frame, and a frame that the other host takes brings it to the other end.
+use Rattle.std.proofs.Common.{◌≡◌, ◌≢◌, ◌⊎◌, inl, inr, ℕ, ◌≤◌, Bool, true, false, if◌then◌else◌, ◌||◌, not, ℤ, List, [], Option, Some}
+use Rattle.std.proofs.Common.{refl, sym, ap, ◌∙◌, subst, arith}
+use Rattle.std.specs.Prelude.{slice_get}
+use Rattle.ip_packet.specs.Ip.{destination_of, header_len_in, source_of}
+use Rattle.ip_packet.specs.declared.ip.repr.IpRepr.{IpRepr}
+use Rattle.ip_packet.specs.declared.ip.repr.IpRepr.TheVariants as Ip
+use Rattle.ip_wire.specs.HardwareAddress.TheVariants as Hardware
+use Rattle.ip_wire.specs.IpAddress.{IpAddress}
+use Rattle.ip_wire.specs.TcpHeader.{TcpHeader}
+use Rattle.sockets.specs.Context.{ContextValue}
+use Rattle.tcp_control.specs.States.{is_listening}
+use Rattle.tcp_control.specs.declared.endpoints.EndpointPair.{EndpointPair}
+use Rattle.tcp_control.specs.declared.offer.OpenOffer.{OpenOffer}
+use Rattle.tcp_model.specs.Arrival.{arrives}
+use Rattle.tcp_model.specs.Names.{accepts}
+use Rattle.tcp_model.specs.Offers.{offer_of, offered_packet, payload_of, packet_with}
+use Rattle.tcp_model.specs.Reply.{Reply}
+use Rattle.tcp_model.specs.Value.{TcpValue}
+use Rattle.tcp_tie.specs.Endpoints.{CameBetween, GoesBack, GoesBetween}
+use Rattle.tcp_tie.specs.Host.{Made, made_by, made_of}
+use Rattle.tcp_tie.proofs.NameLaws.{answer_back, offer_between_ends}
+use Rattle.tcp_tie.proofs.NameLaws.{accepted as accepted_for}
+use Rattle.tcp_rules.proofs.ReadRules.{answers_read}
+use Rattle.interface.specs.Ingress.{is_question}
+use Rattle.interface.specs.Taken.{HasWidths}
+use Rattle.interface.specs.Turn.{sourced, with_source}
+use Rattle.interface_egress.specs.Departure.{Whole}
+use Rattle.interface_egress.specs.GoesOut.{frame_of, numbered}
+use Rattle.interface_egress.specs.Plan.{comes_from_here, never_leaves, plan_of, total_len}
+use Rattle.interface_ingress.specs.Packet.{PacketValue, Segment, packet_of}
+use Rattle.interface_ingress.specs.Socket.TheVariants as Kind
+use Rattle.interface_tables.specs.Inner.{InnerValue, is_foreign_loopback, mtu_to}
+use Rattle.ip_wire.specs.AddressTests.{is_unspecified}
+use Rattle.interface_tables.specs.Source.{source_for}
+use Rattle.lan.specs.Worlds.Link.Made.{sealed}
+use Rattle.lan.specs.Worlds.Moves.Answered.{AnswerLeft, WentAsPlanned}
+use Rattle.lan.specs.Worlds.Moves.Went.{LeftFrom, WentBy}
+use Rattle.stack_laws.specs.Progress.Ends.{GoesAlong}
+use Rattle.stack_laws.specs.Progress.Segments.{OffersSegment}
+use Rattle.stack_laws.proofs.EventFrames.{IsFrameOf, frame_made, goes_whole, never_asks, never_same, path_enough}
+use Rattle.stack_laws.proofs.Polls.Segments.{as_written, can_be_read}
+use Rattle.stack_laws.proofs.Polls.SegmentSizes.{fits_path}
+
+pub one_pair : (x y : EndpointPair) → Some x ≡ Some y → x ≡ y
+one_pair x y e = cc
+
+-- A HOST, before a poll
+
+-- it is on a medium without hardware addresses, seals all it sends, and lets go what goes along this connection
+pub record IsReadyHost (i0 : InnerValue) (pair : EndpointPair) : Type 0 where
+  pub bare : i0.hardware ≡ Hardware.Ip
+  pub seals : i0.checksums ≡ sealed
+  pub enough : 576 ≤ i0.mtu
+  pub widths : HasWidths i0
+  pub never : (ip : IpRepr) → GoesAlong pair ip → never_leaves i0 ip ≡ false
+
+comes_from : (nowhere foreign here : Bool) → (nowhere || (foreign || not here)) ≡ false → here ≡ true
+comes_from nowhere foreign true is = refl
+comes_from true foreign false is = absurd cc
+comes_from false true false is = absurd cc
+comes_from false false false is = absurd cc
+
+small_header : (ip : IpRepr) → header_len_in ip ≤ 40
+small_header (Ip.Ipv4 v) = omega arith
+small_header (Ip.Ipv6 v) = omega arith
+
+module _ (i0 : InnerValue) (t : ℤ) (K : Type 0) (gone : List (List ℕ)) (pair : EndpointPair) (ready : IsReadyHost i0 pair) (local : pair.local_port ≢ 0)
+    (remote : pair.remote_port ≢ 0) where
+  -- the segment goes in one of the frames
+  abbrev pub GoesIn : Made → Type 0
+  GoesIn x = (frame : List ℕ) × IsFrameOf pair x frame × ((n : ℕ) × (slice_get gone n ≡ Some frame))
+
+  -- WHAT A SOCKET OFFERS
+
+  module _ (cx : ContextValue) (v : TcpValue) (from : IpAddress) (o : OpenOffer) (offered : (offer_of cx v).socket.offered ≡ Some o)
+      (named : v.block.names.pair ≡ Some pair) where
+    abbrev pub text : List ℕ
+    text = payload_of o o.kind (offer_of cx v).socket.queued.queue
+
+    abbrev pub p : PacketValue
+    p = packet_of o.header (Segment o.segment text)
+
+    between : GoesBetween pair o
+    between =
+        let ends = offer_between_ends cx v o offered in
+        subst (λ (q : EndpointPair). GoesBetween q o) (one_pair ends.0 pair (sym ends.1 ∙ named)) ends.2
+
+    along : GoesAlong pair o.header
+    along = record { source = between.source; destination = between.destination }
+
+    pub packet_is : offered_packet (offer_of cx v).socket ≡ Some p
+    packet_is = ap (λ (x : Option OpenOffer). packet_with x (offer_of cx v).socket.queued.queue) offered
+
+    module _ (l : LeftFrom i0 t K gone cx (Kind.Tcp v) from p) where
+      offers : OffersSegment l.i v o.header o.segment text
+      offers = record {
+        offers = subst (λ (c : ContextValue). offered_packet (offer_of c v).socket ≡ Some p) l.shown packet_is;
+        source_port = λ zero. local (sym between.source_port ∙ zero);
+        destination_port = λ zero. remote (sym between.destination_port ∙ zero);
+      }
+
+      enough : 576 ≤ mtu_to l.i (destination_of o.header)
+      enough = path_enough l.i.paths (destination_of o.header) l.i.moment l.i.mtu (subst (λ (n : ℕ). 576 ≤ n) (sym l.settings.mtu) ready.enough)
+
+      short : total_len o.header ≤ mtu_to l.i (destination_of o.header)
+      short = fits_path l.i v o.header o.segment text offers (omega (arith, enough))
+
+      -- its source stays
+      keeps : sourced l.i p ≡ p
+      keeps =
+          let may = never_same i0 l.i l.settings o.header ∙ ready.never o.header along in
+          let here = comes_from (is_unspecified (destination_of o.header)) (is_foreign_loopback l.i (destination_of o.header)) (comes_from_here l.i o.header) may in
+          ap (λ (b : Bool). packet_of (if b then o.header else with_source o.header (source_for l.i.addresses (destination_of o.header))) (Segment o.segment text))
+          here
+
+      pub offer_goes : (x : Made) → x ≡ made_of from (destination_of o.header) o.segment text → GoesIn x
+      offer_goes x is =
+          let source : from ≡ source_of o.header = l.source ∙ ap (λ (q : PacketValue). source_of q.header) keeps in
+          let went : WentBy gone l.i p (plan_of l.i l.busy o.header) =
+          subst (λ (q : PacketValue). WentBy gone l.i q (plan_of l.i l.busy q.header)) keeps l.went in
+          let whole = goes_whole i0 l.i l.settings ready.bare o.header (ready.never o.header along) short l.busy in (
+            frame_of l.i (Whole Hardware.Ip (numbered l.i p)),
+            frame_made i0 l.i l.settings ready.bare o.header (ready.never o.header along) short pair o.segment text x
+                (is ∙ ap (λ (a : IpAddress). made_of a (destination_of o.header) o.segment text) source) ready.seals ready.widths l.ident
+                (as_written l.i v o.header o.segment text offers) (can_be_read l.i v o.header o.segment text offers l.formed) l.formed along
+                between.source_port between.destination_port,
+            subst (WentBy gone l.i p) whole went,
+          )
+
+  -- WHAT IT ANSWERS
+
+  module _ (cx : ContextValue) (v : TcpValue) (ip : IpRepr) (header : TcpHeader) (bytes : List ℕ) (reply : Reply)
+      (answers : (arrives cx v ip header bytes).answer ≡ Some reply) (named : v.block.names.pair ≡ Some pair) (late : is_listening v.block.state ≡ false)
+      (accepted : accepts v.block ip header ≡ true) where
+    abbrev pub answer : PacketValue
+    answer = packet_of reply.header (Segment reply.segment [])
+
+    came : CameBetween pair ip header
+    came =
+        let it = (accepted_for v.block ip header accepted).connected late in
+        subst (λ (q : EndpointPair). CameBetween q ip header) (one_pair it.0 pair (sym it.1 ∙ named)) it.2
+
+    back : GoesBack ip header reply
+    back = answer_back cx v ip header bytes reply answers
+
+    answer_along : GoesAlong pair reply.header
+    answer_along = record { source = back.source ∙ came.destination; destination = back.destination ∙ came.source }
+
+    module _ (l : AnswerLeft i0 gone answer) (w : WentAsPlanned i0 gone l.i answer (plan_of l.i l.busy reply.header)) where
+      short_answer : total_len reply.header ≤ mtu_to l.i (destination_of reply.header)
+      short_answer =
+          let len = w.formed.sendable.len in
+          let small = w.formed.sendable.payload.header in
+          let head = small_header reply.header in
+          let enough = path_enough l.i.paths (destination_of reply.header) l.i.moment l.i.mtu (subst (λ (n : ℕ). 576 ≤ n) (sym l.settings.mtu) ready.enough) in
+          omega (arith, len, small, head, enough)
+
+      goes_so : (x : Made) → x ≡ made_by reply → GoesIn x
+      goes_so x is =
+          let whole = goes_whole i0 l.i l.settings ready.bare reply.header (ready.never reply.header answer_along) short_answer l.busy in (
+            frame_of l.i (Whole Hardware.Ip (numbered l.i answer)),
+            frame_made i0 l.i l.settings ready.bare reply.header (ready.never reply.header answer_along) short_answer pair reply.segment [] x is ready.seals
+                ready.widths l.ident (answers_read cx v ip header bytes reply answers) w.wide.fits w.formed answer_along
+                (back.source_port ∙ came.destination_port) (back.destination_port ∙ came.source_port),
+            w.went Hardware.Ip whole,
+          )
+
+    pub answer_goes : AnswerLeft i0 gone answer → (x : Made) → x ≡ made_by reply → GoesIn x
+    answer_goes l x is = by l.what where
+      by : (is_question (plan_of l.i l.busy reply.header) ≡ true) ⊎ WentAsPlanned i0 gone l.i answer (plan_of l.i l.busy reply.header) → GoesIn x
+      by (inl asks) = absurd (let both : true ≡ false = sym asks ∙ never_asks i0 l.i l.settings ready.bare reply.header l.busy in cc)
+      by (inr went) = goes_so l went x is

@@ -1,0 +1,24 @@
+-- Two sockets that are connected over links which bring what is sent in time.
+use Rattle.std.specs.Prelude.{◌≡◌, ℕ, ℤ, List, ◌++◌}
+use Rattle.tcp_control.specs.declared.endpoints.EndpointPair.{EndpointPair}
+use Rattle.lan.specs.declared.at_link.history.event.Side.{Side}
+use Rattle.lan.specs.Worlds.AtLink.History.{Entry}
+use Rattle.lan.specs.Worlds.AtLink.Runs.{Starts}
+use Rattle.lan.specs.Worlds.AtLink.Station.{Stations}
+use Rattle.lan.specs.Worlds.Still.{StillRun}
+use Rattle.lan_base.specs.Medium.TheVariants as Medium
+use Rattle.stack_laws.specs.Progress.Carried.{AreCarried}
+use Rattle.stack_laws.specs.Progress.Ends.{AreConnected, AreEnds}
+use Rattle.stack_laws.specs.Progress.Serving.{GiveLeave}
+
+-- The sockets at these places have a connection over a medium that has no hardware addresses. Behind each of the later polls a link gives its host leave to
+-- send, and each frame that a host sends in one is taken by a poll of the other no more than so many microseconds later.
+pub record AreLinked (starts : Starts) (places : Side → ℕ) (delay : ℕ) (past more : List Entry) (hosts : Stations)
+    (still : StillRun starts (more ++ past) hosts) : Type 0 where
+  pub medium : starts.a.capabilities.medium ≡ Medium.Ip
+  pub pairs : Side → EndpointPair
+  pub ends : AreEnds starts pairs
+  pub connected : AreConnected starts places pairs past more hosts still
+  pub leave : GiveLeave starts past more hosts still
+  pub on_way : Side → List (ℤ × List ℕ)
+  pub carried : AreCarried starts delay past more hosts still on_way
