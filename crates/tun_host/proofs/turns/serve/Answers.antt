@@ -6,7 +6,7 @@ use Rattle.tun_host.specs.Link.Turn.{Next}
 use Rattle.tun_host.specs.Turns.{state_of, IsServed}
 use Rattle.tun_host.specs.declared.error.ServeError.{ServeError}
 use Rattle.tun_host.specs.declared.turns.TheConstants.{LONGEST}
-use Rattle.tun_host.proofs.Running.{counted_out, ended, unread_at, refused_at, running_more}
+use Rattle.tun_host.proofs.Running.{at_end, counted_out, ended, unread_at, refused_at, running_more}
 use Rattle.tun_host.proofs.turns.serve.Goals as goal
 
 -- a turn that can't be read
@@ -46,7 +46,7 @@ returns-in_err-current g c =
 pub returns-in_err-answer_turn : goal.returns-in_err-answer_turn
 returns-in_err-answer_turn g c =
     let p = err_from_is_err_and c.from_residual-in_err-answer_turn.result c.from_residual-in_err-answer_turn.ensures.1 in
-    let same : c.from_residual-in_err-answer_turn.result ≡ Err c.in_err-answer_turn.field-0.0 = cc (p.1, p.2) in
+    let same : c.from_residual-in_err-answer_turn.result ≡ Err c.in_err-answer_turn.field-0.0 = p.1 ∙ ap Err p.2 in
     record { served = λ not. absurd (not (same ∙ ap Err c.in_err-answer_turn.ensures.error)) }
 
 -- one turn more
@@ -70,3 +70,12 @@ loop-preserved g c =
 -- as many turns as can be counted
 pub returns : goal.returns
 returns g c = record { served = λ not. counted_out _ _ _ _ _ _ _ c.loop.invariant.2 (omega (arith, c.loop-test.false, c.loop.auto.counter-end)) }
+
+-- all turns were taken
+pub returns-in_default : goal.returns-in_default
+returns-in_default g c =
+    let now = g.R.Read.remaining c.loop.reader in
+    let next = g.R.Read.remaining c.next_turn.new.reader in
+    let none = subst (λ (m : Option ℤ). IfSome now (λ bytes. Next LONGEST c.loop.last bytes m c.next_turn.new.packet.items next)) c.in_default.is
+    c.in_ok-now.ensures.turn in
+    record { served = λ not. at_end _ _ _ _ _ _ _ c.loop.invariant.2 none }

@@ -11,3 +11,6 @@ returns-in-Err c =
     ap (λ (l : LinkValue). l.capabilities) c.new-link.ensures ∙ c.capabilities.ensures in
     refused_by c.args.settings.now c.args.now c.config.result c.new-link.result.capabilities c.new.result c.in-Err.error c.of_new.result
     configured described c.in-Err.is c.of_new.ensures c.new.ensures
+
+pub returns-in-Ok : goal.returns-in-Ok
+returns-in-Ok c = ?
