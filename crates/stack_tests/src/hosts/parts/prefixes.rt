@@ -46,9 +46,12 @@ fn adds(routes: &mut Routes, route: Option<Route>, answer: &str) -> bool {
 }
 
 fn removes(routes: &mut Routes, place: &str, answer: &str) -> bool {
-    match place.parse::<usize>() {
-        Ok(place) => routes.remove(place).map(|route| route.via_router) == address(answer),
-        Err(_) => false,
+    let Ok(place) = place.parse::<usize>() else {
+        return false;
+    };
+    match routes.remove(place) {
+        Some(route) => address(answer) == Some(route.via_router),
+        None => answer == "none",
     }
 }
 
