@@ -21,6 +21,9 @@ pub mod EventClocks
 pub mod EventAsked
 pub mod EventQuiet
 pub mod EventTurns
+pub mod EventUnmarked
+pub mod EventAnswers
+pub mod EventAtOnce
 pub mod EventReads
 pub mod EventCarried
 pub mod EventMade

@@ -27,6 +27,7 @@ pub mod Gone
 pub mod Takings
 pub mod OneClock
 pub mod Serving
+pub mod AtOnce
 pub mod Carried
 pub mod Ends
 pub mod Hearing
