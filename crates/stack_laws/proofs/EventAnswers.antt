@@ -19,9 +19,9 @@ use Rattle.lan.specs.Worlds.AtLink.Steps.{ActsAt, Happens}
 use Rattle.lan.specs.Worlds.Settling.{WasAsked}
 use Rattle.lan.specs.Worlds.Still.{StillRun}
 use Rattle.stack_laws.proofs.EventQuiet.{at_host}
-use Rattle.stack_laws.specs.Progress.AtOnce.{AreServedAtOnce, IsByThen}
+use Rattle.stack_laws.specs.Progress.AtOnce.{IsByThen}
 use Rattle.stack_laws.specs.Progress.Events.{clock_in, told_by}
-use Rattle.stack_laws.specs.Progress.Serving.{IsAtRest, WaitsForNone, WantsAt}
+use Rattle.stack_laws.specs.Progress.Serving.{AreServedAtOnce, IsAtRest, WaitsForNone, WantsAt}
 
 -- the question at the end of a history
 acted : (past : List Entry) (old new : Stations) (e : Entry) (side : Side) (moment : ℤ) → Leads past old e new → e.event ≡ E.PollAt side moment →
@@ -108,7 +108,7 @@ module _ (starts : Starts) (places : Side → ℕ) (history first between : List
   by_then t both A = both.0
   by_then t both B = both.1
 
-  soon : (t : ℤ) → (t ≤ℤ moment) ⊎ (IsByThen t a × IsByThen t b) → (side : Side) (due : ℤ) → clock_in history ≤ℤ due
+  pub soon : (t : ℤ) → (t ≤ℤ moment) ⊎ (IsByThen t a × IsByThen t b) → (side : Side) (due : ℤ) → clock_in history ≤ℤ due
       → WantsAt due (places side) (station hosts side) → t ≤ℤ due
   soon t (inl same) side due up wants = in_turn t moment due same (subst (λ (m : ℤ). m ≤ℤ due) clock_is up)
   soon t (inr both) side due up wants =

@@ -1,5 +1,5 @@
 -- Where both sockets are served at once, the moves of the events ask them in time.
-use Rattle.std.proofs.Common.{◌≡◌, ℕ, ℤ, pos, ◌+ℤ◌, ◌≤ℤ◌, List, [], ◌∷◌, ◌++◌, sym, ap, ◌∙◌, subst, append_assoc}
+use Rattle.std.proofs.Common.{◌≡◌, inl, inr, ℕ, ℤ, pos, ◌+ℤ◌, ◌≤ℤ◌, List, [], ◌∷◌, ◌++◌, sym, ap, ◌∙◌, subst, append_assoc}
 use Rattle.lan.specs.declared.at_link.history.event.Side.{Side}
 use Rattle.lan.specs.Worlds.AtLink.Happening.{Happening}
 use Rattle.lan.specs.Worlds.AtLink.History.{Entry}
@@ -10,12 +10,12 @@ use Rattle.lan.specs.Worlds.AtLink.Runs.{Starts}
 use Rattle.lan.specs.Worlds.AtLink.Station.{Stations}
 use Rattle.lan.specs.Worlds.Still.{StillRun, seats_of}
 use Rattle.lan.proofs.Worlds.AtLink.Extended.{run-append}
-use Rattle.stack_laws.proofs.EventAsked.{Asked, From, all_asked, and_more, append_none, asked_through, net_at, numbered_so, to_host}
+use Rattle.stack_laws.proofs.EventAsked.{Asked, From, all_asked, and_more, append_none, are_asked, asked_through, net_at, numbered_so, to_host}
 use Rattle.stack_laws.proofs.EventMoves.{untimed_append}
-use Rattle.stack_laws.specs.Progress.AtOnce.{AreServedAtOnce}
 use Rattle.stack_laws.specs.Progress.Events.{MoveBy, all_at, clock_in, untimed}
 use Rattle.stack_laws.specs.Progress.Moving.{AreAsked}
-use Rattle.stack_laws.specs.Progress.OneClock.{timed}
+use Rattle.stack_laws.specs.Progress.OneClock.{KeepOneClock, timed}
+use Rattle.stack_laws.specs.Progress.Serving.{AreServedAtOnce, AreServedWithin}
 
 module _ (starts : Starts) (places : Side → ℕ) (wait : ℕ) (net : Net) (past : List Entry) where
   abbrev seats : Side → Seat
@@ -53,3 +53,12 @@ are_asked_at_once starts net past more hosts still places moves wait by are =
     numbered_so (seats_of starts places) wait (clock_in past) net moves
     (subst (Asked (seats_of starts places) wait (clock_in past) net) (append_none (timed moves))
     (all starts places wait net past more hosts still (timed moves) [] by are (λ side due later wants. tt) tt))
+
+-- served at once, or in time
+pub are_asked_within : (starts : Starts) (net : Net) (past more : List Entry) (hosts : Stations) (still : StillRun starts (more ++ past) hosts) (places : Side → ℕ)
+    (moves : List (ℤ × Happening)) (wait : ℕ) → MoveBy starts net past more hosts still (timed moves) → KeepOneClock starts places past more
+    → AreServedWithin starts places wait past more hosts still → AreAsked (seats_of starts places) wait (clock_in past) net moves
+are_asked_within starts net past more hosts still places moves wait by keep (inl at_once) =
+    are_asked_at_once starts net past more hosts still places moves wait by at_once
+are_asked_within starts net past more hosts still places moves wait by keep (inr served) =
+    are_asked starts net past more hosts still places moves wait served.0 by keep served.1

@@ -21,3 +21,4 @@ pub mod segments;
 pub mod served;
 pub mod settled;
 pub mod turns;
+pub mod unread;

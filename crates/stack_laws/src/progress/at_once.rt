@@ -11,11 +11,11 @@ ghost use Rattle.lan.specs.Worlds.AtLink.Runs.{Starts};
 ghost use Rattle.lan.specs.Worlds.AtLink.Station.{Stations, station};
 ghost use Rattle.lan.specs.Worlds.Settling.{WasAsked};
 ghost use Rattle.lan.specs.Worlds.Still.{StillRun, seats_of};
-ghost use Rattle.stack_laws.specs.Progress.AtOnce.{AreServedAtOnce, IsByThen};
+ghost use Rattle.stack_laws.specs.Progress.AtOnce.{IsByThen};
 ghost use Rattle.stack_laws.specs.Progress.Events.{MoveBy, clock_in};
 ghost use Rattle.stack_laws.specs.Progress.Moving.{AreAsked};
 ghost use Rattle.stack_laws.specs.Progress.OneClock.{timed};
-ghost use Rattle.stack_laws.specs.Progress.Serving.{IsAtRest, WaitsForNone};
+ghost use Rattle.stack_laws.specs.Progress.Serving.{AreServedAtOnce, IsAtRest, WaitsForNone};
 
 /// Law: where a host was asked last, each TCP socket of its that waits for no neighbor is at rest at every moment before the one at which the host wants to be
 /// polled, and at every moment if it doesn't want to be.
