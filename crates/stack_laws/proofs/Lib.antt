@@ -21,8 +21,10 @@ pub mod EventClocks
 pub mod EventAsked
 pub mod EventQuiet
 pub mod EventTurns
+pub mod EventUnmarked
 pub mod EventAnswers
 pub mod EventAtOnce
+pub mod EventIdle
 pub mod EventSpace
 pub mod EventRoomy
 pub mod EventReads

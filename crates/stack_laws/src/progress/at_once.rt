@@ -1,17 +1,20 @@
 //! Hosts that are polled when they want to be serve their sockets at once.
 
-ghost use Rattle.std.specs.Prelude.{◌⊎◌, ◌∷◌, ◌++◌, ℕ, ℤ, pos, ◌≤ℤ◌, List, Option};
+ghost use Rattle.std.specs.Prelude.{◌≡◌, ◌⊎◌, ◌∷◌, ◌++◌, ℕ, ℤ, pos, ◌≤ℤ◌, List, Option};
 ghost use Rattle.interface.specs.QuietStep.{IsEarlier};
 ghost use Rattle.lan.specs.declared.at_link.history.event.Side.{Side};
 ghost use Rattle.lan.specs.declared.at_link.history.event.Side.TheVariants.{A, B};
+ghost use Rattle.lan.specs.Worlds.AtLink.Fresh.{IsFreshWorld};
 ghost use Rattle.lan.specs.Worlds.AtLink.Happening.{Happening};
 ghost use Rattle.lan.specs.Worlds.AtLink.History.{Entry};
 ghost use Rattle.lan.specs.Worlds.AtLink.Parties.{Net};
-ghost use Rattle.lan.specs.Worlds.AtLink.Runs.{Starts};
+ghost use Rattle.lan.specs.Worlds.AtLink.Runs.{Starts, start};
 ghost use Rattle.lan.specs.Worlds.AtLink.Station.{Stations, station};
+ghost use Rattle.lan.specs.Worlds.Events.{AreTyped};
 ghost use Rattle.lan.specs.Worlds.Settling.{WasAsked};
 ghost use Rattle.lan.specs.Worlds.Still.{StillRun, seats_of};
-ghost use Rattle.stack_laws.specs.Progress.AtOnce.{IsByThen};
+ghost use Rattle.lan_base.specs.Medium.TheVariants as Medium;
+ghost use Rattle.stack_laws.specs.Progress.AtOnce.{AreUnmarked, IsByThen};
 ghost use Rattle.stack_laws.specs.Progress.Events.{MoveBy, clock_in};
 ghost use Rattle.stack_laws.specs.Progress.Moving.{AreAsked};
 ghost use Rattle.stack_laws.specs.Progress.OneClock.{timed};
@@ -23,6 +26,13 @@ pub fn sockets_rest_until_their_host_wants_to_be_polled()
     ensures { (starts : Starts) (past history : List Entry) (hosts : Stations) (side : Side) (moment due : ℤ) (at : Option ℤ) (place : ℕ)
         → StillRun starts history hosts → WasAsked side moment at past history → pos 0 ≤ℤ due → IsEarlier due at
         → WaitsForNone place (station hosts side) → IsAtRest due place (station hosts side) }
+{}
+
+/// Law: over a medium that has no hardware addresses no socket ever waits for a neighbor, where none was marked at first.
+pub fn nobody_waits_without_hardware_addresses()
+    ensures { (starts : Starts) (history : List Entry) (hosts : Stations) (side : Side) (place : ℕ) → IsFreshWorld starts
+        → starts.a.capabilities.medium ≡ Medium.Ip → ((of : Side) → AreUnmarked (start starts of).places) → AreTyped history
+        → StillRun starts history hosts → WaitsForNone place (station hosts side) }
 {}
 
 /// Law: so where both hosts were asked last, at one moment, and the clock goes on no further than to the earlier of the moments that they answered, sockets
