@@ -9,6 +9,7 @@ mod receive_buffer;
 mod settings;
 mod socket;
 
+pub use offer::OfferedSegment;
 pub use receive_buffer::ReceiveBuffer;
 pub use socket::{Socket, SocketBuffer};
 pub use socket_base::SegmentText;
