@@ -21,7 +21,7 @@ pub use announcement::announce;
 pub use filed::Wanted;
 pub use fill::{Fill, send};
 pub use fragmenter::{Cut, Fragmenter, Left, MAX_CUT_PAYLOAD};
-pub use frame::{ArpFrame, CutHeader, Piece, Question, ask};
+pub use frame::{ArpFrame, CutHeader, Piece, Question, StraightSegment, ask};
 pub use interface_tables::{
     Config, HardwareAddrError, InterfaceInner, LinkAddress, NewError, NotUnicast,
     PacketAssemblerSet, Route, RouteTableFull, Routes, TABLE_ROOM,
@@ -32,5 +32,5 @@ pub use socket_meta::{Meta, Waiting};
 pub use socket_set::{
     AddError, Handles, Item, Iter, IterMut, SocketHandle, SocketSet, SocketStorage,
 };
-pub use straight::straight_to;
-pub use way_out::{Sent, dispatch, dispatch_by, send_next, send_whole};
+pub use straight::{straight_to, straight_v4};
+pub use way_out::{Sent, dispatch, dispatch_by, send_next, send_segment, send_whole};

@@ -23,7 +23,7 @@ pub fn straight_to(inner: &InterfaceInner, header: &IpRepr) -> Option<HardwareAd
 
 /// The same of an IPv4 packet.
 #[tactic(auto, using(crate::proofs::GoesWhole::straight_if))]
-fn straight_v4(inner: &InterfaceInner, header: &Ipv4Repr) -> Option<HardwareAddress>
+pub fn straight_v4(inner: &InterfaceInner, header: &Ipv4Repr) -> Option<HardwareAddress>
     ensures { IfSome result (λ to. GoesStraight inner.now (Ip.Ipv4 header.now) to) }
 {
     if is_ordinary(inner, header) && is_short(inner, header) {

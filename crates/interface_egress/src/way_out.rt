@@ -6,11 +6,12 @@ ghost use Rattle.interface_egress.specs.Plan.{CanBeCut};
 ghost use Rattle.interface_tables.specs.Inner.{mtu_to};
 ghost use Rattle.ip_wire.specs.Ip.{destination_of};
 ghost use Rattle.interface_egress.specs.Departure as Departures;
-ghost use Rattle.interface_egress.specs.GoesOut.{GoesOut, PieceGoesOut, Asked, Went, WasCut, numbered_header, numbered, after_header, cut_header, cut_of};
+ghost use Rattle.interface_egress.specs.Departure.{segment_packet};
+ghost use Rattle.interface_egress.specs.GoesOut.{GoesOut, PieceGoesOut, Asked, Went, WasCut, numbered_v4, numbered_header, numbered, after_header, cut_header, cut_of};
 
 use crate::fill::send;
 use crate::fragmenter::{Cut, Fragmenter};
-use crate::frame::{CutHeader, Question, Whole, ask};
+use crate::frame::{CutHeader, Question, SegmentFrame, StraightSegment, Whole, ask};
 use crate::plan::{Plan, plan_for};
 use interface_tables::InterfaceInner;
 use ip_wire::{HardwareAddress, IpAddress, IpRepr, Ipv4Repr};
@@ -141,6 +142,33 @@ pub fn send_whole<D: Device>(
     Sent::Gone
 }
 
+/// Sends a segment in one frame, whose headers and text aren't copied before they are written.
+pub fn send_segment<D: Device>(
+    inner: &mut InterfaceInner,
+    device: &mut D,
+    token: D::TxToken,
+    segment: &StraightSegment<'_>,
+) -> Sent
+    requires room { D.refused device.old + 1 < 2 ^ 64 }
+    requires fits { IsSendable (segment_packet segment.now) }
+    ensures out { Went D.moves device.old inner.old (segment_packet segment.now).header
+        (Departures.Whole segment.now.to (numbered inner.old (segment_packet segment.now))) result device.new inner.new }
+    ensures capabilities { D.described device.new ≡ D.described device.old }
+{
+    let frame = SegmentFrame {
+        from: inner.hardware_addr(),
+        header: numbered_v4(inner, segment.header),
+        carried: segment,
+        checksums: inner.checksum_caps(),
+    };
+    if send(device, token, &frame) {
+        let _ = inner.take_ident();
+        Sent::Gone
+    } else {
+        Sent::Refused
+    }
+}
+
 /// Sends the first piece of a packet.
 fn send_first<D: Device>(
     inner: &mut InterfaceInner,
@@ -210,12 +238,19 @@ fn cut_header(inner: &InterfaceInner, header: &IpRepr) -> CutHeader
     ensures { result ≡ cut_header inner.now header.now }
 {
     match header {
-        IpRepr::Ipv4(header) => CutHeader::Ipv4(Ipv4Repr {
-            ident: inner.ident(),
-            dont_frag: false,
-            ..*header
-        }),
+        IpRepr::Ipv4(header) => CutHeader::Ipv4(numbered_v4(inner, header)),
         IpRepr::Ipv6(header) => CutHeader::Ipv6(*header, u32::from(inner.ident())),
+    }
+}
+
+/// The header with the host's next number.
+fn numbered_v4(inner: &InterfaceInner, header: &Ipv4Repr) -> Ipv4Repr
+    ensures { result ≡ numbered_v4 inner.now header.now }
+{
+    Ipv4Repr {
+        ident: inner.ident(),
+        dont_frag: false,
+        ..*header
     }
 }
 

@@ -59,6 +59,8 @@ pub use Rattle.sockets.specs.Socket as Sockets
 pub use Rattle.sockets.specs.State
 pub use Rattle.sockets.specs.TcpCalls
 pub use Rattle.sockets.specs.TcpSettings
+pub use Rattle.sockets.specs.TcpOffered
+pub use Rattle.sockets.specs.TcpOffers
 pub use Rattle.sockets.specs.TcpSocket
 pub use Rattle.sockets.specs.TcpStates
 pub use Rattle.sockets.specs.TcpValue

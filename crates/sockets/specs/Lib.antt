@@ -36,6 +36,7 @@ pub use Rattle.tcp_model.specs.Settings as TcpSettings
 pub use Rattle.tcp_model.specs.Arrival as TcpArrival
 pub use Rattle.tcp_model.specs.Names as TcpNames
 pub use Rattle.tcp_socket.specs.Receive as TcpReceive
+pub use Rattle.tcp_socket.specs.Offered as TcpOffered
 pub use Rattle.tcp_socket.specs.Socket as TcpSocket
 pub use Rattle.tcp_model.specs.Offers as TcpOffers
 pub use Rattle.tcp_model.specs.Settled as TcpSettled

@@ -2,6 +2,7 @@ pub mod Receive
 pub mod Socket
 pub mod Replies
 pub mod Dispatch
+pub mod Offered
 pub mod Opening
 pub mod Answering
 pub use Rattle.socket_base.specs.Addresses

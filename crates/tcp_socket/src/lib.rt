@@ -10,6 +10,7 @@ mod settings;
 mod socket;
 
 pub use arrival::Due;
+pub use offer::OfferedSegment;
 pub use receive_buffer::ReceiveBuffer;
 pub use socket::{Socket, SocketBuffer};
 pub use socket_base::SegmentText;

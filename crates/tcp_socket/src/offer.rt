@@ -12,14 +12,23 @@ ghost use Rattle.tcp_model.specs.Rules.{text_choice, has_text, resend_choice, up
 ghost use Rattle.tcp_model.specs.Settled.{settled};
 ghost use Rattle.tcp_model.specs.Value.{unoffered, queued_in, free_in, room_of};
 ghost use Rattle.tcp_socket.specs.Dispatch.{TakesOffered, Hands};
+ghost use Rattle.tcp_socket.specs.Offered.{lent_value};
 ghost use Rattle.tcp_socket.specs.Opening.{open_offer, MayOpen, IsPartOf};
 ghost use Rattle.socket_base.specs.Packet.{option_value, IsSendable};
 ghost use Rattle.socket_base.specs.Text.{text_bytes};
 
 use crate::Socket;
-use ip_wire::TcpHeader;
+use ip_wire::{IpRepr, TcpHeader};
 use socket_base::{Context, IpPayload, Offer, Packet, PollAt, SegmentText};
 use tcp_model::{AddressPair, EndpointPair, OfferKind, OpenOffer, PROBE, Part, is_due};
+
+/// The packet of an open offer, whose headers are lent from where they lie in the socket.
+#[derive(Clone, Copy, Debug)]
+pub struct OfferedSegment<'a> {
+    pub header: &'a IpRepr,
+    pub segment: &'a TcpHeader,
+    pub text: SegmentText<'a>,
+}
 
 impl Socket {
     /// Offers the segment of the first rule that applies.
@@ -292,15 +301,29 @@ impl Socket {
         }
     }
 
+    /// The packet of the open offer, lent from where it lies.
+    pub fn offered_segment(&self) -> Option<OfferedSegment<'_>>
+        ensures { lent_value result ≡ offered_packet self.now }
+    {
+        match &self.offered {
+            None => None,
+            Some(offer) => Some(OfferedSegment {
+                header: &offer.header,
+                segment: &offer.segment,
+                text: self.text_of(offer),
+            }),
+        }
+    }
+
     /// The packet of the open offer.
     pub fn offered(&self) -> Option<Packet<'_>>
         ensures { option_value result ≡ offered_packet self.now }
     {
-        match &self.offered {
+        match self.offered_segment() {
             None => None,
-            Some(offer) => {
-                let payload = IpPayload::Tcp(offer.segment, self.text_of(offer));
-                Some(Packet::new(offer.header, payload))
+            Some(lent) => {
+                let payload = IpPayload::Tcp(*lent.segment, lent.text);
+                Some(Packet::new(*lent.header, payload))
             }
         }
     }
