@@ -30,20 +30,24 @@ use Rattle.lan.proofs.Worlds.Moves.Worlds.{fresh_net}
 use Rattle.stack_laws.proofs.EventAtOnce.{are_asked_within}
 use Rattle.stack_laws.proofs.EventClocks.{at_moments}
 use Rattle.stack_laws.proofs.EventComes.{brought_over}
+use Rattle.stack_laws.proofs.EventConnected.{begins, of_one_net}
 use Rattle.stack_laws.proofs.EventLeave.{are_let_go}
 use Rattle.stack_laws.proofs.EventMoves.{events_move}
+use Rattle.stack_laws.proofs.EventReach.{linked as linked_in_reach}
 use Rattle.stack_laws.proofs.EventSpace.{read_within}
 use Rattle.stack_laws.proofs.EventStamps.{fresh_unstamped}
 use Rattle.stack_laws.proofs.EventStreams.{keep_streams}
 use Rattle.stack_laws.proofs.MovedOn as MovedOn
 use Rattle.stack_laws.proofs.StillPartners.{clocks, mid, on_between, shown, still_partners}
 use Rattle.stack_laws.specs.Progress.ByEvents.{GoOnByEvents}
+use Rattle.stack_laws.specs.Progress.Ends.{AreBoth}
 use Rattle.stack_laws.specs.Progress.Hearing.{AreSo}
 use Rattle.stack_laws.specs.Progress.Linked.{AreLinked}
 use Rattle.stack_laws.specs.Progress.Events.{MoveBy, clock_in, shown_in, untimed}
 use Rattle.stack_laws.specs.Progress.Moving.{AreBrought, AreLetGo, ComeFresh, ComeInTime, IsFreshFor, IsHeardBy, IsReadInTime, IsTcp, SocketIs, moves_of}
 use Rattle.stack_laws.specs.Progress.OneClock.{timed}
 use Rattle.stack_laws.specs.Progress.Partners.{HoldText}
+use Rattle.stack_laws.specs.Progress.Reach.{AreInReach, hosts_before}
 use Rattle.stack_laws.specs.Progress.Serving.{AreEventsInTime, IsAtHost, KeepsStreamBy}
 
 upto : (a b c : ℤ) → a ≤ℤ b → b ≤ℤ c → a ≤ℤ c
@@ -124,7 +128,20 @@ go_on_by_events starts past more hosts places news fresh typed still new keys te
     let brought : (moves : List (ℤ × Happening)) → timed moves ≡ them.moves → (delay : ℕ) → AreLinked starts places delay past more hosts still
     → (IsSo : TcpValue → TcpHeader → List ℕ → Type 0) → AreSo IsSo seats moves → AreBrought IsSo seats delay at moves =
     λ moves is delay linked IsSo fit.
-    brought_over starts ways.before past more hosts still places moves delay IsSo fresh typed ways.may partners (by moves is) linked fit in (
+    brought_over starts ways.before past more hosts still places moves delay IsSo fresh typed ways.may partners (by moves is) linked fit in
+    let over_links : (moves : List (ℤ × Happening)) → timed moves ≡ them.moves → (read wait delay : ℕ)
+    → ((s : Side) → AreEventsInTime starts places read wait s past between more hosts still) → ((s : Side) → KeepsStreamBy (places s) s past more)
+    → AreLinked starts places delay past more hosts still → AreSo IsFreshFor seats moves
+    → ComeInTime read wait delay (clock_in past) seats at_clocks at moves =
+    λ moves is read wait delay so streams linked fit.
+    anywhere moves is read wait delay so streams (are_let_go starts fresh linked.medium seats at past more hosts still moves (by moves is) linked.leave)
+    (brought moves is delay linked IsFreshFor fit) in
+    let in_reach : (delay : ℕ) → AreBoth (λ s v. IsOpen v.block) places between → AreBoth (λ s v. is_synchronized v.block.state ≡ true) places hosts
+    → AreInReach starts places delay past more hosts still → AreLinked starts places delay past more hosts still =
+    λ delay opened stay reach.
+    linked_in_reach starts past more hosts places news delay fresh typed still new keys text partners
+    (of_one_net at between (hosts_before starts past more hosts still) past ways.of (begins starts at past more hosts still them.moves them.of_events) places
+    (λ s v. IsOpen v.block) opened) stay reach in (
       between,
       record {
         goes = on_between starts past more between hosts places news fresh new keys text partners was ways;
@@ -155,8 +172,9 @@ go_on_by_events starts past more hosts places news fresh typed still new keys te
         in_time_anywhere = anywhere;
         heard_over_links = λ moves is delay linked fit. brought moves is delay linked IsHeardBy fit;
         fresh_without_timestamps = λ moves is unstamped. fresh_unstamped starts at past more hosts still places moves (by moves is) unstamped;
-        in_time_over_links = λ moves is read wait delay so streams linked fit.
-            anywhere moves is read wait delay so streams (are_let_go starts fresh linked.medium seats at past more hosts still moves (by moves is) linked.leave)
-            (brought moves is delay linked IsFreshFor fit);
+        in_time_over_links = over_links;
+        linked_in_reach = in_reach;
+        in_time_in_reach = λ moves is read wait delay so streams reach fit.
+            over_links moves is read wait delay so streams (in_reach delay (so A).opened (so A).stay reach) fit;
       },
     )

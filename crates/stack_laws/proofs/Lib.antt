@@ -37,6 +37,10 @@ pub mod EventFacts
 pub mod EventComes
 pub mod EventStamps
 pub mod EventStreams
+pub mod PairStays
+pub mod HeldEnds
+pub mod EventConnected
+pub mod EventReach
 pub mod EventPartners
 pub mod Blocks
 pub mod MovedEvents

@@ -23,7 +23,7 @@ use Rattle.stack_laws.proofs.MovedOn.{by_steps}
 use Rattle.stack_laws.proofs.Partnered.{goes_on, reached}
 use Rattle.stack_laws.specs.Progress.Partners.{GoOnBetween, HoldText, ShowsReached}
 
-partners_stay : (past more : List Entry) (side : Side) (i j : ℕ) → ArePartners past side i j → ArePartners (more ++ past) side i j
+pub partners_stay : (past more : List Entry) (side : Side) (i j : ℕ) → ArePartners past side i j → ArePartners (more ++ past) side i j
 partners_stay past [] side i j p = p
 partners_stay past (e ∷ more) side i j p =
     let q = partners_stay past more side i j p in

@@ -33,6 +33,7 @@ pub mod Carried
 pub mod Ends
 pub mod Hearing
 pub mod Linked
+pub mod Reach
 pub mod ByEvents
 pub mod Edges
 pub mod EdgesMet

@@ -14,6 +14,7 @@ pub mod neighbors;
 pub mod partners;
 pub mod pieces;
 pub mod polls;
+pub mod reach;
 pub mod ready;
 pub mod rest;
 pub mod rooms;

@@ -1,5 +1,5 @@
 -- A world on numerals whose link brings what is sent at once.
-use Rattle.std.proofs.Common.{◌≡◌, ◌≢◌, ◌⊎◌, inl, inr, ℕ, ltb-true, Bool, true, false, ◌||◌, None, ℤ, List, [], ◌∷◌, ◌++◌, refl, sym, ap, ◌∙◌, subst, arith}
+use Rattle.std.proofs.Common.{◌≡◌, ◌≢◌, ◌⊎◌, inl, inr, ℕ, leb-true, ltb-true, Bool, true, false, ◌||◌, None, IfSome, ℤ, List, [], ◌∷◌, ◌++◌, refl, sym, ap, ◌∙◌, subst, arith}
 use Rattle.std.specs.Prelude.{◌≤ℤ◌, pos}
 use Rattle.std.specs.List.{AllByRecursion}
 use Rattle.std.proofs.lemmas.Int.{ints}
@@ -21,6 +21,7 @@ use Rattle.tcp_control.specs.declared.endpoints.AddressPair.TheVariants as Pair
 use Rattle.tcp_control.specs.declared.endpoints.EndpointPair.{EndpointPair}
 use Rattle.tcp_model.specs.Value.{TcpValue}
 use Rattle.tcp_progress.specs.Arrivals.{is_synchronized}
+use Rattle.tcp_progress.specs.Exchange.{IsOpen}
 use Rattle.lan.specs.declared.at_link.history.event.Side.{Side}
 use Rattle.lan.specs.declared.at_link.history.event.Side.TheVariants.{A, B}
 use Rattle.lan.specs.declared.at_link.history.answer.Answer.TheVariants as To
@@ -37,6 +38,7 @@ use Rattle.stack_laws.specs.Progress.Delivered.{may_be_sender}
 use Rattle.stack_laws.specs.Progress.Ends.{AreBoth, AreConnected, AreEnds, AreThroughout, AreUnstamped, GoesAlong, IsConnected}
 use Rattle.stack_laws.specs.Progress.Leave.{LiesAmong}
 use Rattle.stack_laws.specs.Progress.Linked.{AreLinked}
+use Rattle.stack_laws.specs.Progress.Reach.{AreInReach, IsAtHome, hosts_before}
 use Rattle.stack_laws.specs.Progress.Serving.{GiveLeave, IsAtHost}
 use Rattle.stack_laws.specs.Progress.SettledNumerals.{ack_frame, both_open, counts, entry, first_host, heard, hosts, last_frame, later, place, push_frame, since_open, starts, syn_ack_frame}
 use Rattle.stack_laws.specs.Progress.SettledNumerals.{opened, syn_frame, through, through_a, through_b, writing, written}
@@ -371,4 +373,38 @@ are_linked = (
     carried = are_carried;
   },
   are_unstamped,
+)
+
+-- IN REACH
+
+open_here : IsOpen (opened A).block
+unfolding v4_number mtu_towards
+open_here = record { synchronized = refl; acknowledged = refl; opened = leb-true 1 (opened A).block.sender.past_iss refl }
+
+open_there : IsOpen (opened B).block
+unfolding v4_number mtu_towards
+open_there = record { synchronized = refl; acknowledged = refl; opened = leb-true 1 (opened B).block.sender.past_iss refl }
+
+both_opened : AreBoth (λ side v. IsOpen v.block) place (hosts_before starts both_open since_open hosts stayed)
+unfolding stayed asked learned handed_back told read handed sent wrote
+both_opened = both_are (λ side v. IsOpen v.block) open_a (open_b []) open_here open_there
+
+both_stay : AreBoth (λ side v. is_synchronized v.block.state ≡ true) place hosts
+unfolding v4_number mtu_towards
+both_stay = both_are (λ side v. is_synchronized v.block.state ≡ true) through_a through_b refl refl
+
+both_at_home : AreBoth (λ side v. IfSome v.block.names.pair (IsAtHome (start starts side).host.inner)) place hosts
+unfolding v4_number mtu_towards
+both_at_home =
+    both_are (λ side v. IfSome v.block.names.pair (IsAtHome (start starts side).host.inner)) through_a through_b (record { own = refl; one_host = refl })
+    (record { own = refl; one_host = refl })
+
+pub are_in_reach : (still : StillRun starts (since_open ++ both_open) hosts)
+    × AreBoth (λ side v. IsOpen v.block) place (hosts_before starts both_open since_open hosts still)
+    × AreBoth (λ side v. is_synchronized v.block.state ≡ true) place hosts × AreInReach starts place 0 both_open since_open hosts still
+are_in_reach = (
+  stayed,
+  both_opened,
+  both_stay,
+  record { medium = refl; at_home = both_at_home; leave = leaves; on_way = none; carried = are_carried },
 )

@@ -56,6 +56,7 @@ use super::heard::{
 };
 use super::inboxes::ports_refuse_nothing;
 use super::partners::{moves_go_on, partners_are_reached, partners_go_on};
+use super::reach::what_stays_in_reach_is_linked;
 
 /// Law: in a world whose hosts stay as they showed themselves to their sockets at first, each event is plain moves of its host: those of a poll
 /// show its moment, that of a call what the clock of its host shows, and no other event moves a socket. So the moves of a history are those of its
@@ -171,7 +172,7 @@ pub fn quiet_polls_go_on_in_time()
 /// the moves nothing else is asked than that each segment is heard in time, or one that equals it, or only comes, wherever it lies, where both users read
 /// and close no empty stream; and, where hosts ask for hardware addresses, that what the sockets offer goes. Over links that bring what is sent in time
 /// each comes: then no more is asked of the moves than that no segment which comes is older than TS.Recent says; and where no timestamps were agreed on
-/// nothing is.
+/// nothing is. Partners that are open, and stay, are connected over such links where their hosts reach each other.
 pub fn partners_go_on_by_their_events()
     ensures { (starts : Starts) (past more : List Entry) (hosts : Stations) (places : Side → ℕ) (news : Side → NewSocket)
         → IsFreshWorld starts → AreTyped (more ++ past) → (still : StillRun starts (more ++ past) hosts)
@@ -190,4 +191,5 @@ pub fn partners_go_on_by_their_events()
     what_links_hand_over_comes_in_time();
     what_links_hand_over_is_heard();
     without_timestamps_nothing_is_old();
+    what_stays_in_reach_is_linked();
 }

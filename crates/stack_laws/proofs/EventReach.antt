@@ -1,0 +1,295 @@
+-- Two partners that are open, and stay, over links which bring what is sent: their hosts let go what goes between them, and take it in.
+use Rattle.std.proofs.Common.{◌≡◌, ◌≢◌, ℕ, Bool, true, false, not, ◌&&◌, List, [], ◌∷◌, ◌++◌, Option, Some, IfSome}
+use Rattle.std.proofs.Common.{refl, sym, ap, ◌∙◌, subst}
+use Rattle.std.specs.Prelude.{◌||◌}
+use Rattle.std.specs.List.{list_any}
+use Rattle.ip_packet.specs.Ip.{destination_of, source_of}
+use Rattle.ip_packet.specs.declared.ip.repr.IpRepr.{IpRepr}
+use Rattle.ip_wire.specs.AddressTests.{are_of_one_family, is_broadcast_v4, is_loopback, is_multicast, is_multicast_v4, is_multicast_v6, is_unspecified, is_unspecified_v4, is_unspecified_v6}
+use Rattle.ip_wire.specs.Block.{block_address}
+use Rattle.ip_wire.specs.HardwareAddress.TheVariants as Hardware
+use Rattle.ip_wire.specs.IpAddress.{IpAddress}
+use Rattle.ip_wire.specs.IpAddress.TheVariants as Address
+use Rattle.ip_wire.specs.IpCidr.{IpCidr}
+use Rattle.interface_egress.specs.Plan.{never_leaves}
+use Rattle.interface_ingress.specs.Reassembled.{is_astray}
+use Rattle.interface_tables.specs.Inner.{InnerValue, is_broadcast_of, is_foreign_loopback, is_for_us, is_local_broadcast, is_loopback_in, is_loopback_of, is_member_of}
+use Rattle.interface_tables.specs.Inner.{is_own, may_come_from}
+use Rattle.tcp_control.specs.Endpoints.{local_of, remote_of}
+use Rattle.tcp_control.specs.declared.endpoints.EndpointPair.{EndpointPair}
+use Rattle.tcp_control.specs.declared.state.State.{State as TcpState}
+use Rattle.tcp_control.specs.declared.state.State.TheVariants as In
+use Rattle.tcp_model.specs.Value.{TcpValue}
+use Rattle.tcp_rules.specs.Events.{is_past}
+use Rattle.tcp_tie.specs.declared.pair.event.Side.TheVariants as Of
+use Rattle.tcp_progress.specs.Arrivals.{is_synchronized}
+use Rattle.tcp_progress.specs.Exchange.{IsOpen}
+use Rattle.tcp_progress.specs.Pair.{AreMirrored, socket_of}
+use Rattle.tcp_progress.proofs.Mirrored.{connected_mirrored}
+use Rattle.lan.specs.declared.at_link.history.event.Side.{Side}
+use Rattle.lan.specs.declared.at_link.history.event.Side.TheVariants.{A, B}
+use Rattle.lan.specs.Worlds.AtLink.Fresh.{IsFreshWorld}
+use Rattle.lan.specs.Worlds.AtLink.History.{Entry}
+use Rattle.lan.specs.Worlds.AtLink.Kinds.{other}
+use Rattle.lan.specs.Worlds.AtLink.PacketsSafe.{IsFreshParty}
+use Rattle.lan.specs.Worlds.AtLink.Paired.{AreNew, HaveKeys, NewSocket, at_zero, side_in}
+use Rattle.lan.specs.Worlds.AtLink.Parties.{Net, party, socket_at}
+use Rattle.lan.specs.Worlds.AtLink.Parties.Socket.{Tcp}
+use Rattle.lan.specs.Worlds.AtLink.Partners.{ArePartners}
+use Rattle.lan.specs.Worlds.AtLink.Runs.{Starts, start}
+use Rattle.lan.specs.Worlds.AtLink.Station.{Stations}
+use Rattle.lan.specs.Worlds.Events.{AreTyped}
+use Rattle.lan.specs.Worlds.Moves.Joined.{first_net}
+use Rattle.lan.specs.Worlds.Still.{StillRun, seats_of}
+use Rattle.lan.proofs.Worlds.Moves.Calls.{names}
+use Rattle.lan.proofs.Worlds.Moves.Worlds.{fresh_net}
+use Rattle.lan.proofs.Worlds.Runs.{has_come, held_run}
+use Rattle.lan.proofs.Worlds.StillOnward.{moments, now_still, ran}
+use Rattle.stack_laws.specs.Progress.Delivered.{may_be_sender}
+use Rattle.stack_laws.specs.Progress.Ends.{AreBoth, AreEnds, GoesAlong, IsConnected}
+use Rattle.stack_laws.specs.Progress.Linked.{AreLinked}
+use Rattle.stack_laws.specs.Progress.Partners.{HoldText}
+use Rattle.stack_laws.specs.Progress.Reach.{AreInReach, IsAtHome, hosts_before}
+use Rattle.stack_laws.specs.Progress.Takings.{IsForHost}
+use Rattle.stack_laws.proofs.EventConnected.{StaysConnected, stays_connected}
+use Rattle.stack_laws.proofs.EventFacts.{both_now}
+use Rattle.stack_laws.proofs.EventPlaces.{at_net}
+use Rattle.stack_laws.proofs.HeldEnds.{HasEnds, IsBetween, AllHave, nameless, quiet_closed, run_ends}
+
+clash : {X : Type 0} → true ≡ false → X
+clash {X} e = absurd cc
+
+-- ADDRESSES
+
+no_or : (a b : Bool) → (a || b) ≡ false → (a ≡ false) × (b ≡ false)
+no_or true b is = clash is
+no_or false b is = (refl, is)
+
+none_such : (a : IpAddress) (blocks : List IpCidr) → list_any (λ b. is_loopback (block_address b)) blocks ≡ false → list_any (is_loopback_of a) blocks ≡ false
+none_such a [] is = refl
+none_such a (b ∷ blocks) is =
+    let parts = no_or (is_loopback (block_address b)) (list_any (λ b. is_loopback (block_address b)) blocks) is in
+    (λ k. (parts.0 k && are_of_one_family a (block_address b)) || list_any (is_loopback_of a) blocks) ∙ none_such a blocks parts.1
+
+no_loop : (loop any : Bool) → (loop && not any) ≡ false → any ≡ false → loop ≡ false
+no_loop true any is none = clash ((λ k. not (sym none k)) ∙ is)
+no_loop false any is none = refl
+
+may_so : (all group loop far : Bool) → all ≡ false → group ≡ false → loop ≡ false → (not (all || group) && (not loop || far)) ≡ true
+may_so false false false far one two three = refl
+may_so true group loop far one two three = clash one
+may_so false true loop far one two three = clash two
+may_so false false true far one two three = clash three
+
+leaves_so : (nowhere foreign may : Bool) → nowhere ≡ false → foreign ≡ false → may ≡ true → (nowhere || (foreign || not may)) ≡ false
+leaves_so false false true one two three = refl
+leaves_so true foreign may one two three = clash one
+leaves_so false true may one two three = clash two
+leaves_so false false false one two three = clash (sym three)
+
+sender_v4 : (nowhere group all here : Bool) → nowhere ≡ false → group ≡ false → all ≡ false → here ≡ false
+    → ((not (nowhere || group || all) && not here) || nowhere) ≡ true
+sender_v4 false false false false one two three four = refl
+sender_v4 true group all here one two three four = clash one
+sender_v4 false true all here one two three four = clash two
+sender_v4 false false true here one two three four = clash three
+sender_v4 false false false true one two three four = clash four
+
+sender_v6 : (nowhere group : Bool) → nowhere ≡ false → group ≡ false → not (nowhere || group) ≡ true
+sender_v6 false false one two = refl
+sender_v6 true group one two = clash one
+sender_v6 false true one two = clash two
+
+-- one host's address, which isn't the broadcast address of either, may be that of a sender
+sender_so : (i j : InnerValue) (a : IpAddress) → is_unspecified a ≡ false → is_multicast a ≡ false → is_local_broadcast i a ≡ false → is_local_broadcast j a ≡ false
+    → may_be_sender j a ≡ true
+sender_so i j (Address.Ipv4 a) nowhere group all here =
+    sender_v4 (is_unspecified_v4 a) (is_multicast_v4 a) (is_broadcast_v4 a) (is_local_broadcast j (Address.Ipv4 a)) nowhere group
+    (no_or (is_broadcast_v4 a) (list_any (is_broadcast_of a) i.addresses) all).0 here
+sender_so i j (Address.Ipv6 a) nowhere group all here = sender_v6 (is_unspecified_v6 a) (is_multicast_v6 a) nowhere group
+
+ours_so : (i : InnerValue) (a : IpAddress) → is_own i a ≡ true → is_for_us i a ≡ true
+ours_so i a own = λ k. own k || is_member_of i a || is_local_broadcast i a || is_loopback_in a
+
+-- what a segment that came between two hosts tells of a host without loopback addresses
+pub record AreHosts (i : InnerValue) (pair : EndpointPair) : Type 0 where
+  pub remote : is_unspecified (remote_of pair.addresses) ≡ false
+  pub local : is_unspecified (local_of pair.addresses) ≡ false
+  pub one : is_local_broadcast i (local_of pair.addresses) ≡ false
+  pub group : is_multicast (local_of pair.addresses) ≡ false
+  pub remote_here : is_foreign_loopback i (remote_of pair.addresses) ≡ false
+  pub outward : is_loopback (local_of pair.addresses) ≡ false
+
+are_hosts : (i : InnerValue) (pair : EndpointPair) → list_any (λ b. is_loopback (block_address b)) i.addresses ≡ false → IsBetween i pair.addresses → AreHosts i pair
+are_hosts i pair outward between =
+    let to : IpAddress = local_of pair.addresses in
+    let from : IpAddress = remote_of pair.addresses in
+    let one = no_or (is_unspecified from) (is_unspecified to || (is_local_broadcast i to || is_multicast to)) between.somebody in
+    let two = no_or (is_unspecified to) (is_local_broadcast i to || is_multicast to) one.1 in
+    let three = no_or (is_local_broadcast i to) (is_multicast to) two.1 in
+    let home = no_or (is_foreign_loopback i from) (is_foreign_loopback i to) between.here in
+    record {
+      remote = one.0;
+      local = two.0;
+      one = three.0;
+      group = three.1;
+      remote_here = home.0;
+      outward = no_loop (is_loopback to) (list_any (is_loopback_of to) i.addresses) home.1 (none_such to i.addresses outward);
+    }
+
+back : (side : Side) → other (other side) ≡ side
+back A = refl
+back B = refl
+
+-- THE ENDS
+
+module _ (starts : Starts) (pairs : Side → EndpointPair) where
+  abbrev first : Side → InnerValue
+  first s = (start starts s).host.inner
+
+  module _ (addresses : (side : Side) → remote_of (pairs side).addresses ≡ local_of (pairs (other side)).addresses)
+      (ports : (side : Side) → (pairs side).remote_port ≡ (pairs (other side)).local_port) (named : (side : Side) → (pairs side).local_port ≢ 0)
+      (hosts : (side : Side) → AreHosts (first side) (pairs side)) (between : (side : Side) → IsBetween (first side) (pairs side).addresses)
+      (home : (side : Side) → IsAtHome (first side) (pairs side)) where
+    goes : (side : Side) (ip : IpRepr) → GoesAlong (pairs side) ip → never_leaves (first side) ip ≡ false
+    goes side ip along =
+        let i : InnerValue = first side in
+        let is = hosts side in
+        let source = local_of (pairs side).addresses in
+        let destination = remote_of (pairs side).addresses in
+        (λ k. is_unspecified (along.destination k)
+        || (is_foreign_loopback i (along.destination k) || not (may_come_from i (along.source k) (along.destination k))))
+        ∙ leaves_so (is_unspecified destination) (is_foreign_loopback i destination) (may_come_from i source destination) is.remote is.remote_here
+        (may_so (is_local_broadcast i source) (is_multicast source) (is_loopback source) (is_loopback destination) is.one is.group is.outward)
+
+    comes : (side : Side) (ip : IpRepr) → GoesAlong (pairs side) ip → IsForHost (first (other side)) Hardware.Ip ip
+    comes side ip along =
+        let j : InnerValue = first (other side) in
+        let far : EndpointPair = pairs (other side) in
+        let back_from : local_of (pairs side).addresses ≡ remote_of far.addresses =
+        ap (λ (s : Side). local_of (pairs s).addresses) (sym (back side)) ∙ sym (addresses (other side)) in
+        let source : source_of ip ≡ remote_of far.addresses = along.source ∙ back_from in
+        let destination : destination_of ip ≡ local_of far.addresses = along.destination ∙ addresses side in
+        record {
+          heard = refl;
+          sender = ap (may_be_sender j) along.source
+              ∙ sender_so (first side) j (local_of (pairs side).addresses) (hosts side).local (hosts side).group (hosts side).one
+              (ap (is_local_broadcast j) back_from ∙ (home (other side)).one_host);
+          here = (λ k. is_astray j (source k) (destination k)) ∙ (between (other side)).here;
+          ours = ap (is_for_us j) destination ∙ ours_so j (local_of far.addresses) (home (other side)).own;
+          named = (λ k. is_unspecified (source k)
+              || (is_unspecified (destination k) || (is_local_broadcast j (destination k) || is_multicast (destination k))))
+              ∙ (between (other side)).somebody;
+        }
+
+    pub are_ends : AreEnds starts pairs
+    are_ends = record { addresses = addresses; ports = ports; named = named; let_go = goes; taken_in = comes }
+
+-- IN A WORLD
+
+later_past : (state : TcpState) → is_synchronized state ≡ true → is_past state ≡ true
+later_past In.Closed e = clash (sym e)
+later_past In.Listen e = clash (sym e)
+later_past In.SynSent e = clash (sym e)
+later_past other e = refl
+
+new_ends : (i : InnerValue) (ports : ℕ → ℕ) (net : Net) (side : Side) → IsFreshParty ports (party net side) → (at : ℕ) (v : TcpValue)
+    → socket_at (party net side) at ≡ Some (Tcp v) → HasEnds i v
+new_ends i ports net side fresh at v is =
+    let new = (fresh.sockets at (Tcp v) is).1 in nameless i v (quiet_closed v.block.state new.state) new.pair
+
+first_ends : (starts : Starts) → IsFreshWorld starts → AllHave (λ s. (start starts s).host.inner) names (first_net starts)
+first_ends starts fresh A = new_ends (start starts A).host.inner _ (first_net starts) A (fresh_net starts fresh).a
+first_ends starts fresh B = new_ends (start starts B).host.inner _ (first_net starts) B (fresh_net starts fresh).b
+
+same_tcp : (v w : TcpValue) → Some (Tcp v) ≡ Some (Tcp w) → v ≡ w
+same_tcp v w e = let one : Tcp v ≡ Tcp w = cc in tcp_one v w one where
+  tcp_one : (v w : TcpValue) → Tcp v ≡ Tcp w → v ≡ w
+  tcp_one v w is = cc
+
+one_pair : (a b : EndpointPair) → Some a ≡ Some b → a ≡ b
+one_pair a b e = cc
+
+some_so : (P : EndpointPair → Type 0) (o : Option EndpointPair) (pair : EndpointPair) → o ≡ Some pair → IfSome o P → P pair
+some_so P o pair is has = subst (λ (x : Option EndpointPair). IfSome x P) is has
+
+module _ (starts : Starts) (fresh : IsFreshWorld starts) (history : List Entry) (hosts : Stations) (typed : AreTyped history) (still : StillRun starts history hosts)
+    (places : Side → ℕ) (pairs : Side → EndpointPair) (connected : AreBoth (λ side. IsConnected (pairs side)) places hosts) where
+  abbrev inner : Side → InnerValue
+  inner s = (start starts s).host.inner
+
+  has_ends : (side : Side) → (v : TcpValue) × HasEnds (inner side) v × IsConnected (pairs side) v
+  has_ends side =
+      let came = has_come starts history hosts fresh typed (ran starts history hosts still) in
+      let all : AllHave inner names came.net =
+      subst (AllHave inner names) came.ends
+      (run_ends inner names at_zero (first_net starts) came.steps (moments starts hosts) came.may (held_run starts history hosts fresh typed still)
+      (first_ends starts fresh)) in
+      let it = at_net came.net hosts history side (places side) (IsConnected (pairs side)) came.of (connected side) in
+      (it.0, all side (places side) it.0 it.1, it.2)
+
+  pub named : (side : Side) → (pairs side).local_port ≢ 0
+  named side = let (v, ends, is) = has_ends side in ends.named (pairs side) is.1
+
+  pub between : (side : Side) → IsBetween (inner side) (pairs side).addresses
+  between side = let (v, ends, is) = has_ends side in ends.heard (later_past v.block.state is.0) (pairs side) is.1
+
+  pub outward : (side : Side) → list_any (λ b. is_loopback (block_address b)) (inner side).addresses ≡ false
+  outward side =
+      let it = now_still starts history hosts still side in ap (list_any (λ b. is_loopback (block_address b))) (sym it.addresses) ∙ it.outward
+
+  pub at_home : AreBoth (λ side v. IfSome v.block.names.pair (IsAtHome (inner side))) places hosts → (side : Side) → IsAtHome (inner side) (pairs side)
+  at_home homes side =
+      let came = has_come starts history hosts fresh typed (ran starts history hosts still) in
+      let it = at_net came.net hosts history side (places side) (IsConnected (pairs side)) came.of (connected side) in
+      let at = at_net came.net hosts history side (places side) (λ v. IfSome v.block.names.pair (IsAtHome (inner side))) came.of (homes side) in
+      let same : at.0 ≡ it.0 = same_tcp at.0 it.0 (sym at.1 ∙ it.1) in
+      some_so (IsAtHome (inner side)) at.0.block.names.pair (pairs side)
+      (ap (λ (v : TcpValue). v.block.names.pair) same ∙ it.2.1) at.2
+
+module _ (starts : Starts) (places : Side → ℕ) (past more : List Entry) (hosts : Stations) (still : StillRun starts (more ++ past) hosts)
+    (it : StaysConnected starts places past more hosts still) where
+  mirrored : (side : Side) → AreMirrored (socket_of it.pair (side_in side)).block (socket_of it.pair (side_in (other side))).block
+  mirrored A = connected_mirrored it.pair Of.A it.reached it.there.0 it.there.1
+  mirrored B = connected_mirrored it.pair Of.B it.reached it.there.1 it.there.0
+
+  own : (side : Side) → (mirrored side).own ≡ it.pairs side
+  own side = one_pair (mirrored side).own (it.pairs side) (sym (mirrored side).named ∙ it.named side)
+
+  theirs : (side : Side) → (mirrored side).theirs ≡ it.pairs (other side)
+  theirs side = one_pair (mirrored side).theirs (it.pairs (other side)) (sym (mirrored side).partner_named ∙ it.named (other side))
+
+  pub mirrored_addresses : (side : Side) → remote_of (it.pairs side).addresses ≡ local_of (it.pairs (other side)).addresses
+  mirrored_addresses side =
+      ap (λ (x : EndpointPair). remote_of x.addresses) (sym (own side)) ∙ (mirrored side).remote ∙ ap (λ (x : EndpointPair). local_of x.addresses) (theirs side)
+
+  pub mirrored_ports : (side : Side) → (it.pairs side).remote_port ≡ (it.pairs (other side)).local_port
+  mirrored_ports side =
+      ap (λ (x : EndpointPair). x.remote_port) (sym (own side)) ∙ (mirrored side).remote_port ∙ ap (λ (x : EndpointPair). x.local_port) (theirs side)
+
+-- OVER LINKS
+
+pub linked : (starts : Starts) (past more : List Entry) (hosts : Stations) (places : Side → ℕ) (news : Side → NewSocket) (delay : ℕ) → IsFreshWorld starts
+    → AreTyped (more ++ past) → (still : StillRun starts (more ++ past) hosts) → AreNew (seats_of starts places) news (first_net starts)
+    → HaveKeys (seats_of starts places) → HoldText (seats_of starts places) → ArePartners past A (places A) (places B)
+    → AreBoth (λ side v. IsOpen v.block) places (hosts_before starts past more hosts still)
+    → AreBoth (λ side v. is_synchronized v.block.state ≡ true) places hosts → AreInReach starts places delay past more hosts still
+    → AreLinked starts places delay past more hosts still
+linked starts past more hosts places news delay fresh typed still new keys text partners opened stay reach =
+    let it = stays_connected starts past more hosts places news fresh typed still new keys text partners opened stay in
+    let history : List Entry = more ++ past in
+    let now : AreBoth (λ side. IsConnected (it.pairs side)) places hosts =
+    both_now (λ side. IsConnected (it.pairs side)) starts places past more hosts still it.connected in
+    let far = between starts fresh history hosts typed still places it.pairs now in
+    record {
+      medium = reach.medium;
+      pairs = it.pairs;
+      ends = are_ends starts it.pairs (mirrored_addresses starts places past more hosts still it) (mirrored_ports starts places past more hosts still it)
+          (named starts fresh history hosts typed still places it.pairs now)
+          (λ side. are_hosts (start starts side).host.inner (it.pairs side) (outward starts fresh history hosts typed still places it.pairs now side) (far side))
+          far (at_home starts fresh history hosts typed still places it.pairs now reach.at_home);
+      connected = it.connected;
+      leave = reach.leave;
+      on_way = reach.on_way;
+      carried = reach.carried;
+    }
