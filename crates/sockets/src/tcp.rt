@@ -1,5 +1,5 @@
 //! TCP's sockets.
 pub use tcp_socket::{
-    CongestionControl, ConnectError, ListenError, RecvError, Reno, SendError, Socket, SocketBuffer,
+    CongestionControl, ConnectError, Due, ListenError, RecvError, Reno, Reply, SendError, Socket, SocketBuffer,
     State,
 };
