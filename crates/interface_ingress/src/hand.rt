@@ -405,9 +405,9 @@ fn hand_segment<'a>(
     requires fits { Fits header.now }
     requires short { length payload.now < 2 ^ 16 }
     requires none { reply.old ≡ None }
-    ensures host { inner.new ≡ limited_host inner.old places.old header.now payload.now is_taken (segment_of segment.now bytes) }
-    ensures places { HandsTo inner.old places.old header.now (segment_of segment.now bytes) places.new }
-    ensures reply { reply_of reply.new ≡ answered (limited_reply inner.old places.old header.now payload.now is_taken (segment_of segment.now bytes)) }
+    ensures host { inner.new ≡ limited_host inner.old places.old header.now payload.now is_taken (segment_of segment.now bytes.entry) }
+    ensures places { HandsTo inner.old places.old header.now (segment_of segment.now bytes.entry) places.new }
+    ensures reply { reply_of reply.new ≡ answered (limited_reply inner.old places.old header.now payload.now is_taken (segment_of segment.now bytes.entry)) }
     ensures sendable { IfCanGo (reply_of reply.new) }
 {
     match bytes {
