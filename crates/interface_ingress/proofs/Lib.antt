@@ -25,4 +25,3 @@ pub mod PieceSlots
 pub mod ShortWay
 pub mod OwnSources
 pub mod Sought
-pub mod Owed

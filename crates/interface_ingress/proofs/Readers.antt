@@ -19,8 +19,6 @@ use Rattle.ip_wire.specs.Ipv4 as Ipv4
 use Rattle.ip_wire.specs.Ipv4Repr.{Ipv4Repr}
 use Rattle.ip_wire.specs.Ipv6 as Ipv6
 use Rattle.ip_wire.specs.Ipv6Repr.{Ipv6Repr}
-use Rattle.ip_wire.specs.Tcp as Tcp
-use Rattle.ip_wire.specs.TcpHeader.{TcpHeader}
 use Rattle.ip_wire.specs.Udp as Udp
 use Rattle.ip_wire.specs.UdpRepr.{UdpRepr}
 use Rattle.socket_base.specs.Packet.{PayloadValue, ControlV4, ControlV6, Bytes, Datagram, Segment}
@@ -179,20 +177,3 @@ refused-udp caps (Ip.Ipv6 h) payload protocol none (ControlV6 message bytes) is 
 refused-udp caps header payload protocol none (Bytes bytes) is = is
 refused-udp caps header payload protocol none (Datagram udp bytes) is = none udp is.format
 refused-udp caps header payload protocol none (Segment tcp bytes) is = absurd (let e = sym protocol ∙ is.protocol in cc e)
-
--- SEGMENTS
-
-pub moved-tcp : (tested : Bool) (s t d e : IpAddress) (xs ys : List ℕ) (v : TcpHeader) → s ≡ t → d ≡ e → xs ≡ ys → Tcp.IsTcp t e tested ys v →
-    Tcp.IsTcp s d tested xs v
-moved-tcp tested s t d e xs ys v source destination bytes is = rw (source, destination, bytes) is
-
-pub refused-tcp : (caps : ChecksumCapabilities) (header : IpRepr) (payload : List ℕ) → carried_in header ≡ Protocol.Tcp →
-    ((t : TcpHeader) → Tcp.IsTcp (source_of header) (destination_of header) (verifies caps.tcp) payload t → ⊥)
-    → (v : PayloadValue) → IsCarried caps header payload v → ⊥
-refused-tcp caps (Ip.Ipv4 h) payload protocol none (ControlV4 message bytes) is = absurd (let e = sym protocol ∙ is.protocol in cc e)
-refused-tcp caps (Ip.Ipv6 h) payload protocol none (ControlV4 message bytes) is = is
-refused-tcp caps (Ip.Ipv4 h) payload protocol none (ControlV6 message bytes) is = is
-refused-tcp caps (Ip.Ipv6 h) payload protocol none (ControlV6 message bytes) is = absurd (let e = sym protocol ∙ is.protocol in cc e)
-refused-tcp caps header payload protocol none (Bytes bytes) is = is
-refused-tcp caps header payload protocol none (Datagram udp bytes) is = absurd (let e = sym protocol ∙ is.protocol in cc e)
-refused-tcp caps header payload protocol none (Segment tcp bytes) is = none tcp is.format
