@@ -1,7 +1,7 @@
 -- What was read of a protocol, as what a packet carries.
-use Rattle.std.specs.Prelude.{Option, None, Some}
-use Rattle.ip_wire.specs.Tcp as Tcp
-use Rattle.ip_wire.specs.TcpRepr.{TcpRepr}
+use Rattle.std.specs.Prelude.{ℕ, List, Option, None, Some}
+use denote.Ref.{Bor}
+use Rattle.ip_wire.specs.TcpHeader.{TcpHeader}
 use Rattle.socket_base.specs.Packet.{PayloadValue, Datagram, Segment}
 use Rattle.interface_ingress.specs.declared.carried.ReadDatagram.{ReadDatagram}
 
@@ -9,9 +9,10 @@ abbrev pub datagram_of : Option ReadDatagram → Option PayloadValue
 datagram_of None = None
 datagram_of (Some datagram) = Some (Datagram datagram.header datagram.bytes.now)
 
-abbrev pub segment_of : Option TcpRepr → Option PayloadValue
-segment_of None = None
-segment_of (Some segment) = Some (Segment (Tcp.header_of segment) segment.payload.now)
+-- a segment of this header with these bytes
+abbrev pub segment_of : TcpHeader → Option (Bor (List ℕ)) → Option PayloadValue
+segment_of header None = None
+segment_of header (Some bytes) = Some (Segment header bytes.now)
 
 -- neither a datagram nor a segment
 abbrev pub IsControl : Option PayloadValue → Type 0

@@ -1,15 +1,18 @@
 //! What packets carry.
-ghost use Rattle.std.specs.Prelude.{◌≡◌, ◌<◌, ◌^◌, length};
-ghost use Rattle.ip_wire.specs.Ip.{carried_in};
+ghost use Rattle.std.specs.Prelude.{◌≡◌, ◌<◌, ◌^◌, true, length};
+ghost use Rattle.net_base.specs.Capabilities.{verifies};
+ghost use Rattle.ip_wire.specs.Ip.{source_of, destination_of, carried_in};
 ghost use Rattle.ip_wire.specs.IpProtocol.TheVariants as Protocol;
+ghost use Rattle.ip_wire.specs.Tcp.{IsTcp, bytes_of};
+ghost use Rattle.ip_wire.specs.TcpHeader.{TcpHeader};
 ghost use Rattle.interface_ingress.specs.Carried.{IsCarriedContent, carried_of};
 ghost use Rattle.interface_ingress.specs.Read.{datagram_of, segment_of};
 
 use icmpv4::{Icmpv4Packet, Icmpv4Repr};
 use icmpv6::{Icmpv6Packet, Icmpv6Repr};
-use ip_wire::{IpProtocol, IpRepr, TcpPacket, TcpRepr, UdpPacket, UdpRepr};
+use ip_wire::{IpAddress, IpProtocol, IpRepr, TcpHeader, TcpPacket, UdpPacket, UdpRepr};
 use net_base::ChecksumCapabilities;
-use sockets::IpPayload;
+use sockets::{IpPayload, SegmentText};
 
 /// A user datagram that was read: its header and its bytes.
 #[derive(Clone, Copy, Debug)]
@@ -32,7 +35,7 @@ pub fn read_payload<'a>(
         IpProtocol::Icmp => read_icmpv4(header, payload, checksums),
         IpProtocol::Icmpv6 => read_icmpv6(header, payload, checksums),
         IpProtocol::Udp => datagram_payload(&read_udp(header, payload, checksums)),
-        IpProtocol::Tcp => segment_payload(&read_tcp(header, payload, checksums)),
+        IpProtocol::Tcp => read_segment(header, payload, checksums),
         _ => None,
     }
 }
@@ -46,11 +49,19 @@ fn datagram_payload<'a>(datagram: &Option<ReadDatagram<'a>>) -> Option<IpPayload
     }
 }
 
-fn segment_payload<'a>(segment: &Option<TcpRepr<'a>>) -> Option<IpPayload<'a>>
-    ensures { carried_of result ≡ segment_of segment.now }
+/// The segment behind a header of either family.
+fn read_segment<'a>(
+    header: &IpRepr,
+    payload: &'a [u8],
+    checksums: &ChecksumCapabilities,
+) -> Option<IpPayload<'a>>
+    requires protocol { carried_in header.now ≡ Protocol.Tcp }
+    requires short { length payload.now < 2 ^ 16 }
+    ensures { IsCarriedContent checksums.now header.now payload.now (carried_of result) }
 {
-    match segment {
-        Some(segment) => Some(IpPayload::segment(segment)),
+    let mut segment = TcpHeader::BLANK;
+    match read_tcp(header, payload, checksums, &mut segment) {
+        Some(bytes) => Some(IpPayload::Tcp(segment, SegmentText::whole(bytes))),
         None => None,
     }
 }
@@ -114,20 +125,50 @@ pub(crate) fn read_udp<'a>(
     })
 }
 
-/// The segment behind a header of either family.
+/// Reads the segment behind a header of either family: its header into a place, and the bytes that it carries.
 pub(crate) fn read_tcp<'a>(
     header: &IpRepr,
     payload: &'a [u8],
     checksums: &ChecksumCapabilities,
-) -> Option<TcpRepr<'a>>
+    segment: &mut TcpHeader,
+) -> Option<&'a [u8]>
     requires protocol { carried_in header.now ≡ Protocol.Tcp }
     requires short { length payload.now < 2 ^ 16 }
-    ensures { IsCarriedContent checksums.now header.now payload.now (segment_of result) }
+    ensures { IsCarriedContent checksums.now header.now payload.now (segment_of segment.new result) }
 {
     let packet = TcpPacket::new_unchecked(payload);
-    let (source, destination) = (header.src_addr(), header.dst_addr());
-    let Ok(segment) = TcpRepr::parse(&packet, &source, &destination, checksums) else {
-        return None;
-    };
-    Some(segment)
+    if read_header(header, &packet, checksums, segment) {
+        Some(packet.payload())
+    } else {
+        None
+    }
+}
+
+/// Reads the header of a segment between the addresses of an IP header, and says whether the bytes are one. For each family the
+/// addresses are made apart: those of either are copied once more.
+fn read_header(
+    header: &IpRepr,
+    packet: &TcpPacket,
+    checksums: &ChecksumCapabilities,
+    segment: &mut TcpHeader,
+) -> bool
+    requires { length (bytes_of packet.now) < 2 ^ 16 }
+    ensures found { result ≡ true
+        → IsTcp (source_of header.now) (destination_of header.now) (verifies checksums.now.tcp) (bytes_of packet.now) segment.new }
+    ensures only { (v : TcpHeader)
+        → IsTcp (source_of header.now) (destination_of header.now) (verifies checksums.now.tcp) (bytes_of packet.now) v
+        → (result ≡ true) × (segment.new ≡ v) }
+{
+    match header {
+        IpRepr::Ipv4(v4) => {
+            let source = IpAddress::Ipv4(v4.src_addr);
+            let destination = IpAddress::Ipv4(v4.dst_addr);
+            segment.read(packet, &source, &destination, checksums)
+        }
+        IpRepr::Ipv6(v6) => {
+            let source = IpAddress::Ipv6(v6.src_addr);
+            let destination = IpAddress::Ipv6(v6.dst_addr);
+            segment.read(packet, &source, &destination, checksums)
+        }
+    }
 }

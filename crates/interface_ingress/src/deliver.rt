@@ -1,11 +1,14 @@
 //! What arrived, given to the sockets that it is for.
 ghost use Rattle.std.specs.Prelude.{◌≡◌, ◌<◌, length, is_some, not, None, Some};
 ghost use Rattle.std.specs.Option.{ForSome};
+ghost use Rattle.net_base.specs.Time.{IsMoment};
 ghost use Rattle.icmpv4.specs.Icmpv4 as Icmpv4;
 ghost use Rattle.icmpv6.specs.Icmpv6 as Icmpv6;
 ghost use Rattle.ip_wire.specs.IpAddress.TheVariants as Address;
-ghost use Rattle.ip_wire.specs.Tcp as Tcp;
+ghost use Rattle.sockets.specs.Packet.{IsSendable};
+ghost use Rattle.sockets.specs.Replies.{packet_in};
 ghost use Rattle.sockets.specs.Socket.{accepts_datagram, accepts_segment};
+ghost use Rattle.sockets.specs.TcpAnswering as TcpAnswering;
 ghost use Rattle.interface_egress.specs.Inner.{context_of};
 ghost use Rattle.interface_ingress.specs.Arrives.{IfCanGo, answered, reply_of};
 ghost use Rattle.interface_ingress.specs.Datagrams.{TakesDatagram, PlaceTakes, GivenAt, IsDelivered};
@@ -21,9 +24,10 @@ use crate::search::{datagram_place, segment_place};
 use icmpv4::Icmpv4Repr;
 use icmpv6::Icmpv6Repr;
 use interface_egress::{InterfaceInner, Item, Places, SocketStorage};
-use ip_wire::{IpRepr, Ipv4Repr, Ipv6Repr, TcpControl, TcpRepr, UdpRepr};
-use net_base::PacketMeta;
-use sockets::{IpPayload, Packet, Socket, keys, tcp};
+use ip_wire::{IpRepr, Ipv4Repr, Ipv6Repr, TcpControl, TcpHeader, TcpRepr, UdpRepr};
+use net_base::{Instant, PacketMeta};
+use sockets::tcp::Due;
+use sockets::{Context, IpPayload, Packet, SegmentText, Socket, keys, tcp};
 
 /// A packet, as raw sockets get it.
 #[derive(Drop)]
@@ -226,21 +230,45 @@ fn process_segment<'a>(
     inner: &mut InterfaceInner,
     socket: &mut Socket,
     header: &IpRepr,
-    segment: &TcpRepr<'_>,
+    segment: &TcpHeader,
+    bytes: &[u8],
     reply: &mut Option<Reply<'a>>,
 )
     requires { reply.old ≡ None }
     ensures answer { reply_of reply.new ≡
-        answered (answer_of (context_of inner.old) header.now (Tcp.header_of segment.now) segment.now.payload.now socket.old) }
+        answered (answer_of (context_of inner.old) header.now segment.now bytes.now socket.old) }
     ensures sendable { IfCanGo (reply_of reply.new) }
-    ensures socket { socket.new ≡ with_segment (context_of inner.old) header.now (Tcp.header_of segment.now) segment.now.payload.now socket.old }
-    ensures host { inner.new ≡ drawn_if (draws_of (context_of inner.old) header.now (Tcp.header_of segment.now) segment.now.payload.now socket.old) inner.old }
+    ensures socket { socket.new ≡ with_segment (context_of inner.old) header.now segment.now bytes.now socket.old }
+    ensures host { inner.new ≡ drawn_if (draws_of (context_of inner.old) header.now segment.now bytes.now socket.old) inner.old }
 {
     if let Socket::Tcp(socket) = socket {
-        if let Some((header, segment)) = socket.process(inner, header, segment) {
-            *reply = Some(Reply::Packet(Packet::new(header, IpPayload::segment(&segment))));
+        let now = inner.now();
+        if let Some(due) = socket.take_segment(inner, header, segment, bytes) {
+            write_answer(socket, due, now, header, segment, bytes.len(), reply);
         }
     }
+}
+
+/// Writes the packet of the answer that is due to a segment, in a place of its own: so its packet isn't made ready where none is.
+#[inline(never)]
+fn write_answer<'a>(
+    socket: &tcp::Socket,
+    due: Due,
+    now: Instant,
+    header: &IpRepr,
+    segment: &TcpHeader,
+    size: usize,
+    reply: &mut Option<Reply<'a>>,
+)
+    requires moment { IsMoment now }
+    requires sendable { IsSendable (packet_in (TcpAnswering.reply_of due now socket.now header.now segment.now size)) }
+    ensures answer { reply_of reply.new ≡ answered (Some (packet_in (TcpAnswering.reply_of due now socket.now header.now segment.now size))) }
+    ensures sendable { IfCanGo (reply_of reply.new) }
+{
+    let answer = socket.answer_due(due, now, header, segment, size);
+    let text = SegmentText::whole(&[]);
+    let payload = IpPayload::Tcp(answer.segment, text);
+    *reply = Some(Reply::Packet(Packet::new(answer.header, payload)));
 }
 
 /// Gives a segment to the socket, if there is one at this place.
@@ -248,19 +276,20 @@ fn process_in<'a>(
     inner: &mut InterfaceInner,
     place: &mut SocketStorage<Socket>,
     header: &IpRepr,
-    segment: &TcpRepr<'_>,
+    segment: &TcpHeader,
+    bytes: &[u8],
     reply: &mut Option<Reply<'a>>,
 )
     requires { reply.old ≡ None }
     ensures answer { reply_of reply.new ≡
-        answered (answer_in (answer_of (context_of inner.old) header.now (Tcp.header_of segment.now) segment.now.payload.now) place.old.inner) }
+        answered (answer_in (answer_of (context_of inner.old) header.now segment.now bytes.now) place.old.inner) }
     ensures sendable { IfCanGo (reply_of reply.new) }
-    ensures place { place.new ≡ with_change (with_segment (context_of inner.old) header.now (Tcp.header_of segment.now) segment.now.payload.now) place.old }
+    ensures place { place.new ≡ with_change (with_segment (context_of inner.old) header.now segment.now bytes.now) place.old }
     ensures host { inner.new ≡
-        drawn_if (passes (draws_of (context_of inner.old) header.now (Tcp.header_of segment.now) segment.now.payload.now) place.old) inner.old }
+        drawn_if (passes (draws_of (context_of inner.old) header.now segment.now bytes.now) place.old) inner.old }
 {
     if let Some(item) = &mut place.inner {
-        process_segment(inner, &mut item.socket, header, segment, reply);
+        process_segment(inner, &mut item.socket, header, segment, bytes, reply);
     }
 }
 
@@ -271,43 +300,46 @@ fn process_at<'a>(
     places: &mut Places<Socket>,
     at: usize,
     header: &IpRepr,
-    segment: &TcpRepr<'_>,
+    segment: &TcpHeader,
+    bytes: &[u8],
     reply: &mut Option<Reply<'a>>,
 )
     requires in_range { at < length places.old }
     requires none { reply.old ≡ None }
     ensures answer { reply_of reply.new ≡
-        answered (answer_at (answer_of (context_of inner.old) header.now (Tcp.header_of segment.now) segment.now.payload.now) (Some at) places.old) }
+        answered (answer_at (answer_of (context_of inner.old) header.now segment.now bytes.now) (Some at) places.old) }
     ensures sendable { IfCanGo (reply_of reply.new) }
     ensures places { places.new ≡
-        changed_at (with_segment (context_of inner.old) header.now (Tcp.header_of segment.now) segment.now.payload.now) (Some at) places.old }
+        changed_at (with_segment (context_of inner.old) header.now segment.now bytes.now) (Some at) places.old }
     ensures host { inner.new ≡
-        drawn_if (passes_at (draws_of (context_of inner.old) header.now (Tcp.header_of segment.now) segment.now.payload.now) (Some at) places.old) inner.old }
+        drawn_if (passes_at (draws_of (context_of inner.old) header.now segment.now bytes.now) (Some at) places.old) inner.old }
 {
-    process_in(inner, places.place_mut(at), header, segment, reply);
+    process_in(inner, places.place_mut(at), header, segment, bytes, reply);
     places.file(at);
 }
 
 /// The reset that answers a segment which no socket accepts, as far as the limit on errors allows, but for a reset and a segment
-/// that a raw socket took.
+/// that a raw socket took. It has a place of its own, which isn't made ready where a socket accepts the segment.
+#[inline(never)]
 fn reset<'a>(
     inner: &mut InterfaceInner,
     header: &IpRepr,
-    segment: &TcpRepr<'_>,
+    segment: &TcpHeader,
+    bytes: &[u8],
     is_taken: bool,
     reply: &mut Option<Reply<'a>>,
 )
     requires { reply.old ≡ None }
     ensures answer { reply_of reply.new ≡
-        answered (if_it_may inner.old (reset_for header.now (Tcp.header_of segment.now) segment.now.payload.now is_taken)) }
+        answered (if_it_may inner.old (reset_for header.now segment.now bytes.now is_taken)) }
     ensures sendable { IfCanGo (reply_of reply.new) }
     ensures host { inner.new ≡
-        counted_in inner.old (reset_for header.now (Tcp.header_of segment.now) segment.now.payload.now is_taken) inner.old }
+        counted_in inner.old (reset_for header.now segment.now bytes.now is_taken) inner.old }
 {
     if is_taken || segment.control == TcpControl::Rst || !inner.count_error() {
         return;
     }
-    let (header, segment) = tcp::Socket::rst_reply(header, segment);
+    let (header, segment) = tcp::Socket::rst_reply(header, &TcpRepr::new(segment, bytes));
     *reply = Some(Reply::Packet(Packet::new(header, IpPayload::segment(&segment))));
 }
 
@@ -317,23 +349,24 @@ pub fn deliver_segment<'a>(
     inner: &mut InterfaceInner,
     places: &mut Places<Socket>,
     header: &IpRepr,
-    segment: &TcpRepr<'_>,
+    segment: &TcpHeader,
+    bytes: &[u8],
     is_taken: bool,
     reply: &mut Option<Reply<'a>>,
 )
     requires { reply.old ≡ None }
     ensures answer { reply_of reply.new ≡
-        answered (let_go (not (is_some (segment_place header.now (Tcp.header_of segment.now) places.old))) inner.old
-        (segment_answer (context_of inner.old) header.now (Tcp.header_of segment.now) segment.now.payload.now is_taken places.old)) }
+        answered (let_go (not (is_some (segment_place header.now segment.now places.old))) inner.old
+        (segment_answer (context_of inner.old) header.now segment.now bytes.now is_taken places.old)) }
     ensures sendable { IfCanGo (reply_of reply.new) }
-    ensures places { places.new ≡ segment_delivered (context_of inner.old) header.now (Tcp.header_of segment.now) segment.now.payload.now places.old }
+    ensures places { places.new ≡ segment_delivered (context_of inner.old) header.now segment.now bytes.now places.old }
     ensures host { inner.new ≡
-        counted (not (is_some (segment_place header.now (Tcp.header_of segment.now) places.old))) inner.old
-        (segment_answer (context_of inner.old) header.now (Tcp.header_of segment.now) segment.now.payload.now is_taken places.old)
-        (drawn_if (segment_draws (context_of inner.old) header.now (Tcp.header_of segment.now) segment.now.payload.now places.old) inner.old) }
+        counted (not (is_some (segment_place header.now segment.now places.old))) inner.old
+        (segment_answer (context_of inner.old) header.now segment.now bytes.now is_taken places.old)
+        (drawn_if (segment_draws (context_of inner.old) header.now segment.now bytes.now places.old) inner.old) }
 {
-    match segment_place(inner, places, header, segment) {
-        Some(at) => process_at(inner, places, at, header, segment, reply),
-        None => reset(inner, header, segment, is_taken, reply),
+    match segment_place(places, header, segment) {
+        Some(at) => process_at(inner, places, at, header, segment, bytes, reply),
+        None => reset(inner, header, segment, bytes, is_taken, reply),
     }
 }

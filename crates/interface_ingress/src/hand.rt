@@ -2,7 +2,6 @@
 ghost use Rattle.std.specs.Prelude.{◌≡◌, ◌≢◌, ◌+◌, ◌<◌, ◌≤◌, ◌^◌, length, is_some, not, None, IsTrue, IfSome};
 ghost use Rattle.ip_wire.specs.Ip.{Fits, payload_len_of, carried_in};
 ghost use Rattle.ip_wire.specs.IpProtocol.TheVariants as Protocol;
-ghost use Rattle.ip_wire.specs.Tcp as Tcp;
 ghost use Rattle.icmpv4.specs.Icmpv4 as Icmpv4;
 ghost use Rattle.icmpv6.specs.Icmpv6 as Icmpv6;
 ghost use Rattle.sockets.specs.Packet.{option_value, IsSendable};
@@ -34,7 +33,7 @@ use crate::reply::{Reply, packet_reply};
 use icmpv4::Icmpv4Repr;
 use icmpv6::Icmpv6Repr;
 use interface_egress::{InterfaceInner, Places, SocketStorage};
-use ip_wire::{IpAddress, IpProtocol, IpRepr, Ipv6Repr, TcpRepr};
+use ip_wire::{IpAddress, IpProtocol, IpRepr, Ipv6Repr, TcpHeader};
 use ipv6_headers::{Behind, Problem, carries_error, go_through};
 use sockets::addresses::{is_multicast, is_unspecified};
 use sockets::{Context, IpPayload, Packet, Socket};
@@ -373,22 +372,23 @@ fn give_segment<'a>(
     places: &mut Places<Socket>,
     header: &IpRepr,
     is_taken: bool,
-    segment: &TcpRepr<'_>,
+    segment: &TcpHeader,
+    bytes: &[u8],
     reply: &mut Option<Reply<'a>>,
 )
     requires { reply.old ≡ None }
-    ensures host { inner.new ≡ counted (is_stray inner.old places.old header.now (Tcp.header_of segment.now)) inner.old
-        (segment_reply inner.old places.old header.now is_taken (Tcp.header_of segment.now) segment.now.payload.now)
-        (segment_host inner.old places.old header.now (Tcp.header_of segment.now) segment.now.payload.now) }
-    ensures places { places.new ≡ segment_places inner.old places.old header.now (Tcp.header_of segment.now) segment.now.payload.now }
-    ensures reply { reply_of reply.new ≡ answered (let_go (is_stray inner.old places.old header.now (Tcp.header_of segment.now)) inner.old
-        (segment_reply inner.old places.old header.now is_taken (Tcp.header_of segment.now) segment.now.payload.now)) }
+    ensures host { inner.new ≡ counted (is_stray inner.old places.old header.now segment.now) inner.old
+        (segment_reply inner.old places.old header.now is_taken segment.now bytes.now)
+        (segment_host inner.old places.old header.now segment.now bytes.now) }
+    ensures places { places.new ≡ segment_places inner.old places.old header.now segment.now bytes.now }
+    ensures reply { reply_of reply.new ≡ answered (let_go (is_stray inner.old places.old header.now segment.now) inner.old
+        (segment_reply inner.old places.old header.now is_taken segment.now bytes.now)) }
     ensures sendable { IfCanGo (reply_of reply.new) }
 {
     if names_nobody(inner, header) {
         return;
     }
-    deliver_segment(inner, places, header, segment, is_taken, reply);
+    deliver_segment(inner, places, header, segment, bytes, is_taken, reply);
 }
 
 /// Gives the segment of a packet to whom it concerns, and answers it.
@@ -398,19 +398,20 @@ fn hand_segment<'a>(
     header: &IpRepr,
     payload: &'a [u8],
     is_taken: bool,
-    segment: &Option<TcpRepr<'_>>,
+    segment: &TcpHeader,
+    bytes: Option<&[u8]>,
     reply: &mut Option<Reply<'a>>,
 )
     requires fits { Fits header.now }
     requires short { length payload.now < 2 ^ 16 }
     requires none { reply.old ≡ None }
-    ensures host { inner.new ≡ limited_host inner.old places.old header.now payload.now is_taken (segment_of segment.now) }
-    ensures places { HandsTo inner.old places.old header.now (segment_of segment.now) places.new }
-    ensures reply { reply_of reply.new ≡ answered (limited_reply inner.old places.old header.now payload.now is_taken (segment_of segment.now)) }
+    ensures host { inner.new ≡ limited_host inner.old places.old header.now payload.now is_taken (segment_of segment.now bytes.entry) }
+    ensures places { HandsTo inner.old places.old header.now (segment_of segment.now bytes.entry) places.new }
+    ensures reply { reply_of reply.new ≡ answered (limited_reply inner.old places.old header.now payload.now is_taken (segment_of segment.now bytes.entry)) }
     ensures sendable { IfCanGo (reply_of reply.new) }
 {
-    match segment {
-        Some(segment) => give_segment(inner, places, header, is_taken, segment, reply),
+    match bytes {
+        Some(bytes) => give_segment(inner, places, header, is_taken, segment, bytes, reply),
         None => reply_unread(inner, header, payload, is_taken, reply),
     }
 }
@@ -434,8 +435,12 @@ fn hand_tcp<'a>(
         (arrived inner.new places.new (reply_of reply.new)) }
     ensures sendable { IfCanGo (reply_of reply.new) }
 {
-    let segment = read_tcp(upper.header, upper.bytes, &inner.checksum_caps());
-    hand_segment(inner, places, header, payload, is_taken, &segment, reply);
+    let mut segment = TcpHeader::BLANK;
+    let checksums = inner.checksum_caps();
+    let bytes = read_tcp(upper.header, upper.bytes, &checksums, &mut segment);
+    hand_segment(
+        inner, places, header, payload, is_taken, &segment, bytes, reply,
+    );
 }
 
 /// Gives a packet's control message to whom it concerns, and answers it, or answers that nothing was read.

@@ -1,13 +1,12 @@
 //! For which socket something arrived.
 ghost use Rattle.std.specs.Prelude.{◌≡◌, ◌<◌, length};
 ghost use Rattle.std.specs.Option.{ForSome};
-ghost use Rattle.ip_wire.specs.Tcp as Tcp;
 ghost use Rattle.sockets.specs.Socket.{accepts_segment};
 ghost use Rattle.interface_egress.specs.Inner.{context_of};
 ghost use Rattle.interface_ingress.specs.Delivered.{datagram_place, first_place, is_connected, segment_place};
 
 use interface_egress::{InterfaceInner, Places, Wanted};
-use ip_wire::{IpRepr, TcpRepr, UdpRepr};
+use ip_wire::{IpRepr, TcpHeader, UdpRepr};
 use sockets::{Socket, keys};
 
 /// Whom a datagram is for: a UDP socket, or a client of DHCP or DNS.
@@ -57,24 +56,22 @@ pub(crate) fn datagram_place(
 
 /// The sockets that have a segment's connection.
 #[derive(Drop)]
-struct Connected<'a, 'b> {
-    inner: &'a InterfaceInner,
+struct Connected<'a> {
     header: &'a IpRepr,
-    segment: &'a TcpRepr<'b>,
+    segment: &'a TcpHeader,
 }
 
-impl<'a, 'b> Wanted for Connected<'a, 'b> {
-    ghost use Rattle.ip_wire.specs.Tcp as Tcp;
+impl<'a> Wanted for Connected<'a> {
     ghost use Rattle.interface_ingress.specs.Delivered.{is_connected};
 
     type Socket = Socket;
 
-    ghost wants = { λ c s. is_connected s c.header.now (Tcp.header_of c.segment.now) };
+    ghost wants = { λ c s. is_connected s c.header.now c.segment.now };
 
     fn wants(&self, socket: &Socket) -> bool {
         match socket {
             Socket::Tcp(socket) => {
-                !socket.is_listening() && socket.accepts(self.inner, self.header, self.segment)
+                !socket.is_listening() && socket.accepts_header(self.header, self.segment)
             }
             _ => false,
         }
@@ -83,20 +80,11 @@ impl<'a, 'b> Wanted for Connected<'a, 'b> {
 
 /// The first place whose socket has a segment's connection.
 #[tactic(auto, using(crate::proofs::Sought::of_connected))]
-fn connection_place(
-    inner: &InterfaceInner,
-    places: &Places<Socket>,
-    header: &IpRepr,
-    segment: &TcpRepr<'_>,
-) -> Option<usize>
-    ensures place { result ≡ first_place (λ s. is_connected s header.now (Tcp.header_of segment.now)) places.now }
+fn connection_place(places: &Places<Socket>, header: &IpRepr, segment: &TcpHeader) -> Option<usize>
+    ensures place { result ≡ first_place (λ s. is_connected s header.now segment.now) places.now }
     ensures in_range { ForSome result (λ at. at < length places.now) }
 {
-    let connected = Connected {
-        inner,
-        header,
-        segment,
-    };
+    let connected = Connected { header, segment };
     places.find(
         keys::of_ports(segment.dst_port, segment.src_port),
         None,
@@ -106,23 +94,21 @@ fn connection_place(
 
 /// The sockets that accept a segment.
 #[derive(Drop)]
-struct Acceptors<'a, 'b> {
-    inner: &'a InterfaceInner,
+struct Acceptors<'a> {
     header: &'a IpRepr,
-    segment: &'a TcpRepr<'b>,
+    segment: &'a TcpHeader,
 }
 
-impl<'a, 'b> Wanted for Acceptors<'a, 'b> {
-    ghost use Rattle.ip_wire.specs.Tcp as Tcp;
+impl<'a> Wanted for Acceptors<'a> {
     ghost use Rattle.sockets.specs.Socket.{accepts_segment};
 
     type Socket = Socket;
 
-    ghost wants = { λ a s. accepts_segment s a.header.now (Tcp.header_of a.segment.now) };
+    ghost wants = { λ a s. accepts_segment s a.header.now a.segment.now };
 
     fn wants(&self, socket: &Socket) -> bool {
         match socket {
-            Socket::Tcp(socket) => socket.accepts(self.inner, self.header, self.segment),
+            Socket::Tcp(socket) => socket.accepts_header(self.header, self.segment),
             _ => false,
         }
     }
@@ -130,20 +116,11 @@ impl<'a, 'b> Wanted for Acceptors<'a, 'b> {
 
 /// The first place whose socket accepts a segment.
 #[tactic(auto, using(crate::proofs::Sought::of_acceptors))]
-fn accepting_place(
-    inner: &InterfaceInner,
-    places: &Places<Socket>,
-    header: &IpRepr,
-    segment: &TcpRepr<'_>,
-) -> Option<usize>
-    ensures place { result ≡ first_place (λ s. accepts_segment s header.now (Tcp.header_of segment.now)) places.now }
+fn accepting_place(places: &Places<Socket>, header: &IpRepr, segment: &TcpHeader) -> Option<usize>
+    ensures place { result ≡ first_place (λ s. accepts_segment s header.now segment.now) places.now }
     ensures in_range { ForSome result (λ at. at < length places.now) }
 {
-    let acceptors = Acceptors {
-        inner,
-        header,
-        segment,
-    };
+    let acceptors = Acceptors { header, segment };
     places.find(
         keys::of_ports(segment.dst_port, segment.src_port),
         Some(keys::of_listeners(segment.dst_port)),
@@ -153,16 +130,15 @@ fn accepting_place(
 
 /// The place whose socket gets a segment: that of its connection, else the first that accepts it.
 pub(crate) fn segment_place(
-    inner: &InterfaceInner,
     places: &Places<Socket>,
     header: &IpRepr,
-    segment: &TcpRepr<'_>,
+    segment: &TcpHeader,
 ) -> Option<usize>
-    ensures place { result ≡ segment_place header.now (Tcp.header_of segment.now) places.now }
+    ensures place { result ≡ segment_place header.now segment.now places.now }
     ensures in_range { ForSome result (λ at. at < length places.now) }
 {
-    match connection_place(inner, places, header, segment) {
+    match connection_place(places, header, segment) {
         Some(at) => Some(at),
-        None => accepting_place(inner, places, header, segment),
+        None => accepting_place(places, header, segment),
     }
 }
