@@ -7,7 +7,7 @@ use Rattle.interface_egress.specs.declared.socket_set.Item.{Item}
 use Rattle.interface.specs.Host.{sender}
 use Rattle.interface.specs.Turn.{SendsBy}
 use Rattle.interface.proofs.Sourced.{sends_from}
-use Rattle.interface.proofs.turn.send_offered.Goals as goal
+use Rattle.interface.proofs.turn.send_any.Goals as goal
 
 pub returns-clause-sends : goal.returns-clause-sends
 returns-clause-sends g c =
