@@ -126,7 +126,9 @@ def prove_into(self, flags, out):
         crate = copy.copy(self)
         crate.__class__ = RtCrate
         crate.out = out
-        started, cpu = time.time(), os.times()
+        started = time.time()
+        if os.environ.get("RT_PROOF_JOBS"):
+            flags = ["--jobs", os.environ["RT_PROOF_JOBS"]]
         words = crate.words(flags, keeps=False) + ["--statements"]
         status = crate.prove(["build", *words, "-o", f"{room}/{self.name}.rlib"])
         took = time.time() - started

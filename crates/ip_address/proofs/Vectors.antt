@@ -1,10 +1,11 @@
 -- The sum of bytes taken in vectors of eight words, each the number of eight bytes.
-use Rattle.std.proofs.Common.{◌≡◌, ℕ, ◌+◌, ◌*◌, ◌/◌, ◌%◌, ◌^◌, ◌<◌, ◌≤◌, List, [], ◌∷◌, ◌++◌, length, map, take, drop, bit_and, zero, suc}
-use Rattle.std.proofs.Common.{refl, sym, ◌∙◌, ap, arith, length-take}
+use Rattle.std.proofs.Common.{◌≡◌, ℕ, ◌+◌, ◌-◌, ◌*◌, ◌/◌, ◌%◌, ◌^◌, ◌<◌, ◌≤◌, List, [], ◌∷◌, ◌++◌, length, map, take, drop, bit_and, zero, suc}
+use Rattle.std.proofs.Common.{refl, sym, subst, ◌∙◌, ap, arith, replicate, length-take}
 use Rattle.std.proofs.lemmas.List.{take-append-drop}
 use Rattle.std.proofs.lemmas.Nat.{and_mask}
 use Rattle.std.proofs.lemmas.Simd.{take_more_put_chunk, length-put_chunk, length-chunk, length-zip2}
 use Rattle.std.specs.Simd.Lanes.{Each1, zip2, sum_l, chunk, put_chunk, digits_l, number_l, fold_l}
+use Rattle.ip_address.specs.Halves.{halves_in}
 use Rattle.ip_address.specs.Sum.{word_sum, folded}
 use Rattle.ip_address.specs.LowFirst.{low_first}
 use Rattle.ip_address.proofs.Sums.{folded-more, folded-both, folded-low_first, folded-times, folded-swapped, word_sum-append}
@@ -88,6 +89,45 @@ sum-words (suc n) _ len small = absurd (omega arith)
 abbrev pub step_lanes : List ℕ → List ℕ
 step_lanes bytes = map halves (digits_l 18446744073709551616 8 (number_l 256 bytes))
 
+-- one word less another, and a word raised by so many bits
+abbrev less : ℕ → ℕ → ℕ
+less a b = (a + (18446744073709551616 - b)) % 18446744073709551616
+
+abbrev raised : ℕ → ℕ → ℕ
+raised a b = (a * 2 ^ b) % 18446744073709551616
+
+-- lane by lane, the words less the high halves, and the high halves
+pub halves_by_lanes : (n : ℕ) (words high : List ℕ) → length words ≡ n → length high ≡ n
+    → zip2 added (zip2 less words (zip2 raised high (replicate n 32))) high ≡ zip2 halves_in words high
+halves_by_lanes zero [] high lanes same = refl
+halves_by_lanes zero (w ∷ words) high lanes same = absurd (omega arith)
+halves_by_lanes (suc n) [] high lanes same = absurd (omega arith)
+halves_by_lanes (suc n) (w ∷ words) [] lanes same = absurd (omega arith)
+halves_by_lanes (suc n) (w ∷ words) (h ∷ high) lanes same =
+    ap (λ lanes. halves_in w h ∷ lanes) (halves_by_lanes n words high (omega arith) (omega arith))
+
+-- the high half of a word
+abbrev upper : ℕ → ℕ
+upper w = w / 4294967296
+
+-- a word more brings its halves
+halves_of_one_more : (t h w : ℕ) → w < 18446744073709551616 → halves_in (added t w) (added h (upper w)) ≡ added (halves_in t h) (halves w)
+halves_of_one_more t h w less = let is : halves w ≡ w % 4294967296 + w / 4294967296 = halves-is w less in omega arith
+
+halves_of_more : (n : ℕ) (words high : List ℕ) (x : ℕ) → length words ≡ n → length high ≡ n
+    → zip2 halves_in (zip2 added words (digits_l 18446744073709551616 n x)) (zip2 added high (map upper (digits_l 18446744073709551616 n x)))
+    ≡ zip2 added (zip2 halves_in words high) (map halves (digits_l 18446744073709551616 n x))
+halves_of_more zero [] high x lanes same = refl
+halves_of_more zero (w ∷ words) high x lanes same = absurd (omega arith)
+halves_of_more (suc n) [] high x lanes same = absurd (omega arith)
+halves_of_more (suc n) (t ∷ words) [] x lanes same = absurd (omega arith)
+halves_of_more (suc n) (t ∷ words) (h ∷ high) x lanes same =
+    let w : ℕ = x % 18446744073709551616 in
+    let rest : ℕ = x / 18446744073709551616 in
+    ap (λ (lane : ℕ). lane ∷ zip2 halves_in (zip2 added words (digits_l 18446744073709551616 n rest)) (zip2 added high (map upper (digits_l 18446744073709551616 n rest))))
+    (halves_of_one_more t h w (omega arith))
+    ∙ ap (λ lanes. added (halves_in t h) (halves w) ∷ lanes) (halves_of_more n words high rest (omega arith) (omega arith))
+
 -- what a loop over the bytes keeps: the lanes sum to what the first of them do
 pub record IsSummedSoFar (from total : List ℕ) (whole done : ℕ) : Type 0 where
   pub place : done ≤ whole
@@ -123,14 +163,20 @@ take_chunk (suc i) n (x ∷ xs) le =
     let e : suc i + n ≡ suc (i + n) = omega arith in
     ap (λ k. take k (x ∷ xs)) e ∙ ap (λ ys. x ∷ ys) (take_chunk i n xs (omega arith))
 
+-- It sums the words, and their high halves: so their halves.
+pub record AreSummedSoFar (from words high : List ℕ) (whole done : ℕ) : Type 0 where
+  pub lanes : length words ≡ 8
+  pub high_lanes : length high ≡ 8
+  pub halves : IsSummedSoFar from (zip2 halves_in words high) whole done
+
 -- and they are copied
-pub record IsCopiedSoFar (to from total : List ℕ) (whole done : ℕ) : Type 0 where
-  pub summed : IsSummedSoFar from total whole done
+pub record IsCopiedSoFar (to from words high : List ℕ) (whole done : ℕ) : Type 0 where
+  pub summed : AreSummedSoFar from words high whole done
   pub as_long : length to ≡ length from
   pub copied : take done to ≡ take done from
 
--- the step of a loop that sums
-pub IsSummedSoFar-step : (from total : List ℕ) (whole done : ℕ) → IsSummedSoFar from total whole done → done < whole → length from < 2 ^ 32
+-- a step with the sum of all halves
+IsSummedSoFar-step : (from total : List ℕ) (whole done : ℕ) → IsSummedSoFar from total whole done → done < whole → length from < 2 ^ 32
     → Each1 (λ b. b < 256) (chunk done 64 from) → IsSummedSoFar from (zip2 added total (step_lanes (chunk done 64 from))) whole (done + 64)
 IsSummedSoFar-step from total whole done before less fits small =
     let place : done ≤ whole = before.place in
@@ -154,21 +200,42 @@ IsSummedSoFar-step from total whole done before less fits small =
       same = added'.2 ∙ ap (λ xs. folded (word_sum xs)) (sym joined);
     }
 
--- that of one that copies, too
-pub IsCopiedSoFar-step : (to from total : List ℕ) (whole done : ℕ) → IsCopiedSoFar to from total whole done → done < whole → length from < 2 ^ 32
+-- the words of eight bytes each, one a lane
+abbrev words_in : List ℕ → List ℕ
+words_in bytes = digits_l 18446744073709551616 8 (number_l 256 bytes)
+
+-- the step of a loop that sums
+pub AreSummedSoFar-step : (from words high : List ℕ) (whole done : ℕ) → AreSummedSoFar from words high whole done → done < whole → length from < 2 ^ 32
     → Each1 (λ b. b < 256) (chunk done 64 from)
-    → IsCopiedSoFar (put_chunk done to (chunk done 64 from)) from (zip2 added total (step_lanes (chunk done 64 from))) whole (done + 64)
-IsCopiedSoFar-step to from total whole done before less fits small =
-    let place : done ≤ whole = before.summed.place in
-    let within : whole ≤ length from = before.summed.within in
-    let ends : whole % 64 ≡ 0 = before.summed.ends in
-    let steps : done % 64 ≡ 0 = before.summed.steps in
+    → AreSummedSoFar from (zip2 added words (words_in (chunk done 64 from))) (zip2 added high (map upper (words_in (chunk done 64 from)))) whole (done + 64)
+AreSummedSoFar-step from words high whole done before less fits small =
+    let these : List ℕ = words_in (chunk done 64 from) in
+    let eight : length these ≡ 8 = refl in
+    let eight_high : length (map upper these) ≡ 8 = refl in
+    record {
+      lanes = length-zip2 added words these (before.lanes ∙ sym eight) ∙ before.lanes;
+      high_lanes = length-zip2 added high (map upper these) (before.high_lanes ∙ sym eight_high) ∙ before.high_lanes;
+      halves = subst (λ (lanes : List ℕ). IsSummedSoFar from lanes whole (done + 64))
+          (sym (halves_of_more 8 words high (number_l 256 (chunk done 64 from)) before.lanes before.high_lanes))
+          (IsSummedSoFar-step from (zip2 halves_in words high) whole done before.halves less fits small);
+    }
+
+-- that of one that copies, too
+pub IsCopiedSoFar-step : (to from words high : List ℕ) (whole done : ℕ) → IsCopiedSoFar to from words high whole done → done < whole → length from < 2 ^ 32
+    → Each1 (λ b. b < 256) (chunk done 64 from)
+    → IsCopiedSoFar (put_chunk done to (chunk done 64 from)) from (zip2 added words (words_in (chunk done 64 from)))
+    (zip2 added high (map upper (words_in (chunk done 64 from)))) whole (done + 64)
+IsCopiedSoFar-step to from words high whole done before less fits small =
+    let place : done ≤ whole = before.summed.halves.place in
+    let within : whole ≤ length from = before.summed.halves.within in
+    let ends : whole % 64 ≡ 0 = before.summed.halves.ends in
+    let steps : done % 64 ≡ 0 = before.summed.halves.steps in
     let as_long : length to ≡ length from = before.as_long in
     let next : done + 64 ≤ whole = omega arith in
     let bytes : List ℕ = chunk done 64 from in
     let long : length bytes ≡ 64 = length-chunk done 64 from (omega arith) in
     record {
-      summed = IsSummedSoFar-step from total whole done before.summed less fits small;
+      summed = AreSummedSoFar-step from words high whole done before.summed less fits small;
       as_long = length-put_chunk done to bytes ∙ as_long;
       copied =
           take_more_put_chunk done to bytes (done + 64) (omega arith) (omega arith) ∙ ap (λ xs. xs ++ bytes) before.copied

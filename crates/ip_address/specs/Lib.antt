@@ -8,6 +8,7 @@ pub mod AddressTests
 pub mod Protocol
 pub mod Pseudo
 pub mod Seq
+pub mod Halves
 pub mod Hardware
 pub mod Text
 pub mod Order

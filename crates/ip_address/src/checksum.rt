@@ -3,6 +3,8 @@
 ghost use Rattle.std.specs.Prelude.{◌≡◌, ◌≢◌, ◌↔◌, ℕ, ◌+◌, ◌-◌, ◌*◌, ◌/◌, ◌%◌, ◌^◌, ◌<◌, ◌≤◌, List, ◌++◌, length, sum};
 ghost use Rattle.ip_address.specs.Address.{version_of};
 ghost use Rattle.ip_address.specs.Fields.{be16, put16};
+ghost use Rattle.std.specs.Simd.Lanes.{fold_l, zip2};
+ghost use Rattle.ip_address.specs.Halves.{halves_in};
 ghost use Rattle.ip_address.specs.LowFirst.{low_first};
 ghost use Rattle.ip_address.specs.Protocol.{protocol_number};
 ghost use Rattle.ip_address.specs.Pseudo.{FitsPseudo, covered, pseudo_of, pseudo_v4, pseudo_v6};
@@ -35,14 +37,16 @@ fn sum_in_vectors(bytes: &[u8]) -> u16
     ensures { result ≡ folded (word_sum bytes.now) }
 {
     let whole = bytes.len() / 64 * 64;
-    let mut total = u64x8::splat(0);
+    let (mut words, mut high) = (u64x8::splat(0), u64x8::splat(0));
     let mut done = 0;
     while done < whole {
-        let words = u64x8::from_le_bytes(u8x64::from_slice(&bytes[done..]));
-        total += (words & u64x8::splat(0xffff_ffff)) + (words >> u64x8::splat(32));
+        let these = u64x8::from_le_bytes(u8x64::from_slice(&bytes[done..]));
+        words += these;
+        high += these >> u64x8::splat(32);
         done += 64;
     }
-    fold(add_u128(total.reduce_sum() as u128, sum_low_first(&bytes[done..]))).swap_bytes()
+    let halves = sum_of_halves(words, high) as u128;
+    fold(add_u128(halves, sum_low_first(&bytes[done..]))).swap_bytes()
 }
 
 /// Copies the bytes and answers their sum, as `data` does, in one pass over them. It is for payloads
@@ -54,18 +58,28 @@ pub fn copy(to: &mut [u8], from: &[u8]) -> u16
     ensures sum { result ≡ folded (word_sum from.now) }
 {
     let whole = from.len() / 64 * 64;
-    let mut total = u64x8::splat(0);
+    let (mut words, mut high) = (u64x8::splat(0), u64x8::splat(0));
     let mut done = 0;
     while done < whole {
         let bytes = u8x64::from_slice(&from[done..]);
         bytes.copy_to_slice(&mut to[done..]);
-        // The halves of each word are added, since 2^32 is 1 modulo 65535: so no lane overflows.
-        let words = u64x8::from_le_bytes(bytes);
-        total += (words & u64x8::splat(0xffff_ffff)) + (words >> u64x8::splat(32));
+        let these = u64x8::from_le_bytes(bytes);
+        words += these;
+        high += these >> u64x8::splat(32);
         done += 64;
     }
     to[done..].copy_from_slice(&from[done..]);
-    fold(add_u128(total.reduce_sum() as u128, sum_low_first(&from[done..]))).swap_bytes()
+    let halves = sum_of_halves(words, high) as u128;
+    fold(add_u128(halves, sum_low_first(&from[done..]))).swap_bytes()
+}
+
+/// What the halves of words sum to, of which these are the sums of the words, as far as a lane holds them, and of
+/// their high halves. Since 2^32 is 1 modulo 65535 the halves count as the words do, and their sums overflow
+/// no lane; what the words sum to without the high halves is what the low ones do.
+fn sum_of_halves(words: u64x8, high: u64x8) -> u64
+    ensures { result ≡ fold_l (λ a b. (a + b) % 2 ^ 64) 0 (zip2 halves_in words high) }
+{
+    (words - (high << u64x8::splat(32)) + high).reduce_sum()
 }
 
 /// The one's complement sum of two strings of bytes, one behind the other, of their sums. The bytes

@@ -33,6 +33,17 @@ pub struct TcpHeader {
 }
 
 impl TcpHeader {
+    /// A place that a header is read into: no options, and else zeros.
+    pub const BLANK: TcpHeader = TcpHeader {
+        src_port: 0,
+        dst_port: 0,
+        control: TcpControl::None,
+        seq_number: SeqNumber(0),
+        ack_number: None,
+        window_len: 0,
+        options: TcpOptions::NONE,
+    };
+
     /// The header of the segment in the bytes. Its checksum is tested where the capabilities say
     /// that the stack does so.
     pub fn parse(
@@ -49,27 +60,59 @@ impl TcpHeader {
             → IsTcp source.now destination.now (verifies checksum_caps.now.tcp) (bytes_of packet.now) v
             → result ≡ Ok v }
     {
-        packet.check_len()?;
-        if packet.src_port() == 0 || packet.dst_port() == 0 {
-            return Err(Error);
+        let mut header = TcpHeader::BLANK;
+        if header.read(packet, source, destination, checksum_caps) {
+            Ok(header)
+        } else {
+            Err(Error)
+        }
+    }
+
+    /// Reads the header of the segment in the bytes into this place, as `parse` does, and says
+    /// whether they are a segment. Where they aren't, what the place holds isn't said.
+    ///
+    /// A header that is handed up in a `Result` is copied by each call that it goes through.
+    pub fn read(
+        &mut self,
+        packet: &TcpPacket,
+        source: &IpAddress,
+        destination: &IpAddress,
+        checksum_caps: &ChecksumCapabilities,
+    ) -> bool
+        requires family { version_of source.now ≡ version_of destination.now }
+        requires fits { length (bytes_of packet.now) < 2 ^ 16 }
+        ensures found { result ≡ true
+            → IsTcp source.now destination.now (verifies checksum_caps.now.tcp) (bytes_of packet.now) self.new }
+        ensures only { (v : TcpHeader)
+            → IsTcp source.now destination.now (verifies checksum_caps.now.tcp) (bytes_of packet.now) v
+            → (result ≡ true) × (self.new ≡ v) }
+    {
+        if packet.check_len().is_err() || packet.src_port() == 0 || packet.dst_port() == 0 {
+            return false;
         }
         if checksum_caps.tcp.rx() && !packet.verify_checksum(source, destination) {
-            return Err(Error);
+            return false;
         }
         let flags = TcpControl::from_flags(packet.syn(), packet.fin(), packet.rst(), packet.psh());
         let Some(control) = flags else {
-            return Err(Error);
+            return false;
         };
-        let options = TcpOptions::parse(packet.options())?;
-        Ok(TcpHeader {
-            src_port: packet.src_port(),
-            dst_port: packet.dst_port(),
-            control,
-            seq_number: packet.seq_number(),
-            ack_number: acknowledged(packet),
-            window_len: packet.window_len(),
-            options,
-        })
+        let (src_port, dst_port, window_len) = (
+            packet.src_port(),
+            packet.dst_port(),
+            packet.window_len(),
+        );
+        let (seq_number, ack_number) = (packet.seq_number(), acknowledged(packet));
+        if !self.options.read(packet.options()) {
+            return false;
+        }
+        self.src_port = src_port;
+        self.dst_port = dst_port;
+        self.control = control;
+        self.seq_number = seq_number;
+        self.ack_number = ack_number;
+        self.window_len = window_len;
+        true
     }
 
     /// The length of the header with room for its options, a multiple of four. Ranges count also

@@ -1,5 +1,5 @@
 //! TCP options: read one by one, read as a whole, and written.
-ghost use Rattle.std.specs.Prelude.{◌≡◌, ℕ, ◌<◌, ◌≤◌, ◌^◌, IsOk, IfOk, List, length};
+ghost use Rattle.std.specs.Prelude.{◌≡◌, ℕ, ◌<◌, ◌≤◌, ◌^◌, true, IsOk, IfOk, List, length};
 ghost use Rattle.ip_tcp.specs.Options.{OptionValue, value_of, range_at, no_options, taken, Begins, Says};
 ghost use Rattle.ip_tcp.specs.Seen.{inside, first_long, is_end, seen, seen_first};
 ghost use Rattle.ip_tcp.specs.declared.option.TcpOptions.{TcpOptions};
@@ -121,17 +121,19 @@ pub struct TcpOptions {
 }
 
 impl TcpOptions {
+    pub const NONE: TcpOptions = TcpOptions {
+        max_seg_size: None,
+        window_scale: None,
+        sack_permitted: false,
+        sack_ranges: [None; 3],
+        timestamp: None,
+    };
+
     /// No option.
     pub fn none() -> TcpOptions
         ensures { result ≡ no_options }
     {
-        TcpOptions {
-            max_seg_size: None,
-            window_scale: None,
-            sack_permitted: false,
-            sack_ranges: [None; 3],
-            timestamp: None,
-        }
+        TcpOptions::NONE
     }
 
     /// The options in the option bytes of a header, up to their end.
@@ -150,6 +152,36 @@ impl TcpOptions {
             rest = behind;
         }
         Ok(options)
+    }
+
+    /// Reads the options in the option bytes of a header into this place, as `parse` does, and says
+    /// whether they are options. Where they aren't, what the place holds isn't said.
+    pub fn read(&mut self, area: &[u8]) -> bool
+        ensures found { result ≡ true → Says no_options area.now self.new }
+        ensures only { (v : TcpOptions) → Says no_options area.now v → (result ≡ true) × (self.new ≡ v) }
+    {
+        if area.is_empty() {
+            *self = TcpOptions::none();
+            true
+        } else {
+            self.read_some(area)
+        }
+    }
+
+    /// The same of options that are there, in a place of its own: so their places aren't made ready
+    /// where there are none.
+    #[inline(never)]
+    fn read_some(&mut self, area: &[u8]) -> bool
+        ensures found { result ≡ true → Says no_options area.now self.new }
+        ensures only { (v : TcpOptions) → Says no_options area.now v → (result ≡ true) × (self.new ≡ v) }
+    {
+        match TcpOptions::parse(area) {
+            Ok(options) => {
+                *self = options;
+                true
+            }
+            Err(_) => false,
+        }
     }
 
     /// These options with one more, which replaces an earlier one of its kind.

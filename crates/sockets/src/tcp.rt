@@ -1,5 +1,5 @@
 //! TCP's sockets.
 pub use tcp_socket::{
-    CongestionControl, ConnectError, ListenError, OfferedSegment, RecvError, Reno, SendError,
-    Socket, SocketBuffer, State,
+    CongestionControl, ConnectError, Due, ListenError, OfferedSegment, RecvError, Reno, Reply,
+    SendError, Socket, SocketBuffer, State,
 };

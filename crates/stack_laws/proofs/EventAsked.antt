@@ -32,7 +32,7 @@ no_earlier t = omega (arith, ints)
 in_turn : (a b c : ℤ) → a ≤ℤ b → b ≤ℤ c → a ≤ℤ c
 in_turn a b c one two = omega (arith, ints, one, two)
 
-and_more : (a b : ℤ) (n : ℕ) → a ≤ℤ b → a ≤ℤ (b +ℤ pos n)
+pub and_more : (a b : ℤ) (n : ℕ) → a ≤ℤ b → a ≤ℤ (b +ℤ pos n)
 and_more a b n e = first_of (omega (arith, ints), grind (arith, ints))
 
 -- one moment is no later than another, or it is
@@ -81,17 +81,17 @@ module _ (mtu : ℕ) where
 -- ASKED, without numbers
 
 module _ (seats : Side → Seat) where
-  abbrev AskedIn : ℤ → ℤ → Side → Net → List (ℤ × Step) → Type 0
+  abbrev pub AskedIn : ℤ → ℤ → Side → Net → List (ℤ × Step) → Type 0
   AskedIn due last side net [] = Unit {0}
   AskedIn due last side net (x ∷ more) =
       (x.0 ≤ℤ last)
       × (AsksIn seats side x.1 ⊎ ((WantsIn seats due (after net x.1) side → ⊥) ⊎ AskedIn due last side (after net x.1) more))
 
   -- whichever wants to be asked from a moment on is asked in time
-  abbrev From : ℕ → ℤ → Net → List (ℤ × Step) → Type 0
+  abbrev pub From : ℕ → ℤ → Net → List (ℤ × Step) → Type 0
   From wait now net xs = (side : Side) (due : ℤ) → now ≤ℤ due → WantsIn seats due net side → AskedIn due (due +ℤ pos wait) side net xs
 
-  abbrev Asked : ℕ → ℤ → Net → List (ℤ × Step) → Type 0
+  abbrev pub Asked : ℕ → ℤ → Net → List (ℤ × Step) → Type 0
   Asked wait now net [] = Unit {0}
   Asked wait now net (x ∷ more) = From wait now net (x ∷ more) × Asked wait x.0 (after net x.1) more
 
@@ -102,7 +102,7 @@ module _ (seats : Side → Seat) where
   in_numbered due last side net (x ∷ more) (soon, inr (inl never)) = (soon, inr (inl never))
   in_numbered due last side net (x ∷ more) (soon, inr (inr on)) = (soon, inr (inr (in_numbered due last side (after net x.1.step) more on)))
 
-  numbered_so : (wait : ℕ) (now : ℤ) (net : Net) (moves : List (ℤ × Happening)) → Asked wait now net (timed moves) → AreAsked seats wait now net moves
+  pub numbered_so : (wait : ℕ) (now : ℤ) (net : Net) (moves : List (ℤ × Happening)) → Asked wait now net (timed moves) → AreAsked seats wait now net moves
   numbered_so wait now net [] asked = tt
   numbered_so wait now net (x ∷ more) asked = (
     λ side due later wants. in_numbered due (due +ℤ pos wait) side net (x ∷ more) (asked.0 side due later wants),
@@ -118,7 +118,7 @@ module _ (seats : Side → Seat) where
 
   module _ (wait : ℕ) (t : ℤ) (rest : List (ℤ × Step)) where
     -- who wants to be asked behind the event, and wants it before, is asked in what follows
-    asked_through : (due last : ℤ) (side : Side) (net : Net) (steps : List Step) → t ≤ℤ last → WantsIn seats due net side →
+    pub asked_through : (due last : ℤ) (side : Side) (net : Net) (steps : List Step) → t ≤ℤ last → WantsIn seats due net side →
         (WantsIn seats due (run net steps) side → AskedIn due last side (run net steps) rest) → AskedIn due last side net (all_at t steps ++ rest)
     asked_through due last side net [] soon wants onward = onward wants
     asked_through due last side net (step ∷ steps) soon wants onward = (
@@ -133,7 +133,7 @@ module _ (seats : Side → Seat) where
         by goes (inl wants) = inr (goes wants)
         by goes (inr not) = inl not
 
-    all_asked : (now : ℤ) (net : Net) (steps : List Step) → From wait now net (all_at t steps ++ rest)
+    pub all_asked : (now : ℤ) (net : Net) (steps : List Step) → From wait now net (all_at t steps ++ rest)
         → ((side : Side) (due : ℤ) → t ≤ℤ due → WantsIn seats due (run net steps) side → AskedIn due (due +ℤ pos wait) side (run net steps) rest)
         → Asked wait t (run net steps) rest → Asked wait now net (all_at t steps ++ rest)
     all_asked now net [] first behind asked = from_moment wait now t net rest first asked
@@ -150,7 +150,7 @@ module _ (starts : Starts) (places : Side → ℕ) (wait : ℕ) (net : Net) (pas
   abbrev seats : Side → Seat
   seats = seats_of starts places
 
-  net_at : (more : List Entry) (hosts : Stations) (still : StillRun starts (more ++ past) hosts) (moves : List (ℤ × Step)) →
+  pub net_at : (more : List Entry) (hosts : Stations) (still : StillRun starts (more ++ past) hosts) (moves : List (ℤ × Step)) →
       MoveBy starts net past more hosts still moves → IsNetOf (run net (untimed moves)) hosts (more ++ past)
   net_at [] hosts still moves by = subst (λ (xs : List (ℤ × Step)). IsNetOf (run net (untimed xs)) hosts past) (sym by.0) by.1
   net_at (e ∷ more) hosts still moves (before, these, is, by, happens) =
@@ -165,7 +165,7 @@ module _ (starts : Starts) (places : Side → ℕ) (wait : ℕ) (net : Net) (pas
     abbrev Wants : ℤ → ℕ → List (Option Socket) → Type 0
     Wants due mtu sockets = Wanting mtu due (slice_index_or sockets (places side) None)
 
-    to_host : (due : ℤ) → WantsIn seats due n side → WantsAt due (places side) (station hosts side)
+    pub to_host : (due : ℤ) → WantsIn seats due n side → WantsAt due (places side) (station hosts side)
     to_host due wants =
         subst (λ (mtu : ℕ). Wants due mtu (sockets_of (station hosts side).places)) (sym (seen_in_run starts history hosts still side).mtu)
         (subst (λ (sockets : List (Option Socket)). Wants due (seats side).host.ip_mtu sockets) (of.sockets side) wants)
@@ -236,7 +236,7 @@ module _ (starts : Starts) (places : Side → ℕ) (wait : ℕ) (net : Net) (pas
       (λ side due later. behind side due (in_turn (showed side) t due (in_turn (showed side) now t (up side) keep.1) later))
       (subst (λ (n : Net). Asked seats wait t n rest) ends asked)))
 
-append_none : (xs : List (ℤ × Step)) → xs ++ [] ≡ xs
+pub append_none : (xs : List (ℤ × Step)) → xs ++ [] ≡ xs
 append_none [] = refl
 append_none (x ∷ xs) = ap (λ (ys : List (ℤ × Step)). x ∷ ys) (append_none xs)
 

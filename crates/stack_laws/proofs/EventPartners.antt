@@ -27,12 +27,12 @@ use Rattle.lan.specs.Worlds.Still.{StillRun, seats_of}
 use Rattle.lan.proofs.Worlds.AtLink.Paired.Runs.{partners_have_numbers}
 use Rattle.lan.proofs.Worlds.Moves.Calls.{names}
 use Rattle.lan.proofs.Worlds.Moves.Worlds.{fresh_net}
-use Rattle.stack_laws.proofs.EventAsked.{are_asked}
+use Rattle.stack_laws.proofs.EventAtOnce.{are_asked_within}
 use Rattle.stack_laws.proofs.EventClocks.{at_moments}
 use Rattle.stack_laws.proofs.EventComes.{brought_over}
 use Rattle.stack_laws.proofs.EventLeave.{are_let_go}
 use Rattle.stack_laws.proofs.EventMoves.{events_move}
-use Rattle.stack_laws.proofs.EventReads.{are_read}
+use Rattle.stack_laws.proofs.EventSpace.{read_within}
 use Rattle.stack_laws.proofs.EventStamps.{fresh_unstamped}
 use Rattle.stack_laws.proofs.EventStreams.{keep_streams}
 use Rattle.stack_laws.proofs.MovedOn as MovedOn
@@ -110,13 +110,12 @@ go_on_by_events starts past more hosts places news fresh typed still new keys te
           (λ v. is_synchronized v.block.state ≡ true) ((so A).stay s);
       clock = λ s. upto (at_clocks s) (shown_in starts past s) (clock_in past) (them.showed places s) (so s).clock;
       moments = at_moments starts at past more hosts moves seats at_clocks still (by moves is) (so A).one_clock;
-      asked = are_asked starts at past more hosts still places moves wait (so A).rested (by moves is) (so A).one_clock (so A).are_served;
+      asked = are_asked_within starts at past more hosts still places moves wait (by moves is) (so A).one_clock (so A).are_served;
       let_go = let_go;
       come = come;
       read_in_time = λ s.
           subst (λ (of : Side). IsReadInTime seats read (clock_in past) at of moves) (back s)
-          (are_read starts at past more hosts still seats moves (other (other s)) read (so (other s)).last (by moves is) (so (other s)).one_clock
-          (so (other s)).reads);
+          (read_within starts at past more hosts still seats moves (other (other s)) read (by moves is) (so (other s)).one_clock (so (other s)).reads);
       streams = λ s. keep_streams starts at past more hosts still seats moves s (by moves is) (streams s);
       rooms = λ s.
           subst (λ (of : Side). SocketIs seats at of (λ v. 1 ≤ room_of v.received)) (back s)
@@ -146,10 +145,10 @@ go_on_by_events starts past more hosts places news fresh typed still new keys te
                   (λ v. is_synchronized v.block.state ≡ true) (so.stay s);
               clock = upto (at_clocks side) (shown_in starts past side) (clock_in past) (them.showed places side) so.clock;
               moments = at_moments starts at past more hosts moves seats at_clocks still (by moves is) so.one_clock;
-              asked = are_asked starts at past more hosts still places moves wait so.rested (by moves is) so.one_clock so.are_served;
+              asked = are_asked_within starts at past more hosts still places moves wait (by moves is) so.one_clock so.are_served;
               let_go = let_go;
               heard = heard;
-              read_in_time = are_read starts at past more hosts still seats moves (other side) read so.last (by moves is) so.one_clock so.reads;
+              read_in_time = read_within starts at past more hosts still seats moves (other side) read (by moves is) so.one_clock so.reads;
               stream = subst (λ (h : List Entry). HasStream (told h side (places side))) (sym ways.of.history) so.stream;
               room = to_net starts places at between past ways.of (other side) (λ v. 1 ≤ room_of v.received) so.room;
             };

@@ -69,6 +69,7 @@ use Rattle.stack_laws.specs.Progress.Serving.{IsAtHost}
 use Rattle.stack_laws.specs.Progress.Takings.{ComesBy, IsForHost, IsOfConnection}
 use Rattle.stack_laws.proofs.EventTakes.{IsForPlace, IsForPlaceThroughout, comes_in_a_poll}
 use Rattle.stack_laws.proofs.Polls.Connected.{Has, StaysLate, arrival_late, late_at, not_over, offer_late, still_has, then_late}
+use Rattle.stack_laws.proofs.Polls.Fills.{fills_itself}
 use Rattle.stack_laws.proofs.Polls.Segments.{as_written, came_between, can_be_read}
 
 clash : {X : Type 0} → true ≡ false → X
@@ -136,7 +137,7 @@ module _ (e : Entry) (t : ℤ) (side : Side) (place : ℕ) where
     pub stays : StaysLate v new
 
   stayed : (p : Party) (v : TcpValue) → Stands p v → is_early v.block.state ≡ false → Later p v
-  stayed p v is late = record { new = v; stands = is; stays = record { late = late; closed = λ over. over; pair = inr refl; stamps = refl } }
+  stayed p v is late = record { new = v; stands = is; stays = record { late = late; closed = λ over. over; pair = inr refl; stamps = refl; fills = fills_itself v.received } }
 
   -- a TCP socket is exchanged
   tcp_set : (p : Party) (at : ℕ) (old new : TcpValue) → socket_at p at ≡ Some (Tcp old) → (is_early old.block.state ≡ false → StaysLate old new) →

@@ -1,5 +1,5 @@
 -- Behind a quiet poll a TCP socket doesn't want to be asked any more.
-use Rattle.std.proofs.Common.{◌≡◌, ◌⊎◌, inl, inr, ℕ, zero, suc, ◌≤◌, ℤ, ◌≤ℤ◌, Bool, true, false, ◌||◌, if◌then◌else◌, IsTrue, List, [], ◌∷◌, length, Option, Some, None}
+use Rattle.std.proofs.Common.{◌≡◌, ◌⊎◌, inl, inr, ℕ, zero, suc, ◌≤◌, ℤ, pos, ◌≤ℤ◌, Bool, true, false, ◌||◌, if◌then◌else◌, IsTrue, List, [], ◌∷◌, length, Option, Some, None}
 use Rattle.std.proofs.Common.{refl, sym, ap, ◌∙◌, subst, arith}
 use Rattle.std.specs.Prelude.{slice_get, slice_index_or}
 use Rattle.std.specs.List.{list_any}
@@ -96,14 +96,14 @@ none_sent (m ∷ all) old new (mid, first, rest) most =
 no_earlier : (t : ℤ) → t ≤ℤ t
 no_earlier t = omega (arith, ints)
 
-module _ (i : InnerValue) (t : ℤ) (moment : IsMoment t) (now : i.moment ≡ t) (paths : i.paths ≡ []) where
+module _ (i : InnerValue) (t : ℤ) (low : pos 0 ≤ℤ t) (paths : i.paths ≡ []) where
   abbrev Wanting : Option Parties.Socket → Type 0
   Wanting o = IsTcp o (λ v. IsBefore t (poll_of i.mtu v) → ⊥)
 
-  like : IsAsAt i t i
+  like : IsAsAt i i.moment i
   like = record {
     settings = record { hardware = refl; mtu = refl; checksums = refl; addresses = refl; isn_key = refl; any_ip = refl; routes = refl };
-    moment = now;
+    moment = refl;
     low = no_earlier i.errors_until;
     ident = λ small. small;
   }
@@ -123,8 +123,8 @@ module _ (i : InnerValue) (t : ℤ) (moment : IsMoment t) (now : i.moment ≡ t)
       let itself : IsEarlier t (instant_of (poll_in (context_for i (Is.Tcp v)) (Is.Tcp v))) =
       subst (λ (p : PollAt). IsEarlier t (instant_of p)) (unmarked_poll m.waiting (poll_in (context_for i (Is.Tcp v)) (Is.Tcp v)) (is_heard i m) idle) later in
       let mtu : (context_for i (Is.Tcp v)).ip_mtu ≡ i.mtu =
-      ap (λ (c : ContextValue). c.ip_mtu) (shows_towards i i t like (remote_of (Is.Tcp v)) paths) in
-      wants (subst (λ (n : ℕ). IsBefore t (poll_of n v)) mtu (before_due t moment.0 (poll_of (context_for i (Is.Tcp v)).ip_mtu v) itself))
+      ap (λ (c : ContextValue). c.ip_mtu) (shows_towards i i i.moment like (remote_of (Is.Tcp v)) paths) in
+      wants (subst (λ (n : ℕ). IsBefore t (poll_of n v)) mtu (before_due t low (poll_of (context_for i (Is.Tcp v)).ip_mtu v) itself))
 
   at_item : (o : Option (Item Socket)) → IsEarlier t (instant_in i o) → ((item : Item Socket) → o ≡ Some item → is_waiting i item.meta ≡ false)
       → Wanting (seen_in (socket_of o)) → ⊥
@@ -141,10 +141,10 @@ module _ (i : InnerValue) (t : ℤ) (moment : IsMoment t) (now : i.moment ≡ t)
   at_place (p ∷ ps) (suc place) later idle wants = at_place ps place later.1 idle wants
 
   -- no piece waits, and no socket is due
-  at_host : (left : Option LeftValue) (ps : List (SocketStorage Socket)) (place : ℕ) → IsEarlier t (poll_instant i left ps)
+  pub at_host : (left : Option LeftValue) (ps : List (SocketStorage Socket)) (place : ℕ) → IsEarlier t (poll_instant i left ps)
       → ((at : SocketStorage Socket) (item : Item Socket) → slice_get ps place ≡ Some at → at.inner ≡ Some item → is_waiting i item.meta ≡ false)
       → Wanting (slice_index_or (sockets_of ps) place None) → ⊥
-  at_host (Some l) ps place early idle wants = let low = moment.0 in omega (arith, ints, low, early)
+  at_host (Some l) ps place early idle wants = omega (arith, ints, low, early)
   at_host None ps place early idle wants = at_place ps place (all_later t i ps early) idle wants
 
 -- A QUIET POLL
@@ -182,7 +182,7 @@ module _ (first : InnerValue) (s s' : StationValue) (t : ℤ) (budget place : �
     by (inr later) = later
 
   rests : WantsAt t place s' → ⊥
-  rests wants = at_host s'.host.inner t (subst IsMoment now still.moment) now still.paths s'.host.left s'.places place early idle wants
+  rests wants = at_host s'.host.inner t (subst IsMoment now still.moment).0 still.paths s'.host.left s'.places place early idle wants
 
 kind_rests : (first : InnerValue) (old new : Stations) (e : Entry) (side : Side) (t : ℤ) (budget place : ℕ) (k : Kind) → k ≡ OfHost side (Polls t budget)
     → Happens old k e.answer e.found new → IsQuietPoll budget e.answer (station old side) (station new side) → ArePatient (station old side).places

@@ -21,6 +21,12 @@ pub mod EventClocks
 pub mod EventAsked
 pub mod EventQuiet
 pub mod EventTurns
+pub mod EventUnmarked
+pub mod EventAnswers
+pub mod EventAtOnce
+pub mod EventIdle
+pub mod EventSpace
+pub mod EventRoomy
 pub mod EventReads
 pub mod EventCarried
 pub mod EventMade

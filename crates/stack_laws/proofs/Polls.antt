@@ -37,6 +37,7 @@ pub mod Frames
 pub mod Inbox
 pub mod Refusals
 pub mod Stays
+pub mod Fills
 pub mod Connected
 pub mod SegmentSteps
 pub mod SegmentPolls

@@ -27,6 +27,8 @@ pub mod Gone
 pub mod Takings
 pub mod OneClock
 pub mod Serving
+pub mod AtOnce
+pub mod Unread
 pub mod Carried
 pub mod Ends
 pub mod Hearing

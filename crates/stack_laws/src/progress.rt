@@ -1,6 +1,7 @@
 //! A host goes on: no poll is for nothing, and what is queued goes.
 
 pub mod arrivals;
+pub mod at_once;
 pub mod datagrams;
 pub mod delivered;
 pub mod edges;
@@ -20,3 +21,4 @@ pub mod segments;
 pub mod served;
 pub mod settled;
 pub mod turns;
+pub mod unread;

@@ -18,7 +18,7 @@ ghost use Rattle.tcp_model.specs.Segments.{rst_reply, no_ranges};
 ghost use Rattle.tcp_model.specs.Text.{texted, with_text, with_text_at, with_bytes_at, with_fin};
 ghost use Rattle.tcp_model.specs.Timeout.{timeout_restarted};
 ghost use Rattle.tcp_model.specs.Value.{ended, queued_in, room_of, window_of, with_block};
-ghost use Rattle.tcp_socket.specs.Replies.{replies_in, packet_with};
+ghost use Rattle.tcp_socket.specs.Replies.{replies_in, packet_in, packet_with};
 ghost use Rattle.tcp_socket.specs.Answering.{acknowledgement, reply_of, answer_of, next_at, continued_by};
 
 use crate::Socket;
@@ -31,12 +31,11 @@ use tcp_model::{
     rst_reply, time_wait_from,
 };
 
-/// A segment with what it came in. Functions that are called from several places get copies of it, so
-/// that in `process` it needn't lie in memory.
+/// A segment with what it came in.
 #[derive(Clone, Copy)]
 pub(crate) struct Incoming<'a> {
     pub(crate) ip_repr: &'a IpRepr,
-    pub(crate) header: TcpHeader,
+    pub(crate) header: &'a TcpHeader,
     pub(crate) bytes: &'a [u8],
 }
 
@@ -45,7 +44,7 @@ impl Socket {
     pub fn accepts<C: Context>(&self, _cx: &C, ip_repr: &IpRepr, repr: &TcpRepr<'_>) -> bool
         ensures { result ≡ accepts self.now.block ip_repr.now (header_of repr.now) }
     {
-        self.block.accepts(ip_repr, &repr.header())
+        self.accepts_header(ip_repr, &repr.header())
     }
 
     /// The reset that answers a segment which no socket takes.
@@ -71,31 +70,66 @@ impl Socket {
         ensures drawn { cx.new ≡
             (if (arrives (C.context cx.old) self.old ip_repr.now (header_of repr.now) repr.now.payload.now).draws then C.drawn cx.old else cx.old) }
     {
-        let incoming = Incoming {
-            ip_repr,
-            header: repr.header(),
-            bytes: repr.payload,
-        };
+        let header = repr.header();
         let now = cx.now();
-        match self.arrive(cx, &incoming) {
+        match self.take_segment(cx, ip_repr, &header, repr.payload) {
             None => None,
             Some(due) => {
-                let incoming = incoming;
-                Some(replied(&self.reply(due, now, &incoming)))
+                let size = repr.payload.len();
+                Some(replied(&self.answer_due(due, now, ip_repr, &header, size)))
             }
         }
     }
 
-    /// The answer that is due to a segment, which was taken already.
-    fn reply(&self, due: Due, now: Instant, incoming: &Incoming<'_>) -> Reply
+    /// Whether a segment of this header is for the socket.
+    pub fn accepts_header(&self, ip_repr: &IpRepr, header: &TcpHeader) -> bool
+        ensures { result ≡ accepts self.now.block ip_repr.now header.now }
+    {
+        self.block.accepts(ip_repr, header)
+    }
+
+    /// Takes in a segment for the socket, as `process` does, and says which answer is due. `answer_due`
+    /// makes that: so nothing as large as a segment is handed up where none is.
+    pub fn take_segment<C: Context>(
+        &mut self,
+        cx: &mut C,
+        ip_repr: &IpRepr,
+        header: &TcpHeader,
+        bytes: &[u8],
+    ) -> Option<Due>
+        ensures answer { answer_of result (C.context cx.old).moment self.new ip_repr.now header.now (length bytes.now) ≡
+            (arrives (C.context cx.old) self.old ip_repr.now header.now bytes.now).answer }
+        ensures sendable { IfSome (answer_of result (C.context cx.old).moment self.new ip_repr.now header.now (length bytes.now))
+            (λ reply. IsSendable (packet_in reply)) }
+        ensures socket { self.new ≡ (arrives (C.context cx.old) self.old ip_repr.now header.now bytes.now).socket }
+        ensures drawn { cx.new ≡
+            (if (arrives (C.context cx.old) self.old ip_repr.now header.now bytes.now).draws then C.drawn cx.old else cx.old) }
+    {
+        let incoming = Incoming {
+            ip_repr,
+            header,
+            bytes,
+        };
+        self.arrive(cx, &incoming)
+    }
+
+    /// The answer that is due to a segment with so many bytes, which was taken in just before.
+    pub fn answer_due(
+        &self,
+        due: Due,
+        now: Instant,
+        ip_repr: &IpRepr,
+        header: &TcpHeader,
+        size: usize,
+    ) -> Reply
         requires { IsMoment now }
-        ensures { result ≡ reply_of due now self.now incoming.now.ip_repr.now incoming.now.header (length incoming.now.bytes.now) }
+        ensures { result ≡ reply_of due now self.now ip_repr.now header.now size }
     {
         match due {
-            Due::Reset => rst_reply(incoming.ip_repr, &incoming.header, incoming.bytes.len()),
-            Due::Ack(window) => self.acknowledgement(now, incoming, window, [None; 3]),
+            Due::Reset => rst_reply(ip_repr, header, size),
+            Due::Ack(window) => self.acknowledgement(now, ip_repr, header, window, [None; 3]),
             Due::AckHeld(window, place) => {
-                self.acknowledgement(now, incoming, window, self.ranges_held(place))
+                self.acknowledgement(now, ip_repr, header, window, self.ranges_held(place))
             }
         }
     }
@@ -105,28 +139,29 @@ impl Socket {
     fn acknowledgement(
         &self,
         now: Instant,
-        incoming: &Incoming<'_>,
+        ip_repr: &IpRepr,
+        header: &TcpHeader,
         window: u16,
         sack_ranges: [Option<(u32, u32)>; 3],
     ) -> Reply
         requires { IsMoment now }
-        ensures { result ≡ acknowledgement now self.now incoming.now.ip_repr.now incoming.now.header window sack_ranges }
+        ensures { result ≡ acknowledgement now self.now ip_repr.now header.now window sack_ranges }
     {
-        let pair = EndpointPair::of_segment(incoming.ip_repr, &incoming.header);
+        let pair = EndpointPair::of_segment(ip_repr, header);
         let segment = self.block.sack_segment(&pair, now, window, sack_ranges);
-        reply_to(incoming.ip_repr, self.block.hops(), segment)
+        reply_to(ip_repr, self.block.hops(), segment)
     }
 
     fn arrive<C: Context>(&mut self, cx: &mut C, incoming: &Incoming<'_>) -> Option<Due>
-        ensures answer { answer_of result (C.context cx.old).moment self.new incoming.now.ip_repr.now incoming.now.header (length incoming.now.bytes.now) ≡
-            (arrives (C.context cx.old) self.old incoming.now.ip_repr.now incoming.now.header incoming.now.bytes.now).answer }
-        ensures socket { self.new ≡ (arrives (C.context cx.old) self.old incoming.now.ip_repr.now incoming.now.header incoming.now.bytes.now).socket }
+        ensures answer { answer_of result (C.context cx.old).moment self.new incoming.now.ip_repr.now incoming.now.header.now (length incoming.now.bytes.now) ≡
+            (arrives (C.context cx.old) self.old incoming.now.ip_repr.now incoming.now.header.now incoming.now.bytes.now).answer }
+        ensures socket { self.new ≡ (arrives (C.context cx.old) self.old incoming.now.ip_repr.now incoming.now.header.now incoming.now.bytes.now).socket }
         ensures drawn { cx.new ≡
-            (if (arrives (C.context cx.old) self.old incoming.now.ip_repr.now incoming.now.header incoming.now.bytes.now).draws then C.drawn cx.old
+            (if (arrives (C.context cx.old) self.old incoming.now.ip_repr.now incoming.now.header.now incoming.now.bytes.now).draws then C.drawn cx.old
             else cx.old) }
     {
         self.unoffer();
-        if is_void_syn(&incoming.header) {
+        if is_void_syn(incoming.header) {
             None
         } else {
             self.arrive_in_state(cx, incoming)
@@ -136,13 +171,13 @@ impl Socket {
     /// A segment comes that isn't a SYN with an MSS of 0.
     fn arrive_in_state<C: Context>(&mut self, cx: &mut C, incoming: &Incoming<'_>) -> Option<Due>
         requires unoffered { self.old.offered ≡ None }
-        requires sized { is_void_syn incoming.now.header ≡ false }
-        ensures answer { answer_of result (C.context cx.old).moment self.new incoming.now.ip_repr.now incoming.now.header (length incoming.now.bytes.now) ≡
-            (arrives_in self.old.block.state (C.context cx.old) self.old incoming.now.ip_repr.now incoming.now.header incoming.now.bytes.now).answer }
+        requires sized { is_void_syn incoming.now.header.now ≡ false }
+        ensures answer { answer_of result (C.context cx.old).moment self.new incoming.now.ip_repr.now incoming.now.header.now (length incoming.now.bytes.now) ≡
+            (arrives_in self.old.block.state (C.context cx.old) self.old incoming.now.ip_repr.now incoming.now.header.now incoming.now.bytes.now).answer }
         ensures socket { self.new ≡
-            (arrives_in self.old.block.state (C.context cx.old) self.old incoming.now.ip_repr.now incoming.now.header incoming.now.bytes.now).socket }
+            (arrives_in self.old.block.state (C.context cx.old) self.old incoming.now.ip_repr.now incoming.now.header.now incoming.now.bytes.now).socket }
         ensures drawn { cx.new ≡
-            (if (arrives_in self.old.block.state (C.context cx.old) self.old incoming.now.ip_repr.now incoming.now.header incoming.now.bytes.now).draws
+            (if (arrives_in self.old.block.state (C.context cx.old) self.old incoming.now.ip_repr.now incoming.now.header.now incoming.now.bytes.now).draws
             then C.drawn cx.old else cx.old) }
     {
         match self.block.state {
@@ -156,22 +191,20 @@ impl Socket {
     /// LISTEN: a SYN is taken, and answered later.
     fn take_first<C: Context>(&mut self, cx: &mut C, incoming: &Incoming<'_>) -> Option<Due>
         requires unoffered { self.old.offered ≡ None }
-        requires sized { is_void_syn incoming.now.header ≡ false }
-        ensures answer { answer_of result (C.context cx.old).moment self.new incoming.now.ip_repr.now incoming.now.header (length incoming.now.bytes.now) ≡
-            (opens (C.context cx.old) self.old incoming.now.ip_repr.now incoming.now.header).answer }
-        ensures socket { self.new ≡ (opens (C.context cx.old) self.old incoming.now.ip_repr.now incoming.now.header).socket }
-        ensures drawn { cx.new ≡ (if (opens (C.context cx.old) self.old incoming.now.ip_repr.now incoming.now.header).draws then C.drawn cx.old else cx.old) }
+        requires sized { is_void_syn incoming.now.header.now ≡ false }
+        ensures answer { answer_of result (C.context cx.old).moment self.new incoming.now.ip_repr.now incoming.now.header.now (length incoming.now.bytes.now) ≡
+            (opens (C.context cx.old) self.old incoming.now.ip_repr.now incoming.now.header.now).answer }
+        ensures socket { self.new ≡ (opens (C.context cx.old) self.old incoming.now.ip_repr.now incoming.now.header.now).socket }
+        ensures drawn { cx.new ≡ (if (opens (C.context cx.old) self.old incoming.now.ip_repr.now incoming.now.header.now).draws then C.drawn cx.old else cx.old) }
     {
-        if !is_first_syn(&incoming.header) {
+        if !is_first_syn(incoming.header) {
             return None;
         }
-        let (pair, header) = (
-            EndpointPair::of_segment(incoming.ip_repr, &incoming.header),
-            incoming.header,
-        );
+        let pair = EndpointPair::of_segment(incoming.ip_repr, incoming.header);
         let now = cx.now();
         let number = first_number(cx, &pair);
-        self.block.answer_syn(incoming.ip_repr, &header, number);
+        self.block
+            .answer_syn(incoming.ip_repr, incoming.header, number);
         self.block.believe_stamp(now);
         self.block.restart_timeout(now, 0);
         None
@@ -181,12 +214,12 @@ impl Socket {
     /// answered by a reset; then a SYN is taken.
     fn take_answer<C: Context>(&mut self, cx: &C, incoming: &Incoming<'_>) -> Option<Due>
         requires unoffered { self.old.offered ≡ None }
-        requires sized { is_void_syn incoming.now.header ≡ false }
-        ensures answer { answer_of result (C.context cx.now).moment self.new incoming.now.ip_repr.now incoming.now.header (length incoming.now.bytes.now) ≡
-            (takes_answer (C.context cx.now) self.old incoming.now.ip_repr.now incoming.now.header incoming.now.bytes.now).answer }
-        ensures socket { self.new ≡ (takes_answer (C.context cx.now) self.old incoming.now.ip_repr.now incoming.now.header incoming.now.bytes.now).socket }
+        requires sized { is_void_syn incoming.now.header.now ≡ false }
+        ensures answer { answer_of result (C.context cx.now).moment self.new incoming.now.ip_repr.now incoming.now.header.now (length incoming.now.bytes.now) ≡
+            (takes_answer (C.context cx.now) self.old incoming.now.ip_repr.now incoming.now.header.now incoming.now.bytes.now).answer }
+        ensures socket { self.new ≡ (takes_answer (C.context cx.now) self.old incoming.now.ip_repr.now incoming.now.header.now incoming.now.bytes.now).socket }
     {
-        let header = &incoming.header;
+        let header = incoming.header;
         if is_rst(header.control) {
             self.take_refusal(header.ack_number);
             None
@@ -231,13 +264,13 @@ impl Socket {
     /// From SYN-RECEIVED on.
     fn receive<C: Context>(&mut self, cx: &C, incoming: &Incoming<'_>) -> Option<Due>
         requires unoffered { self.old.offered ≡ None }
-        ensures answer { answer_of result (C.context cx.now).moment self.new incoming.now.ip_repr.now incoming.now.header (length incoming.now.bytes.now) ≡
-            (received (C.context cx.now) self.old incoming.now.ip_repr.now incoming.now.header incoming.now.bytes.now).answer }
-        ensures socket { self.new ≡ (received (C.context cx.now) self.old incoming.now.ip_repr.now incoming.now.header incoming.now.bytes.now).socket }
+        ensures answer { answer_of result (C.context cx.now).moment self.new incoming.now.ip_repr.now incoming.now.header.now (length incoming.now.bytes.now) ≡
+            (received (C.context cx.now) self.old incoming.now.ip_repr.now incoming.now.header.now incoming.now.bytes.now).answer }
+        ensures socket { self.new ≡ (received (C.context cx.now) self.old incoming.now.ip_repr.now incoming.now.header.now incoming.now.bytes.now).socket }
     {
         if is_rst(incoming.header.control) {
             self.take_reset(cx, incoming)
-        } else if self.draws_first(&incoming.header, cx.now()) {
+        } else if self.draws_first(incoming.header, cx.now()) {
             self.draw(cx, incoming)
         } else {
             self.check(cx, incoming)
@@ -254,15 +287,15 @@ impl Socket {
     /// A reset counts at RCV.NXT alone. Elsewhere in the window it is challenged.
     fn take_reset<C: Context>(&mut self, cx: &C, incoming: &Incoming<'_>) -> Option<Due>
         requires unoffered { self.old.offered ≡ None }
-        ensures answer { answer_of result (C.context cx.now).moment self.new incoming.now.ip_repr.now incoming.now.header (length incoming.now.bytes.now) ≡
-            (reset_comes (C.context cx.now) self.old incoming.now.ip_repr.now incoming.now.header (length incoming.now.bytes.now)).answer }
+        ensures answer { answer_of result (C.context cx.now).moment self.new incoming.now.ip_repr.now incoming.now.header.now (length incoming.now.bytes.now) ≡
+            (reset_comes (C.context cx.now) self.old incoming.now.ip_repr.now incoming.now.header.now (length incoming.now.bytes.now)).answer }
         ensures socket { self.new ≡
-            (reset_comes (C.context cx.now) self.old incoming.now.ip_repr.now incoming.now.header (length incoming.now.bytes.now)).socket }
+            (reset_comes (C.context cx.now) self.old incoming.now.ip_repr.now incoming.now.header.now (length incoming.now.bytes.now)).socket }
     {
-        if self.block.takes_reset(&incoming.header) {
+        if self.block.takes_reset(incoming.header) {
             self.take_down();
             None
-        } else if self.challenges_reset(&incoming.header, incoming.bytes.len()) {
+        } else if self.challenges_reset(incoming.header, incoming.bytes.len()) {
             self.draw(cx, incoming)
         } else {
             None
@@ -283,12 +316,12 @@ impl Socket {
     /// What is no reset, by its acknowledgement.
     fn check<C: Context>(&mut self, cx: &C, incoming: &Incoming<'_>) -> Option<Due>
         requires unoffered { self.old.offered ≡ None }
-        ensures answer { answer_of result (C.context cx.now).moment self.new incoming.now.ip_repr.now incoming.now.header (length incoming.now.bytes.now) ≡
-            (checked (acknowledgement_check self.old.block incoming.now.header.ack_number) (C.context cx.now) self.old incoming.now.ip_repr.now
-            incoming.now.header incoming.now.bytes.now).answer }
+        ensures answer { answer_of result (C.context cx.now).moment self.new incoming.now.ip_repr.now incoming.now.header.now (length incoming.now.bytes.now) ≡
+            (checked (acknowledgement_check self.old.block incoming.now.header.now.ack_number) (C.context cx.now) self.old incoming.now.ip_repr.now
+            incoming.now.header.now incoming.now.bytes.now).answer }
         ensures socket { self.new ≡
-            (checked (acknowledgement_check self.old.block incoming.now.header.ack_number) (C.context cx.now) self.old incoming.now.ip_repr.now
-            incoming.now.header incoming.now.bytes.now).socket }
+            (checked (acknowledgement_check self.old.block incoming.now.header.now.ack_number) (C.context cx.now) self.old incoming.now.ip_repr.now
+            incoming.now.header.now incoming.now.bytes.now).socket }
     {
         match self.block.check_acknowledgement(incoming.header.ack_number) {
             Verdict::Passes(by) => self.take_passed(cx, incoming, by),
@@ -302,15 +335,15 @@ impl Socket {
     /// A segment whose acknowledgement passes, so far past SND.UNA.
     fn take_passed<C: Context>(&mut self, cx: &C, incoming: &Incoming<'_>, by: u32) -> Option<Due>
         requires unoffered { self.old.offered ≡ None }
-        ensures answer { answer_of result (C.context cx.now).moment self.new incoming.now.ip_repr.now incoming.now.header (length incoming.now.bytes.now) ≡
-            (checked (Passes by) (C.context cx.now) self.old incoming.now.ip_repr.now incoming.now.header incoming.now.bytes.now).answer }
+        ensures answer { answer_of result (C.context cx.now).moment self.new incoming.now.ip_repr.now incoming.now.header.now (length incoming.now.bytes.now) ≡
+            (checked (Passes by) (C.context cx.now) self.old incoming.now.ip_repr.now incoming.now.header.now incoming.now.bytes.now).answer }
         ensures socket { self.new ≡
-            (checked (Passes by) (C.context cx.now) self.old incoming.now.ip_repr.now incoming.now.header incoming.now.bytes.now).socket }
+            (checked (Passes by) (C.context cx.now) self.old incoming.now.ip_repr.now incoming.now.header.now incoming.now.bytes.now).socket }
     {
         let free = self.received.window();
         if self
             .block
-            .is_in_window(free, &incoming.header, incoming.bytes.len())
+            .is_in_window(free, incoming.header, incoming.bytes.len())
         {
             self.take_inside(cx, incoming, by)
         } else {
@@ -321,17 +354,17 @@ impl Socket {
     /// A segment whose acknowledgement is old: its text and its FIN are taken.
     fn take_old<C: Context>(&mut self, cx: &C, incoming: &Incoming<'_>) -> Option<Due>
         requires unoffered { self.old.offered ≡ None }
-        ensures answer { answer_of result (C.context cx.now).moment self.new incoming.now.ip_repr.now incoming.now.header (length incoming.now.bytes.now) ≡
-            (checked Old (C.context cx.now) self.old incoming.now.ip_repr.now incoming.now.header incoming.now.bytes.now).answer }
-        ensures socket { self.new ≡ (checked Old (C.context cx.now) self.old incoming.now.ip_repr.now incoming.now.header incoming.now.bytes.now).socket }
+        ensures answer { answer_of result (C.context cx.now).moment self.new incoming.now.ip_repr.now incoming.now.header.now (length incoming.now.bytes.now) ≡
+            (checked Old (C.context cx.now) self.old incoming.now.ip_repr.now incoming.now.header.now incoming.now.bytes.now).answer }
+        ensures socket { self.new ≡ (checked Old (C.context cx.now) self.old incoming.now.ip_repr.now incoming.now.header.now incoming.now.bytes.now).socket }
     {
         let free = self.received.window();
         if self
             .block
-            .is_in_window(free, &incoming.header, incoming.bytes.len())
+            .is_in_window(free, incoming.header, incoming.bytes.len())
         {
             self.block.hear();
-            self.block.take_stamp(&incoming.header, cx.now());
+            self.block.take_stamp(incoming.header, cx.now());
             self.take_content(cx, incoming)
         } else {
             let again = self.comes_again(incoming);
@@ -342,14 +375,14 @@ impl Socket {
     /// Outside the window. The acknowledgement of a segment that lies just before the window is taken.
     fn take_outside<C: Context>(&mut self, cx: &C, incoming: &Incoming<'_>, by: u32) -> Option<Due>
         requires unoffered { self.old.offered ≡ None }
-        ensures answer { answer_of result (C.context cx.now).moment self.new incoming.now.ip_repr.now incoming.now.header (length incoming.now.bytes.now) ≡
-            (passed_outside (C.context cx.now) self.old incoming.now.ip_repr.now incoming.now.header (length incoming.now.bytes.now) by).answer }
+        ensures answer { answer_of result (C.context cx.now).moment self.new incoming.now.ip_repr.now incoming.now.header.now (length incoming.now.bytes.now) ≡
+            (passed_outside (C.context cx.now) self.old incoming.now.ip_repr.now incoming.now.header.now (length incoming.now.bytes.now) by).answer }
         ensures socket { self.new ≡
-            (passed_outside (C.context cx.now) self.old incoming.now.ip_repr.now incoming.now.header (length incoming.now.bytes.now) by).socket }
+            (passed_outside (C.context cx.now) self.old incoming.now.ip_repr.now incoming.now.header.now (length incoming.now.bytes.now) by).socket }
     {
-        if self.tells_news(&incoming.header, incoming.bytes.len()) {
-            self.acknowledge(&incoming.header, by, cx.now());
-            let again = has_length(&incoming.header, incoming.bytes.len());
+        if self.tells_news(incoming.header, incoming.bytes.len()) {
+            self.acknowledge(incoming.header, by, cx.now());
+            let again = has_length(incoming.header, incoming.bytes.len());
             self.answer_outside(cx, incoming, again)
         } else {
             self.answer_outside(cx, incoming, false)
@@ -358,9 +391,9 @@ impl Socket {
 
     /// Whether a segment with text or a FIN lies just before the window.
     fn comes_again(&self, incoming: &Incoming<'_>) -> bool
-        ensures { result ≡ comes_again self.now incoming.now.header (length incoming.now.bytes.now) }
+        ensures { result ≡ comes_again self.now incoming.now.header.now (length incoming.now.bytes.now) }
     {
-        let (header, size) = (&incoming.header, incoming.bytes.len());
+        let (header, size) = (incoming.header, incoming.bytes.len());
         self.tells_news(header, size) && has_length(header, size)
     }
 
@@ -383,14 +416,14 @@ impl Socket {
         again: bool,
     ) -> Option<Due>
         requires unoffered { self.old.offered ≡ None }
-        ensures answer { answer_of result (C.context cx.now).moment self.new incoming.now.ip_repr.now incoming.now.header (length incoming.now.bytes.now) ≡
-            (outside (C.context cx.now) self.old incoming.now.ip_repr.now incoming.now.header again).answer }
-        ensures socket { self.new ≡ (outside (C.context cx.now) self.old incoming.now.ip_repr.now incoming.now.header again).socket }
+        ensures answer { answer_of result (C.context cx.now).moment self.new incoming.now.ip_repr.now incoming.now.header.now (length incoming.now.bytes.now) ≡
+            (outside (C.context cx.now) self.old incoming.now.ip_repr.now incoming.now.header.now again).answer }
+        ensures socket { self.new ≡ (outside (C.context cx.now) self.old incoming.now.ip_repr.now incoming.now.header.now again).socket }
     {
         if self.block.state.is_closed() {
             None
         } else {
-            self.wait_anew(&incoming.header, cx.now());
+            self.wait_anew(incoming.header, cx.now());
             self.draw_or_acknowledge(cx, incoming, again)
         }
     }
@@ -403,12 +436,12 @@ impl Socket {
         again: bool,
     ) -> Option<Due>
         requires unoffered { self.old.offered ≡ None }
-        ensures answer { answer_of result (C.context cx.now).moment self.new incoming.now.ip_repr.now incoming.now.header (length incoming.now.bytes.now) ≡
-            (if again then acked (C.context cx.now) self.old incoming.now.ip_repr.now incoming.now.header no_ranges
-            else drawn (C.context cx.now) self.old incoming.now.ip_repr.now incoming.now.header).answer }
+        ensures answer { answer_of result (C.context cx.now).moment self.new incoming.now.ip_repr.now incoming.now.header.now (length incoming.now.bytes.now) ≡
+            (if again then acked (C.context cx.now) self.old incoming.now.ip_repr.now incoming.now.header.now no_ranges
+            else drawn (C.context cx.now) self.old incoming.now.ip_repr.now incoming.now.header.now).answer }
         ensures socket { self.new ≡
-            (if again then acked (C.context cx.now) self.old incoming.now.ip_repr.now incoming.now.header no_ranges
-            else drawn (C.context cx.now) self.old incoming.now.ip_repr.now incoming.now.header).socket }
+            (if again then acked (C.context cx.now) self.old incoming.now.ip_repr.now incoming.now.header.now no_ranges
+            else drawn (C.context cx.now) self.old incoming.now.ip_repr.now incoming.now.header.now).socket }
     {
         if again {
             Some(Due::Ack(self.acknowledge_all()))
@@ -431,9 +464,9 @@ impl Socket {
     /// Inside the window: a SYN, or a segment to take.
     fn take_inside<C: Context>(&mut self, cx: &C, incoming: &Incoming<'_>, by: u32) -> Option<Due>
         requires unoffered { self.old.offered ≡ None }
-        ensures answer { answer_of result (C.context cx.now).moment self.new incoming.now.ip_repr.now incoming.now.header (length incoming.now.bytes.now) ≡
-            (inside (C.context cx.now) self.old incoming.now.ip_repr.now incoming.now.header incoming.now.bytes.now by).answer }
-        ensures socket { self.new ≡ (inside (C.context cx.now) self.old incoming.now.ip_repr.now incoming.now.header incoming.now.bytes.now by).socket }
+        ensures answer { answer_of result (C.context cx.now).moment self.new incoming.now.ip_repr.now incoming.now.header.now (length incoming.now.bytes.now) ≡
+            (inside (C.context cx.now) self.old incoming.now.ip_repr.now incoming.now.header.now incoming.now.bytes.now by).answer }
+        ensures socket { self.new ≡ (inside (C.context cx.now) self.old incoming.now.ip_repr.now incoming.now.header.now incoming.now.bytes.now by).socket }
     {
         if is_syn(incoming.header.control) {
             self.draw(cx, incoming)
@@ -457,14 +490,14 @@ impl Socket {
     /// An accepted segment.
     fn take<C: Context>(&mut self, cx: &C, incoming: &Incoming<'_>, by: u32) -> Option<Due>
         requires unoffered { self.old.offered ≡ None }
-        ensures answer { answer_of result (C.context cx.now).moment self.new incoming.now.ip_repr.now incoming.now.header (length incoming.now.bytes.now) ≡
-            (taken (C.context cx.now) self.old incoming.now.ip_repr.now incoming.now.header incoming.now.bytes.now by).answer }
-        ensures socket { self.new ≡ (taken (C.context cx.now) self.old incoming.now.ip_repr.now incoming.now.header incoming.now.bytes.now by).socket }
+        ensures answer { answer_of result (C.context cx.now).moment self.new incoming.now.ip_repr.now incoming.now.header.now (length incoming.now.bytes.now) ≡
+            (taken (C.context cx.now) self.old incoming.now.ip_repr.now incoming.now.header.now incoming.now.bytes.now by).answer }
+        ensures socket { self.new ≡ (taken (C.context cx.now) self.old incoming.now.ip_repr.now incoming.now.header.now incoming.now.bytes.now by).socket }
     {
         let duplicates = self
             .block
-            .duplicates_after(&incoming.header, incoming.bytes.len(), by);
-        self.acknowledge(&incoming.header, by, cx.now());
+            .duplicates_after(incoming.header, incoming.bytes.len(), by);
+        self.acknowledge(incoming.header, by, cx.now());
         self.take_rest(cx, duplicates, incoming)
     }
 
@@ -477,15 +510,15 @@ impl Socket {
         incoming: &Incoming<'_>,
     ) -> Option<Due>
         requires unoffered { self.old.offered ≡ None }
-        ensures answer { answer_of result (C.context cx.now).moment self.new incoming.now.ip_repr.now incoming.now.header (length incoming.now.bytes.now) ≡
-            (continued_by (C.context cx.now) duplicates self.old incoming.now.ip_repr.now incoming.now.header incoming.now.bytes.now).answer }
+        ensures answer { answer_of result (C.context cx.now).moment self.new incoming.now.ip_repr.now incoming.now.header.now (length incoming.now.bytes.now) ≡
+            (continued_by (C.context cx.now) duplicates self.old incoming.now.ip_repr.now incoming.now.header.now incoming.now.bytes.now).answer }
         ensures socket { self.new ≡
-            (continued_by (C.context cx.now) duplicates self.old incoming.now.ip_repr.now incoming.now.header incoming.now.bytes.now).socket }
+            (continued_by (C.context cx.now) duplicates self.old incoming.now.ip_repr.now incoming.now.header.now incoming.now.bytes.now).socket }
     {
         if self.block.state.is_closed() {
             return None;
         }
-        self.take_window(&incoming.header, duplicates, cx.now());
+        self.take_window(incoming.header, duplicates, cx.now());
         self.take_content(cx, incoming)
     }
 
@@ -531,15 +564,15 @@ impl Socket {
     /// The text and the FIN of an accepted segment, and what answers it.
     fn take_content<C: Context>(&mut self, cx: &C, incoming: &Incoming<'_>) -> Option<Due>
         requires unoffered { self.old.offered ≡ None }
-        ensures answer { answer_of result (C.context cx.now).moment self.new incoming.now.ip_repr.now incoming.now.header (length incoming.now.bytes.now) ≡
-            (finished (C.context cx.now) self.old.block (with_text self.old incoming.now.header incoming.now.bytes.now) incoming.now.ip_repr.now
-            incoming.now.header (length incoming.now.bytes.now)).answer }
+        ensures answer { answer_of result (C.context cx.now).moment self.new incoming.now.ip_repr.now incoming.now.header.now (length incoming.now.bytes.now) ≡
+            (finished (C.context cx.now) self.old.block (with_text self.old incoming.now.header.now incoming.now.bytes.now) incoming.now.ip_repr.now
+            incoming.now.header.now (length incoming.now.bytes.now)).answer }
         ensures socket { self.new ≡
-            (finished (C.context cx.now) self.old.block (with_text self.old incoming.now.header incoming.now.bytes.now) incoming.now.ip_repr.now
-            incoming.now.header (length incoming.now.bytes.now)).socket }
+            (finished (C.context cx.now) self.old.block (with_text self.old incoming.now.header.now incoming.now.bytes.now) incoming.now.ip_repr.now
+            incoming.now.header.now (length incoming.now.bytes.now)).socket }
     {
         let next = self.block.receiver.next;
-        let text = self.take_text(&incoming.header, incoming.bytes);
+        let text = self.take_text(incoming.header, incoming.bytes);
         self.finish(cx, next, &text, incoming)
     }
 
@@ -553,15 +586,15 @@ impl Socket {
     ) -> Option<Due>
         requires unoffered { self.old.offered ≡ None }
         requires small { text.now.advance ≤ 2 ^ 30 }
-        ensures answer { answer_of result (C.context cx.now).moment self.new incoming.now.ip_repr.now incoming.now.header (length incoming.now.bytes.now) ≡
+        ensures answer { answer_of result (C.context cx.now).moment self.new incoming.now.ip_repr.now incoming.now.header.now (length incoming.now.bytes.now) ≡
             (finished (C.context cx.now) (next_at self.old.block next) (texted self.old text.now.advance text.now.fills text.now.early) incoming.now.ip_repr.now
-            incoming.now.header (length incoming.now.bytes.now)).answer }
+            incoming.now.header.now (length incoming.now.bytes.now)).answer }
         ensures socket { self.new ≡
             (finished (C.context cx.now) (next_at self.old.block next) (texted self.old text.now.advance text.now.fills text.now.early) incoming.now.ip_repr.now
-            incoming.now.header (length incoming.now.bytes.now)).socket }
+            incoming.now.header.now (length incoming.now.bytes.now)).socket }
     {
         let (now, size) = (cx.now(), incoming.bytes.len());
-        self.take_fin(next, &incoming.header, size, text.advance, now);
+        self.take_fin(next, incoming.header, size, text.advance, now);
         self.block.keep_probe(self.queued.len());
         self.answer(cx, incoming, text.fills, text.early)
     }
@@ -596,10 +629,10 @@ impl Socket {
         early: Option<usize>,
     ) -> Option<Due>
         requires unoffered { self.old.offered ≡ None }
-        ensures answer { answer_of result (C.context cx.now).moment self.new incoming.now.ip_repr.now incoming.now.header (length incoming.now.bytes.now) ≡
-            (answer_for (C.context cx.now) self.old incoming.now.ip_repr.now incoming.now.header (length incoming.now.bytes.now) fills early).answer }
+        ensures answer { answer_of result (C.context cx.now).moment self.new incoming.now.ip_repr.now incoming.now.header.now (length incoming.now.bytes.now) ≡
+            (answer_for (C.context cx.now) self.old incoming.now.ip_repr.now incoming.now.header.now (length incoming.now.bytes.now) fills early).answer }
         ensures socket { self.new ≡
-            (answer_for (C.context cx.now) self.old incoming.now.ip_repr.now incoming.now.header (length incoming.now.bytes.now) fills early).socket }
+            (answer_for (C.context cx.now) self.old incoming.now.ip_repr.now incoming.now.header.now (length incoming.now.bytes.now) fills early).socket }
     {
         match early {
             Some(place) => Some(Due::AckHeld(self.acknowledge_all(), place)),
@@ -616,15 +649,15 @@ impl Socket {
         fills: bool,
     ) -> Option<Due>
         requires unoffered { self.old.offered ≡ None }
-        ensures answer { answer_of result (C.context cx.now).moment self.new incoming.now.ip_repr.now incoming.now.header (length incoming.now.bytes.now) ≡
-            (answer_for (C.context cx.now) self.old incoming.now.ip_repr.now incoming.now.header (length incoming.now.bytes.now) fills None).answer }
+        ensures answer { answer_of result (C.context cx.now).moment self.new incoming.now.ip_repr.now incoming.now.header.now (length incoming.now.bytes.now) ≡
+            (answer_for (C.context cx.now) self.old incoming.now.ip_repr.now incoming.now.header.now (length incoming.now.bytes.now) fills None).answer }
         ensures socket { self.new ≡
-            (answer_for (C.context cx.now) self.old incoming.now.ip_repr.now incoming.now.header (length incoming.now.bytes.now) fills None).socket }
+            (answer_for (C.context cx.now) self.old incoming.now.ip_repr.now incoming.now.header.now (length incoming.now.bytes.now) fills None).socket }
     {
         if self.answers_at_once(cx, incoming) {
             Some(Due::Ack(self.acknowledge_all()))
         } else {
-            self.delay_ack(&incoming.header, incoming.bytes.len(), fills, cx.now());
+            self.delay_ack(incoming.header, incoming.bytes.len(), fills, cx.now());
             None
         }
     }
@@ -632,9 +665,9 @@ impl Socket {
     /// Whether a segment with text or a FIN was taken, and as much came since the last acknowledgement
     /// as two full segments take.
     fn answers_at_once<C: Context>(&self, cx: &C, incoming: &Incoming<'_>) -> bool
-        ensures { result ≡ answers_at_once (C.context cx.now) self.now.block incoming.now.ip_repr.now incoming.now.header (length incoming.now.bytes.now) }
+        ensures { result ≡ answers_at_once (C.context cx.now) self.now.block incoming.now.ip_repr.now incoming.now.header.now (length incoming.now.bytes.now) }
     {
-        has_length(&incoming.header, incoming.bytes.len())
+        has_length(incoming.header, incoming.bytes.len())
             && self
                 .block
                 .came_twice(&AddressPair::of_packet(incoming.ip_repr), cx.ip_mtu())
@@ -724,9 +757,9 @@ impl Socket {
     /// An acknowledgement that answers a segment which isn't acceptable, at most one a second.
     fn draw<C: Context>(&mut self, cx: &C, incoming: &Incoming<'_>) -> Option<Due>
         requires unoffered { self.old.offered ≡ None }
-        ensures answer { answer_of result (C.context cx.now).moment self.new incoming.now.ip_repr.now incoming.now.header (length incoming.now.bytes.now) ≡
-            (drawn (C.context cx.now) self.old incoming.now.ip_repr.now incoming.now.header).answer }
-        ensures socket { self.new ≡ (drawn (C.context cx.now) self.old incoming.now.ip_repr.now incoming.now.header).socket }
+        ensures answer { answer_of result (C.context cx.now).moment self.new incoming.now.ip_repr.now incoming.now.header.now (length incoming.now.bytes.now) ≡
+            (drawn (C.context cx.now) self.old incoming.now.ip_repr.now incoming.now.header.now).answer }
+        ensures socket { self.new ≡ (drawn (C.context cx.now) self.old incoming.now.ip_repr.now incoming.now.header.now).socket }
     {
         if self.block.may_draw(cx.now()) {
             self.block.timers.draws_from = Some(next_draw_from(cx.now()));
@@ -759,8 +792,8 @@ impl Socket {
 }
 
 /// Which answer to a segment is due.
-#[derive(Clone, Copy)]
-enum Due {
+#[derive(Clone, Copy, Debug)]
+pub enum Due {
     Reset,
     /// An acknowledgement with this window field.
     Ack(u16),

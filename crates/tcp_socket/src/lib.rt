@@ -9,10 +9,11 @@ mod receive_buffer;
 mod settings;
 mod socket;
 
+pub use arrival::Due;
 pub use offer::OfferedSegment;
 pub use receive_buffer::ReceiveBuffer;
 pub use socket::{Socket, SocketBuffer};
 pub use socket_base::SegmentText;
 pub use tcp_model::{
-    CongestionControl, ConnectError, ListenError, RecvError, Reno, SendError, State,
+    CongestionControl, ConnectError, ListenError, RecvError, Reno, Reply, SendError, State,
 };

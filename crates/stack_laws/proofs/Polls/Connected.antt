@@ -48,6 +48,7 @@ use Rattle.stack_laws.specs.PeerHost.Goes.{after, after_all}
 use Rattle.stack_laws.specs.PeerHost.Streams.{AreOfPoll, IsOfPoll}
 use Rattle.stack_laws.proofs.Peers.Arrivals.{IsOfArrivals}
 use Rattle.stack_laws.proofs.Peers.Place.{AtOr, HoldsAt, ItemOr}
+use Rattle.stack_laws.proofs.Polls.Fills.{Fills, arrival_fills, fills_itself, fills_then, sent_fills, withheld_fills}
 use Rattle.stack_laws.proofs.Polls.Stays.{Stands, at_from, from_at, position_is, stands_at}
 
 clash : {X : Type 0} → true ≡ false → X
@@ -75,40 +76,42 @@ not_listening In.Listen late = absurd (cc)
 not_listening other late = refl
 
 -- An event of a poll leaves a socket with its connection, or one whose connection is over: the first has the same endpoints still, or its connection is
--- over; the second stays as it is. Whether timestamps were agreed on stays, too.
+-- over; the second stays as it is. Whether timestamps were agreed on stays, too. Its receive buffer fills.
 pub record StaysLate (v new : TcpValue) : Type 0 where
   pub late : is_early new.block.state ≡ false
   pub closed : is_closed v.block.state ≡ true → is_closed new.block.state ≡ true
   pub pair : (is_closed new.block.state ≡ true) ⊎ (new.block.names.pair ≡ v.block.names.pair)
   pub stamps : new.block.peer.timestamps ≡ v.block.peer.timestamps
+  pub fills : Fills v.received new.received
 
 left_late : (v new : TcpValue) → is_early v.block.state ≡ false → is_early new.block.state ≡ false
-    → (is_closed v.block.state ≡ true → is_closed new.block.state ≡ true) → new.block.peer.timestamps ≡ v.block.peer.timestamps → IsLeftBy v.block new.block
-    → StaysLate v new
-left_late v new late then_late closed stamps (inl falls) = clash (sym (early_answering v.block.state falls.answering) ∙ late)
-left_late v new late then_late closed stamps (inr (inl keeps)) =
-    record { late = then_late; closed = closed; pair = inr (λ k. (keeps.names k).pair); stamps = stamps }
-left_late v new late then_late closed stamps (inr (inr forgets)) = record { late = then_late; closed = closed; pair = inl forgets.state; stamps = stamps }
+    → (is_closed v.block.state ≡ true → is_closed new.block.state ≡ true) → new.block.peer.timestamps ≡ v.block.peer.timestamps → Fills v.received new.received
+    → IsLeftBy v.block new.block → StaysLate v new
+left_late v new late then_late closed stamps fills (inl falls) = clash (sym (early_answering v.block.state falls.answering) ∙ late)
+left_late v new late then_late closed stamps fills (inr (inl keeps)) =
+    record { late = then_late; closed = closed; pair = inr (λ k. (keeps.names k).pair); stamps = stamps; fills = fills }
+left_late v new late then_late closed stamps fills (inr (inr forgets)) = record { late = then_late; closed = closed; pair = inl forgets.state; stamps = stamps; fills = fills }
 
 renamed_late : (v new : TcpValue) (ip : IpRepr) (header : TcpHeader) → is_early v.block.state ≡ false → is_early new.block.state ≡ false
     → (is_closed v.block.state ≡ true → is_closed new.block.state ≡ true) → new.block.peer.timestamps ≡ v.block.peer.timestamps
-    → IsRenamed ip header v.block new.block → StaysLate v new
-renamed_late v new ip header late then_late closed stamps (inl opened) = clash (sym (listening_early v.block.state opened.listening) ∙ late)
-renamed_late v new ip header late then_late closed stamps (inr left) = left_late v new late then_late closed stamps left
+    → Fills v.received new.received → IsRenamed ip header v.block new.block → StaysLate v new
+renamed_late v new ip header late then_late closed stamps fills (inl opened) = clash (sym (listening_early v.block.state opened.listening) ∙ late)
+renamed_late v new ip header late then_late closed stamps fills (inr left) = left_late v new late then_late closed stamps fills left
 
 pub arrival_late : (cx : ContextValue) (v : TcpValue) (ip : IpRepr) (header : TcpHeader) (bytes : List ℕ) → is_early v.block.state ≡ false
     → StaysLate v (arrives cx v ip header bytes).socket
 arrival_late cx v ip header bytes late =
     let calm = arrival_calm cx ip header bytes v late in
-    renamed_late v (arrives cx v ip header bytes).socket ip header late (calm.early late) calm.closed calm.stamps (arrival_names cx v ip header bytes)
+    renamed_late v (arrives cx v ip header bytes).socket ip header late (calm.early late) calm.closed calm.stamps
+    (arrival_fills cx ip header bytes v late) (arrival_names cx v ip header bytes)
 
 pub offer_late : (cx : ContextValue) (v : TcpValue) (sent : Bool) → is_early v.block.state ≡ false → StaysLate v (settled sent (offer_of cx v).socket)
-offer_late cx v true late = let calm = offer_calm cx v late in left_late v _ late (calm.early late) calm.closed calm.stamps (sent_names cx v)
-offer_late cx v false late = let calm = refused_calm cx v late in left_late v _ late (calm.early late) calm.closed calm.stamps (withheld_names cx v)
+offer_late cx v true late = let calm = offer_calm cx v late in left_late v _ late (calm.early late) calm.closed calm.stamps (sent_fills cx v late) (sent_names cx v)
+offer_late cx v false late = let calm = refused_calm cx v late in left_late v _ late (calm.early late) calm.closed calm.stamps (withheld_fills cx v late) (withheld_names cx v)
 
 pub then_late : (v mid new : TcpValue) → StaysLate v mid → StaysLate mid new → StaysLate v new
 then_late v mid new one two =
-    record { late = two.late; closed = λ over. two.closed (one.closed over); pair = by one.pair two.pair; stamps = two.stamps ∙ one.stamps }
+    record { late = two.late; closed = λ over. two.closed (one.closed over); pair = by one.pair two.pair; stamps = two.stamps ∙ one.stamps; fills = fills_then v.received mid.received new.received one.fills two.fills }
   where
     by : (is_closed mid.block.state ≡ true) ⊎ (mid.block.names.pair ≡ v.block.names.pair)
         → (is_closed new.block.state ≡ true) ⊎ (new.block.names.pair ≡ mid.block.names.pair)
@@ -128,7 +131,7 @@ module _ {D : Type 0} (moves : D → Move → D → Type 0) (t : ℤ) (from : St
 
   pub events_late : (v : TcpValue) (events : List Event) → AreOfPoll moves t from v events → is_early v.block.state ≡ false
       → StaysLate v (after_all v events)
-  events_late v [] are late = record { late = late; closed = λ over. over; pair = inr refl; stamps = refl }
+  events_late v [] are late = record { late = late; closed = λ over. over; pair = inr refl; stamps = refl; fills = fills_itself v.received }
   events_late v (event ∷ events) are late =
       let one = event_late v event are.0 late in
       then_late v (after v event) (after_all (after v event) events) one (events_late (after v event) events are.1 one.late)

@@ -6,7 +6,7 @@ use Rattle.interface_egress.specs.declared.socket_set.SocketStorage.{SocketStora
 use Rattle.interface_ingress.specs.Socket.{Socket}
 use Rattle.socket_base.specs.Offers.{IsBefore}
 use Rattle.tcp_model.specs.Due.{poll_of}
-use Rattle.tcp_model.specs.Value.{TcpValue, room_of}
+use Rattle.tcp_model.specs.Value.{TcpValue, free_in, room_of}
 use Rattle.tcp_progress.specs.Arrivals.{is_synchronized}
 use Rattle.tcp_progress.specs.Exchange.{IsOpen}
 use Rattle.tcp_progress.specs.Pair.{HasStream}
@@ -51,6 +51,22 @@ AreServed starts places wait past (e ∷ more) hosts still rested =
     → clock_in (e ∷ more ++ past) ≤ℤ (due +ℤ pos wait))
     × ((side : Side) → (rested side ≡ before side)
     ⊎ ((rested side ≡ clock_in (e ∷ more ++ past)) × IsAtRest (rested side) (places side) (station hosts side)))
+
+-- SERVED AT ONCE
+
+-- The clock never passes a moment at which a socket wants to be asked. It stays there, while events happen, until that socket doesn't want to be any more.
+abbrev pub AreServedAtOnce : (starts : Starts) (places : Side → ℕ) (past more : List Entry) (hosts : Stations) → StillRun starts (more ++ past) hosts → Type 0
+AreServedAtOnce starts places past [] hosts still = Unit {0}
+AreServedAtOnce starts places past (e ∷ more) hosts still =
+    AreServedAtOnce starts places past more still.0 still.1
+    × ((side : Side) (due : ℤ) → clock_in (more ++ past) ≤ℤ due → WantsAt due (places side) (station still.0 side)
+    → clock_in (e ∷ more ++ past) ≤ℤ due)
+
+-- both sockets are served at once, or so many microseconds later
+abbrev pub AreServedWithin : (starts : Starts) (places : Side → ℕ) (wait : ℕ) (past more : List Entry) (hosts : Stations)
+    → StillRun starts (more ++ past) hosts → Type 0
+AreServedWithin starts places wait past more hosts still =
+    AreServedAtOnce starts places past more hosts still ⊎ ((rested : Side → ℤ) × AreServed starts places wait past more hosts still rested)
 
 -- A QUIET POLL
 
@@ -98,6 +114,25 @@ IsReadOften place read side past (e ∷ more) last =
     (before : ℤ) × IsReadOften place read side past more before × (clock_in (e ∷ more ++ past) ≤ℤ (before +ℤ pos read))
     × ((last ≡ before) ⊎ (UserReads place side (kind_of e.event) × (last ≡ clock_in (e ∷ more ++ past))))
 
+-- BUFFERS THAT DON'T FILL
+
+-- the TCP socket has a connection, and its receive buffer isn't full
+abbrev pub HasSpace : TcpValue → Type 0
+HasSpace v = (is_synchronized v.block.state ≡ true) × (1 ≤ free_in v)
+
+-- so it is at this place of a host, from the hosts between on, and behind each later event
+abbrev pub HasSpaceThroughout : (starts : Starts) (place : ℕ) (side : Side) (past more : List Entry) (hosts : Stations)
+    → StillRun starts (more ++ past) hosts → Type 0
+HasSpaceThroughout starts place side past [] hosts still = IsAtHost place (station hosts side) HasSpace
+HasSpaceThroughout starts place side past (e ∷ more) hosts still =
+    HasSpaceThroughout starts place side past more still.0 still.1 × IsAtHost place (station hosts side) HasSpace
+
+-- the receive buffer of the socket at this place of a host is never full, or its user reads often
+abbrev pub IsReadWithin : (starts : Starts) (place read : ℕ) (side : Side) (past more : List Entry) (hosts : Stations)
+    → StillRun starts (more ++ past) hosts → Type 0
+IsReadWithin starts place read side past more hosts still =
+    HasSpaceThroughout starts place side past more hosts still ⊎ ((last : ℤ) × IsReadOften place read side past more last)
+
 -- STREAMS
 
 -- the stream of the socket at this place of a host is no empty one, at first and behind each of these events
@@ -108,17 +143,15 @@ KeepsStreamBy place side past (e ∷ more) = KeepsStreamBy place side past more 
 -- EVENTS IN TIME
 
 -- From the hosts between on, as the one clock shows what it was told last: both connections are open, and are there at the end; the events keep one
--- clock, both sockets are served in time, and the other's user reads often. The side has a receive buffer to send to, and a stream that is no empty
--- one, and its host's clock isn't ahead.
+-- clock, both sockets are served in time, and the other's user reads often, or its receive buffer is never full. The side has a receive buffer to send to,
+-- and a stream that is no empty one, and its host's clock isn't ahead.
 pub record AreEventsInTime (starts : Starts) (places : Side → ℕ) (read wait : ℕ) (side : Side) (past : List Entry) (between : Stations) (more : List Entry)
     (hosts : Stations) (still : StillRun starts (more ++ past) hosts) : Type 0 where
   pub opened : (of : Side) → IsAtHost (places of) (station between of) (λ v. IsOpen v.block)
   pub stay : (of : Side) → IsAtHost (places of) (station hosts of) (λ v. is_synchronized v.block.state ≡ true)
   pub clock : shown_in starts past side ≤ℤ clock_in past
   pub one_clock : KeepOneClock starts places past more
-  pub rested : Side → ℤ
-  pub are_served : AreServed starts places wait past more hosts still rested
-  pub last : ℤ
-  pub reads : IsReadOften (places (other side)) read (other side) past more last
+  pub are_served : AreServedWithin starts places wait past more hosts still
+  pub reads : IsReadWithin starts (places (other side)) read (other side) past more hosts still
   pub stream : HasStream (told past side (places side))
   pub room : IsAtHost (places (other side)) (station between (other side)) (λ v. 1 ≤ room_of v.received)

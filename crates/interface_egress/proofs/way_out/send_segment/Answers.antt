@@ -6,6 +6,6 @@ pub returns-then-send-clause-out : goal.returns-then-send-clause-out
 returns-then-send-clause-out g c =
     let told : c.send.result ≡ true = search rules in (
       segment_departs g.D.Device.moves c.args.device.now c.send.new.device c.args.inner.now c.args.segment.now c.send.result true c.hardware_addr.result
-      c.checksum_caps.result c.numbered_v4.result told c.hardware_addr.ensures c.checksum_caps.ensures c.numbered_v4.ensures c.send.ensures.emits,
+          c.checksum_caps.result c.numbered_v4.result told c.hardware_addr.ensures c.checksum_caps.ensures c.numbered_v4.ensures c.send.ensures.emits,
       c.take_ident.ensures.after,
     )

@@ -3,7 +3,7 @@ use Rattle.ip_address.proofs.Vectors.{IsCopiedSoFar}
 use Rattle.ip_address.proofs.checksum.copy.Given as goal
 
 abbrev pub invariant-loop-done : goal.invariant-loop-done
-invariant-loop-done l = IsCopiedSoFar l.to l.from l.total l.whole l.done
+invariant-loop-done l = IsCopiedSoFar l.to l.from l.words l.high l.whole l.done
 
 abbrev pub decreases-loop-done : goal.decreases-loop-done
 decreases-loop-done l = l.whole - l.done

@@ -10,7 +10,7 @@ returns-then-is_closed g c =
     let i = c.args.incoming.now in
     let state : is_closed c.self.inside.block.state ≡ is_closed c.args.self.now.block.state = ap (λ (w : TcpValue). is_closed w.block.state) c.self.view_is in
     let leads =
-    closed_leads (g.C.Context.context c.args.cx.now) c.args.self.now c.args.again i.ip_repr.now i.header (sym state ∙ sym c.is_closed.ensures ∙ c.if-is_closed.true)
+    closed_leads (g.C.Context.context c.args.cx.now) c.args.self.now c.args.again i.ip_repr.now i.header.now (sym state ∙ sym c.is_closed.ensures ∙ c.if-is_closed.true)
     in
     record { answer = leads.answer; socket = leads.socket }
 
@@ -20,8 +20,8 @@ returns-else-is_closed g c =
     let i = c.args.incoming.now in
     let state : is_closed c.self.inside.block.state ≡ is_closed c.args.self.now.block.state = ap (λ (w : TcpValue). is_closed w.block.state) c.self.view_is in
     let leads =
-    again_leads cx c.args.self.now c.wait_anew.new.self c.args.again c.now.result i.ip_repr.now i.header
-    (answer_of c.draw_or_acknowledge.result cx.moment c.draw_or_acknowledge.new.self i.ip_repr.now i.header (length i.bytes.now))
+    again_leads cx c.args.self.now c.wait_anew.new.self c.args.again c.now.result i.ip_repr.now i.header.now
+    (answer_of c.draw_or_acknowledge.result cx.moment c.draw_or_acknowledge.new.self i.ip_repr.now i.header.now (length i.bytes.now))
     c.draw_or_acknowledge.new.self (sym state ∙ sym c.is_closed.ensures ∙ c.if-is_closed.false) c.now.ensures.value c.wait_anew.ensures
     c.draw_or_acknowledge.ensures.answer c.draw_or_acknowledge.ensures.socket
     in

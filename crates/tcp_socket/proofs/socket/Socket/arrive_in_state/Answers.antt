@@ -14,8 +14,8 @@ returns-in-SynSent-clause-drawn g c =
     let at : c.self.inside.block.state ≡ v.block.state = ap (λ (w : TcpValue). w.block.state) c.self.view_is in
     let opening : c.self.inside.block.state ≡ In.SynSent = c.in-SynSent.is in
     let not_listen : v.block.state ≡ In.Listen → ⊥ = λ h. absurd (cc) in
-    not_drawn c.args.cx.now (g.C.Context.drawn c.args.cx.now) (arrives_in v.block.state cx v i.ip_repr.now i.header i.bytes.now).draws
-    (quiet_in v.block.state cx v i.ip_repr.now i.header i.bytes.now not_listen)
+    not_drawn c.args.cx.now (g.C.Context.drawn c.args.cx.now) (arrives_in v.block.state cx v i.ip_repr.now i.header.now i.bytes.now).draws
+    (quiet_in v.block.state cx v i.ip_repr.now i.header.now i.bytes.now not_listen)
 
 pub returns-in_default : goal.returns-in_default
 returns-in_default g c =
@@ -26,12 +26,12 @@ returns-in_default g c =
     let not_closed : v.block.state ≡ In.Closed → ⊥ = λ h. c.in_default.not-Closed (at ∙ h) in
     let not_listen : v.block.state ≡ In.Listen → ⊥ = λ h. c.in_default.not-Listen (at ∙ h) in
     let not_opening : v.block.state ≡ In.SynSent → ⊥ = λ h. c.in_default.not-SynSent (at ∙ h) in
-    let leads = later_leads cx v i.ip_repr.now i.header i.bytes.now
-    (answer_of c.receive.result cx.moment c.receive.new.self i.ip_repr.now i.header (length i.bytes.now)) c.receive.new.self not_closed not_listen
+    let leads = later_leads cx v i.ip_repr.now i.header.now i.bytes.now
+    (answer_of c.receive.result cx.moment c.receive.new.self i.ip_repr.now i.header.now (length i.bytes.now)) c.receive.new.self not_closed not_listen
     not_opening c.receive.ensures.answer c.receive.ensures.socket in
     record {
       answer = leads.answer;
       socket = leads.socket;
-      drawn = not_drawn c.args.cx.now (g.C.Context.drawn c.args.cx.now) (arrives_in v.block.state cx v i.ip_repr.now i.header i.bytes.now).draws
-          (quiet_in v.block.state cx v i.ip_repr.now i.header i.bytes.now not_listen);
+      drawn = not_drawn c.args.cx.now (g.C.Context.drawn c.args.cx.now) (arrives_in v.block.state cx v i.ip_repr.now i.header.now i.bytes.now).draws
+          (quiet_in v.block.state cx v i.ip_repr.now i.header.now i.bytes.now not_listen);
     }

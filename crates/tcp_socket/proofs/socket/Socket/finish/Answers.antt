@@ -20,9 +20,9 @@ pub returns-clause-answer : goal.returns-clause-answer
 returns-clause-answer g c =
     let cx = g.C.Context.context c.args.cx.now in
     let i = c.args.incoming.now in
-    let answer = answer_of c.answer.result cx.moment c.answer.new.self i.ip_repr.now i.header (length i.bytes.now) in
+    let answer = answer_of c.answer.result cx.moment c.answer.new.self i.ip_repr.now i.header.now (length i.bytes.now) in
     (finish_leads cx c.args.next c.self.inside.block c.keep_probe.new.self c.self.inside.received c.self.inside.queued c.self.inside.offered c.args.self.now
-    c.take_fin.new.self c.args.text.now.advance c.args.text.now.fills c.args.text.now.early i.ip_repr.now i.header (length i.bytes.now) c.len.result
+    c.take_fin.new.self c.args.text.now.advance c.args.text.now.fills c.args.text.now.early i.ip_repr.now i.header.now (length i.bytes.now) c.len.result
     c.now-now.result answer c.answer.new.self c.self.view_is c.now-now.ensures.value c.len.ensures c.take_fin.ensures c.keep_probe.ensures
     c.answer.ensures.answer c.answer.ensures.socket).answer
 
@@ -30,8 +30,8 @@ pub returns-clause-socket : goal.returns-clause-socket
 returns-clause-socket g c =
     let cx = g.C.Context.context c.args.cx.now in
     let i = c.args.incoming.now in
-    let answer = answer_of c.answer.result cx.moment c.answer.new.self i.ip_repr.now i.header (length i.bytes.now) in
+    let answer = answer_of c.answer.result cx.moment c.answer.new.self i.ip_repr.now i.header.now (length i.bytes.now) in
     (finish_leads cx c.args.next c.self.inside.block c.keep_probe.new.self c.self.inside.received c.self.inside.queued c.self.inside.offered c.args.self.now
-    c.take_fin.new.self c.args.text.now.advance c.args.text.now.fills c.args.text.now.early i.ip_repr.now i.header (length i.bytes.now) c.len.result
+    c.take_fin.new.self c.args.text.now.advance c.args.text.now.fills c.args.text.now.early i.ip_repr.now i.header.now (length i.bytes.now) c.len.result
     c.now-now.result answer c.answer.new.self c.self.view_is c.now-now.ensures.value c.len.ensures c.take_fin.ensures c.keep_probe.ensures
     c.answer.ensures.answer c.answer.ensures.socket).socket

@@ -1,13 +1,9 @@
-use Rattle.std.proofs.Common.{◌≡◌, ℤ, length, Option, Some, sym, ap, subst, ◌∙◌}
-use Rattle.std.specs.Prelude.{IfSome}
+use Rattle.std.proofs.Common.{◌≡◌, ℤ, length, Option, Some, sym, ap, ◌∙◌}
 use Rattle.ip_wire.specs.TcpHeader.{TcpHeader}
-use Rattle.socket_base.specs.Packet.{IsSendable}
 use Rattle.tcp_model.specs.Arrival.{arrives}
 use Rattle.tcp_model.specs.Reply.{Reply}
 use Rattle.tcp_socket.specs.Answering.{answer_of, reply_of}
-use Rattle.tcp_socket.specs.Replies.{packet_in}
 use Rattle.tcp_socket.specs.declared.arrival.Due.{Due}
-use Rattle.tcp_socket.proofs.Answered.{sendable_answer}
 use Rattle.tcp_socket.proofs.Steps.{sent_out}
 use Rattle.tcp_socket.proofs.socket.Socket.process.Goals as goal
 
@@ -15,29 +11,29 @@ pub returns-in-Some-clause-sendable : goal.returns-in-Some-clause-sendable
 returns-in-Some-clause-sendable g c =
     let cx = g.C.Context.context c.args.cx.now in
     let ip = c.args.ip_repr.now in
-    let header = c.header.result in
+    let header = c.header-header.result in
     let bytes = c.args.repr.now.payload.now in
-    let left = c.arrive.new.self in
-    let due : answer_of c.arrive.result cx.moment left ip header (length bytes) ≡ Some c.reply.result =
+    let left = c.take_segment.new.self in
+    let due : answer_of c.take_segment.result cx.moment left ip header (length bytes) ≡ Some c.answer_due.result =
     ap (λ (o : Option Due). answer_of o cx.moment left ip header (length bytes)) c.in-Some.is
     ∙ ap (λ (m : ℤ). Some (reply_of c.in-Some.due m left ip header (length bytes))) (sym c.now-now.ensures.value)
-    ∙ ap (λ (r : Reply). Some r) (sym c.reply.ensures)
+    ∙ ap (λ (r : Reply). Some r) (sym c.answer_due.ensures)
     in
-    sent_out c.replied.result c.reply.result (answer_of c.arrive.result cx.moment left ip header (length bytes)) c.replied.ensures.reply
+    sent_out c.replied.result c.answer_due.result (answer_of c.take_segment.result cx.moment left ip header (length bytes)) c.replied.ensures.reply
     c.replied.ensures.bare due
-    (subst (λ (o : Option Reply). IfSome o (λ x. IsSendable (packet_in x))) (sym c.arrive.ensures.answer) (sendable_answer cx c.args.self.now ip header bytes))
+    c.take_segment.ensures.sendable
 
 pub returns-in-Some-clause-answer : goal.returns-in-Some-clause-answer
 returns-in-Some-clause-answer g c =
     let cx = g.C.Context.context c.args.cx.now in
     let ip = c.args.ip_repr.now in
-    let header = c.header.result in
+    let header = c.header-header.result in
     let bytes = c.args.repr.now.payload.now in
-    let left = c.arrive.new.self in
-    let due : answer_of c.arrive.result cx.moment left ip header (length bytes) ≡ Some c.reply.result =
+    let left = c.take_segment.new.self in
+    let due : answer_of c.take_segment.result cx.moment left ip header (length bytes) ≡ Some c.answer_due.result =
     ap (λ (o : Option Due). answer_of o cx.moment left ip header (length bytes)) c.in-Some.is
     ∙ ap (λ (m : ℤ). Some (reply_of c.in-Some.due m left ip header (length bytes))) (sym c.now-now.ensures.value)
-    ∙ ap (λ (r : Reply). Some r) (sym c.reply.ensures)
+    ∙ ap (λ (r : Reply). Some r) (sym c.answer_due.ensures)
     in
-    c.replied.ensures.reply ∙ sym due ∙ c.arrive.ensures.answer
-    ∙ ap (λ (h : TcpHeader). (arrives cx c.args.self.now ip h bytes).answer) c.header.ensures
+    c.replied.ensures.reply ∙ sym due ∙ c.take_segment.ensures.answer
+    ∙ ap (λ (h : TcpHeader). (arrives cx c.args.self.now ip h bytes).answer) c.header-header.ensures

@@ -14,16 +14,16 @@ pub invariant_of-self : goal.invariant_of-self
 invariant_of-self g c =
     let i = c.args.incoming.now in
     let none : c.self.inside.offered ≡ None = ap (λ (v : TcpValue). v.offered) c.self.view_is ∙ c.requires.unoffered in
-    let first : is_first_syn i.header ≡ true = sym c.is_first_syn.ensures ∙ c.if-not-is_first_syn.false in
-    let sized = sized_syn (is_syn i.header.control) (is_zero i.header.options.max_seg_size) c.requires.sized (first_syn i.header first) in
+    let first : is_first_syn i.header.now ≡ true = sym c.is_first_syn.ensures ∙ c.if-not-is_first_syn.false in
+    let sized = sized_syn (is_syn i.header.now.control) (is_zero i.header.now.options.max_seg_size) c.requires.sized (first_syn i.header.now first) in
     record {
       room = c.self.invariant.room;
       block = rw (
         c.restart_timeout.ensures,
         c.believe_stamp.ensures,
         c.answer_syn.ensures,
-      ) (kept_opening c.self.inside.block i.ip_repr.now i.header c.first_number-number.result c.now-now.result c.now-now.ensures.moment
-          (sized_mss i.header.options.max_seg_size sized));
+      ) (kept_opening c.self.inside.block i.ip_repr.now i.header.now c.first_number-number.result c.now-now.result c.now-now.ensures.moment
+          (sized_mss i.header.now.options.max_seg_size sized));
       unsettled = none_open c.self.inside.offered c.restart_timeout.new.self none;
     }
 
@@ -35,7 +35,7 @@ pub returns : goal.returns
 returns g c =
     let cx = g.C.Context.context c.args.cx.now in
     let v = c.args.self.now in
-    let header = c.args.incoming.now.header in
+    let header = c.args.incoming.now.header.now in
     let ip = c.args.incoming.now.ip_repr.now in
     let now = c.now-now.result in
     let number = c.first_number-number.result in

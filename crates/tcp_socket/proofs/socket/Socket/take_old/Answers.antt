@@ -9,12 +9,12 @@ returns-then-is_in_window-clause-answer g c =
     let cx = g.C.Context.context c.args.cx.now in
     let i = c.args.incoming.now in
     let r = c.self.inside.received in
-    let window : is_in_window c.self.inside.block (length r.map) i.header (length i.bytes.now) ≡ true =
-    sym (c.is_in_window.ensures ∙ ap (λ (n : ℕ). is_in_window c.self.inside.block n i.header (length i.bytes.now)) c.window-free.ensures.value)
+    let window : is_in_window c.self.inside.block (length r.map) i.header.now (length i.bytes.now) ≡ true =
+    sym (c.is_in_window.ensures ∙ ap (λ (n : ℕ). is_in_window c.self.inside.block n i.header.now (length i.bytes.now)) c.window-free.ensures.value)
     ∙ c.if-is_in_window.true
     in
     (old_leads cx c.self.inside.block c.hear.new.self c.take_stamp.new.self r c.self.inside.queued c.self.inside.offered c.args.self.now c.now.result
-    i.ip_repr.now i.header i.bytes.now (answer_of c.take_content.result cx.moment c.take_content.new.self i.ip_repr.now i.header (length i.bytes.now))
+    i.ip_repr.now i.header.now i.bytes.now (answer_of c.take_content.result cx.moment c.take_content.new.self i.ip_repr.now i.header.now (length i.bytes.now))
     c.take_content.new.self c.self.view_is window c.hear.ensures c.take_stamp.ensures c.now.ensures.value c.take_content.ensures.answer
     c.take_content.ensures.socket).answer
 
@@ -23,11 +23,11 @@ returns-then-is_in_window-clause-socket g c =
     let cx = g.C.Context.context c.args.cx.now in
     let i = c.args.incoming.now in
     let r = c.self.inside.received in
-    let window : is_in_window c.self.inside.block (length r.map) i.header (length i.bytes.now) ≡ true =
-    sym (c.is_in_window.ensures ∙ ap (λ (n : ℕ). is_in_window c.self.inside.block n i.header (length i.bytes.now)) c.window-free.ensures.value)
+    let window : is_in_window c.self.inside.block (length r.map) i.header.now (length i.bytes.now) ≡ true =
+    sym (c.is_in_window.ensures ∙ ap (λ (n : ℕ). is_in_window c.self.inside.block n i.header.now (length i.bytes.now)) c.window-free.ensures.value)
     ∙ c.if-is_in_window.true
     in
     (old_leads cx c.self.inside.block c.hear.new.self c.take_stamp.new.self r c.self.inside.queued c.self.inside.offered c.args.self.now c.now.result
-    i.ip_repr.now i.header i.bytes.now (answer_of c.take_content.result cx.moment c.take_content.new.self i.ip_repr.now i.header (length i.bytes.now))
+    i.ip_repr.now i.header.now i.bytes.now (answer_of c.take_content.result cx.moment c.take_content.new.self i.ip_repr.now i.header.now (length i.bytes.now))
     c.take_content.new.self c.self.view_is window c.hear.ensures c.take_stamp.ensures c.now.ensures.value c.take_content.ensures.answer
     c.take_content.ensures.socket).socket

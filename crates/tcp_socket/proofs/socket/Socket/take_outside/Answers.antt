@@ -7,8 +7,8 @@ pub returns-then-tells_news-clause-answer : goal.returns-then-tells_news-clause-
 returns-then-tells_news-clause-answer g c =
     let cx = g.C.Context.context c.args.cx.now in
     let i = c.args.incoming.now in
-    (outside_leads cx c.args.self.now c.acknowledge.new.self c.now.result i.ip_repr.now i.header (length i.bytes.now) c.args.by c.tells_news.result
-    c.has_length-again.result (answer_of c.answer_outside.result cx.moment c.answer_outside.new.self i.ip_repr.now i.header (length i.bytes.now))
+    (outside_leads cx c.args.self.now c.acknowledge.new.self c.now.result i.ip_repr.now i.header.now (length i.bytes.now) c.args.by c.tells_news.result
+    c.has_length-again.result (answer_of c.answer_outside.result cx.moment c.answer_outside.new.self i.ip_repr.now i.header.now (length i.bytes.now))
     c.answer_outside.new.self c.if-tells_news.true c.tells_news.ensures c.has_length-again.ensures c.now.ensures.value c.acknowledge.ensures
     c.answer_outside.ensures.answer c.answer_outside.ensures.socket).answer
 
@@ -16,7 +16,7 @@ pub returns-then-tells_news-clause-socket : goal.returns-then-tells_news-clause-
 returns-then-tells_news-clause-socket g c =
     let cx = g.C.Context.context c.args.cx.now in
     let i = c.args.incoming.now in
-    (outside_leads cx c.args.self.now c.acknowledge.new.self c.now.result i.ip_repr.now i.header (length i.bytes.now) c.args.by c.tells_news.result
-    c.has_length-again.result (answer_of c.answer_outside.result cx.moment c.answer_outside.new.self i.ip_repr.now i.header (length i.bytes.now))
+    (outside_leads cx c.args.self.now c.acknowledge.new.self c.now.result i.ip_repr.now i.header.now (length i.bytes.now) c.args.by c.tells_news.result
+    c.has_length-again.result (answer_of c.answer_outside.result cx.moment c.answer_outside.new.self i.ip_repr.now i.header.now (length i.bytes.now))
     c.answer_outside.new.self c.if-tells_news.true c.tells_news.ensures c.has_length-again.ensures c.now.ensures.value c.acknowledge.ensures
     c.answer_outside.ensures.answer c.answer_outside.ensures.socket).socket

@@ -13,11 +13,11 @@ returns-clause-answer g c =
     let v = c.args.self.now in
     let state : is_closed c.self.inside.block.state ≡ is_closed v.block.state = ap (λ (w : TcpValue). is_closed w.block.state) c.self.view_is in
     let opened : is_closed v.block.state ≡ false = sym state ∙ sym c.is_closed.ensures ∙ c.if-is_closed.false in
-    let heard : c.take_window.new.self ≡ told v i.header c.args.duplicates cx.moment =
-    c.take_window.ensures ∙ ap (λ (m : ℤ). told v i.header c.args.duplicates m) c.now.ensures.value
+    let heard : c.take_window.new.self ≡ told v i.header.now c.args.duplicates cx.moment =
+    c.take_window.ensures ∙ ap (λ (m : ℤ). told v i.header.now c.args.duplicates m) c.now.ensures.value
     in
-    (rest_leads cx c.args.duplicates v c.take_window.new.self i.ip_repr.now i.header i.bytes.now
-    (answer_of c.take_content.result cx.moment c.take_content.new.self i.ip_repr.now i.header (length i.bytes.now)) c.take_content.new.self opened heard
+    (rest_leads cx c.args.duplicates v c.take_window.new.self i.ip_repr.now i.header.now i.bytes.now
+    (answer_of c.take_content.result cx.moment c.take_content.new.self i.ip_repr.now i.header.now (length i.bytes.now)) c.take_content.new.self opened heard
     c.take_content.ensures.answer c.take_content.ensures.socket).answer
 
 pub returns-clause-socket : goal.returns-clause-socket
@@ -27,9 +27,9 @@ returns-clause-socket g c =
     let v = c.args.self.now in
     let state : is_closed c.self.inside.block.state ≡ is_closed v.block.state = ap (λ (w : TcpValue). is_closed w.block.state) c.self.view_is in
     let opened : is_closed v.block.state ≡ false = sym state ∙ sym c.is_closed.ensures ∙ c.if-is_closed.false in
-    let heard : c.take_window.new.self ≡ told v i.header c.args.duplicates cx.moment =
-    c.take_window.ensures ∙ ap (λ (m : ℤ). told v i.header c.args.duplicates m) c.now.ensures.value
+    let heard : c.take_window.new.self ≡ told v i.header.now c.args.duplicates cx.moment =
+    c.take_window.ensures ∙ ap (λ (m : ℤ). told v i.header.now c.args.duplicates m) c.now.ensures.value
     in
-    (rest_leads cx c.args.duplicates v c.take_window.new.self i.ip_repr.now i.header i.bytes.now
-    (answer_of c.take_content.result cx.moment c.take_content.new.self i.ip_repr.now i.header (length i.bytes.now)) c.take_content.new.self opened heard
+    (rest_leads cx c.args.duplicates v c.take_window.new.self i.ip_repr.now i.header.now i.bytes.now
+    (answer_of c.take_content.result cx.moment c.take_content.new.self i.ip_repr.now i.header.now (length i.bytes.now)) c.take_content.new.self opened heard
     c.take_content.ensures.answer c.take_content.ensures.socket).socket
