@@ -142,15 +142,16 @@ fn send_offered<D: Device>(
         (sender device.new inner.new fragmenter.new) item.new }
     ensures capabilities { D.described device.new ≡ D.described device.old }
 {
-    if let Socket::Tcp(socket) = &mut item.socket {
-        if let Some(segment) = straight_segment(inner, socket) {
-            segment_has_widths(&segment);
-            let sent = leave_segment(inner, device, &mut item.meta, &segment);
-            socket.settle(is_done(sent));
-            return turned_by(sent, changed);
-        }
-    }
-    send_any(turn, inner, fragmenter, device, item, changed)
+    let Socket::Tcp(socket) = &item.socket else {
+        return send_any(turn, inner, fragmenter, device, item, changed);
+    };
+    let Some(segment) = straight_segment(inner, socket) else {
+        return send_any(turn, inner, fragmenter, device, item, changed);
+    };
+    segment_has_widths(&segment);
+    let sent = leave_segment(inner, device, &mut item.meta, &segment);
+    item.socket.settle(is_done(sent));
+    turned_by(sent, changed)
 }
 
 /// The segment that a TCP socket offers, as it lies there, where it goes straight to a hardware address.
