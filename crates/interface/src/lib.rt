@@ -19,6 +19,7 @@ mod remote;
 mod send_to;
 mod step;
 mod turn;
+mod widths;
 
 pub use by_kind::SocketsByKind;
 pub use host::Interface;

@@ -1,5 +1,5 @@
 //! A socket's turn.
-ghost use Rattle.std.specs.Prelude.{◌≡◌, is_some};
+ghost use Rattle.std.specs.Prelude.{◌≡◌, is_some, Some, IfSome};
 ghost use Rattle.net_base.specs.Time.{IsMoment};
 ghost use Rattle.ip_wire.specs.Ip.{destination_of};
 ghost use Rattle.interface_ingress.specs.Packet.{packet_value, payload_value, IsSendable};
@@ -7,7 +7,9 @@ ghost use Rattle.interface_ingress.specs.Offer.TheVariants as Answer;
 ghost use Rattle.interface_ingress.specs.Offers.{HasPacket};
 ghost use Rattle.interface_ingress.specs.WellFormed.{IsWellFormed};
 ghost use Rattle.interface_ingress.specs.Sockets.{Offers, offered_by, IfSendable};
-ghost use Rattle.interface_egress.specs.Plan.{IsPacket, comes_from_here, plan_of};
+ghost use Rattle.interface_ingress.specs.TcpOffers.{offered_packet};
+ghost use Rattle.interface_egress.specs.Departure.{segment_packet};
+ghost use Rattle.interface_egress.specs.Plan.{IsPacket, GoesStraight, comes_from_here, plan_of};
 ghost use Rattle.interface.specs.Host.{sender};
 ghost use Rattle.interface.specs.Remote.{context_for};
 ghost use Rattle.interface.specs.Turn.{is_known, is_heard, is_waiting, is_given_up, is_other, is_out_of_turn, held, waits_until, is_done, marked};
@@ -16,14 +18,15 @@ ghost use Rattle.interface.specs.Turn.{turned_by, Leaves, LeavesAs, LeavesStraig
 ghost use Rattle.interface_egress.specs.Meta.{freed};
 
 use crate::remote::remote_of;
+use crate::widths::segment_has_widths;
 use interface_egress::{
-    Fragmenter, InterfaceInner, Item, Meta, Plan, Sent, SocketStorage, dispatch_by, plan_from,
-    send_whole, straight_to,
+    Fragmenter, InterfaceInner, Item, Meta, Plan, Sent, SocketStorage, StraightSegment,
+    dispatch_by, plan_from, send_segment, send_whole, straight_to, straight_v4,
 };
 use interface_ingress::addresses::is_same_address;
 use interface_ingress::socket_laws::unsent_is_offered_again;
 use interface_ingress::widths::fields_have_widths;
-use interface_ingress::{Context, IpPayload, Offer, Packet, Socket};
+use interface_ingress::{Context, IpPayload, Offer, Packet, Socket, tcp};
 use interface_tables::Look;
 use ip_wire::{HardwareAddress, IpAddress, IpRepr, Ipv4Repr, Ipv6Repr};
 use net_base::{Device, Duration, Instant};
@@ -123,8 +126,87 @@ pub(crate) fn is_known(inner: &InterfaceInner, neighbor: Option<IpAddress>) -> b
     }
 }
 
-/// Sends the packet of the open offer, and tells the socket what became of it.
+/// Sends the packet of the open offer, and tells the socket what became of it. A segment that goes straight to a hardware address is sent
+/// from where it lies in its socket.
 fn send_offered<D: Device>(
+    turn: &Option<IpAddress>,
+    inner: &mut InterfaceInner,
+    fragmenter: &mut Fragmenter,
+    device: &mut D,
+    item: &mut Item<Socket>,
+    changed: bool,
+) -> Turned
+    requires offered { HasPacket (Answer.Packet changed) (offered_by item.old.socket) }
+    requires sendable { IfSendable (offered_by item.old.socket) }
+    ensures sends { Sends D.moves turn.now (sender device.old inner.old fragmenter.old) item.old changed result
+        (sender device.new inner.new fragmenter.new) item.new }
+    ensures capabilities { D.described device.new ≡ D.described device.old }
+{
+    let Socket::Tcp(socket) = &item.socket else {
+        return send_any(turn, inner, fragmenter, device, item, changed);
+    };
+    let Some(segment) = straight_segment(inner, socket) else {
+        return send_any(turn, inner, fragmenter, device, item, changed);
+    };
+    segment_has_widths(&segment);
+    let sent = leave_segment(inner, device, &mut item.meta, &segment);
+    item.socket.settle(is_done(sent));
+    turned_by(sent, changed)
+}
+
+/// The segment that a TCP socket offers, as it lies there, where it goes straight to a hardware address.
+fn straight_segment<'a>(
+    inner: &InterfaceInner,
+    socket: &'a tcp::Socket,
+) -> Option<StraightSegment<'a>>
+    ensures offered { IfSome result (λ s. offered_packet socket.now ≡ Some (segment_packet s)) }
+    ensures straight { IfSome result (λ s. GoesStraight inner.now (segment_packet s).header s.to) }
+{
+    let Some(offered) = socket.offered_segment() else {
+        return None;
+    };
+    let IpRepr::Ipv4(header) = offered.header else {
+        return None;
+    };
+    match straight_v4(inner, header) {
+        Some(to) => Some(StraightSegment {
+            to,
+            header,
+            segment: offered.segment,
+            text: offered.text,
+        }),
+        None => None,
+    }
+}
+
+/// Lets a segment leave straight to its hardware address, if the device gives leave.
+fn leave_segment<D: Device>(
+    inner: &mut InterfaceInner,
+    device: &mut D,
+    meta: &mut Meta,
+    segment: &StraightSegment<'_>,
+) -> Sent
+    requires sendable { IsSendable (segment_packet segment.now) }
+    ensures left { LeavesStraight D.moves segment.now.to (segment_packet segment.now) device.old inner.old meta.old result
+        device.new inner.new meta.new }
+    ensures capabilities { D.described device.new ≡ D.described device.old }
+{
+    match device.transmit(inner.now()) {
+        Some(token) => {
+            let sent = send_segment(inner, device, token, segment);
+            if is_done(sent) {
+                meta.unmark();
+            }
+            sent
+        }
+        None => Sent::Refused,
+    }
+}
+
+/// The same of a packet that is lent as a value of its own. It stands apart, so that this isn't made ready for a segment that is sent from
+/// where it lies.
+#[inline(never)]
+fn send_any<D: Device>(
     turn: &Option<IpAddress>,
     inner: &mut InterfaceInner,
     fragmenter: &mut Fragmenter,
