@@ -45,16 +45,20 @@ one_more side k (suc n) =
     (subst (λ (m : ℕ). deliveries side (suc k) (suc n) ≡ deliveries side (suc k) n ++ E.Deliver side m [] ∷ []) moved (one_more side (suc k) n))
 
 -- the next one behind those of a host from one number up to another
-pub handed_on : (old mid new : WorldValue) (side : Side) (from frame : ℕ) (answer : Answer) → from ≤ frame
-    → Steps old (deliveries side from (frame - from)) mid → Step mid (E.Deliver side frame []) answer new
+pub handed_on : (old mid new : WorldValue) (side : Side) (from frame : ℕ) (padding : List ℕ) (answer : Answer) → from ≤ frame → padding ≡ []
+    → Steps old (deliveries side from (frame - from)) mid → Step mid (E.Deliver side frame padding) answer new
     → Steps old (deliveries side from (frame + 1 - from)) new
-handed_on old mid new side from frame answer below before step =
+handed_on old mid new side from frame padding answer below bare before step =
     let counted : frame + 1 - from ≡ suc (frame - from) = omega arith in
-    let place : from + (frame - from) ≡ frame = omega arith in
+    let place : frame ≡ from + (frame - from) = omega arith in
+    let first : List Event = deliveries side from (frame - from) in
+    let plain : Step mid (E.Deliver side frame []) answer new = subst (λ (p : List ℕ). Step mid (E.Deliver side frame p) answer new) bare step in
+    let both : Steps old (first ++ E.Deliver side frame [] ∷ []) new =
+        steps_of_both old mid new first (E.Deliver side frame [] ∷ []) before (answer, new, plain, refl) in
+    let all : Steps old (first ++ E.Deliver side (from + (frame - from)) [] ∷ []) new =
+        subst (λ (m : ℕ). Steps old (first ++ E.Deliver side m [] ∷ []) new) place both in
     subst (λ (n : ℕ). Steps old (deliveries side from n) new) (sym counted)
-    (subst (λ (events : List Event). Steps old events new) (sym (one_more side from (frame - from)))
-        (subst (λ (m : ℕ). Steps old (deliveries side from (frame - from) ++ E.Deliver side m [] ∷ []) new) (sym place)
-            (steps_of_both old mid new (deliveries side from (frame - from)) (E.Deliver side frame [] ∷ []) before (answer, new, step, refl))))
+    (subst (λ (events : List Event). Steps old events new) (sym (one_more side from (frame - from))) all)
 
 -- ROUNDS
 

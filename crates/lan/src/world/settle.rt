@@ -4,7 +4,7 @@ ghost use Rattle.lan.specs.declared.at_link.history.answer.Answer.TheVariants as
 ghost use Rattle.lan.specs.declared.at_link.history.event.Event.TheVariants as E;
 ghost use Rattle.lan.specs.Worlds.AtLink.Runs.{Step, Steps};
 ghost use Rattle.lan.specs.Worlds.Promises.{IsSafeWorld};
-ghost use Rattle.lan.specs.Worlds.Settling.{AreAtRest, AreServed, Goes, IsCalm, IsRound, IsServed, IsService, NextRound, Settles, all_sent, deliveries};
+ghost use Rattle.lan.specs.Worlds.Settling.{AreAtRest, AreServed, Goes, IsCalm, IsServed, IsService, NextRound, Settles, all_sent, deliveries};
 
 use crate::at_link::{Answer, Bytes, Event, Refused, Side};
 use crate::world::World;
