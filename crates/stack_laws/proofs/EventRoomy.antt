@@ -26,7 +26,7 @@ use Rattle.stack_laws.specs.Progress.Moving.{IsTcp}
 use Rattle.stack_laws.specs.Progress.Serving.{HasSpace, HasSpaceThroughout, IsAtHost}
 use Rattle.stack_laws.specs.Progress.Unread.{HasRoomForAll, HasRoomThroughout}
 
-tcp_so : (o : Option Socket) (P Q : TcpValue → Type 0) → ((v : TcpValue) → o ≡ Some (Tcp v) → P v → Q v) → IsTcp o P → IsTcp o Q
+pub tcp_so : (o : Option Socket) (P Q : TcpValue → Type 0) → ((v : TcpValue) → o ≡ Some (Tcp v) → P v → Q v) → IsTcp o P → IsTcp o Q
 tcp_so None P Q so is = is
 tcp_so (Some (Tcp v)) P Q so is = so v refl is
 tcp_so (Some (Udp v)) P Q so is = is
