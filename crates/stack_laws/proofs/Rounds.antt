@@ -1,0 +1,3 @@
+-- Rounds of a world that settles.
+pub mod Takings
+pub mod Sendings
