@@ -389,11 +389,11 @@ both_opened : AreBoth (λ side v. IsOpen v.block) place (hosts_before starts bot
 unfolding stayed asked learned handed_back told read handed sent wrote
 both_opened = both_are (λ side v. IsOpen v.block) open_a (open_b []) open_here open_there
 
-both_stay : AreBoth (λ side v. is_synchronized v.block.state ≡ true) place hosts
+pub both_stay : AreBoth (λ side v. is_synchronized v.block.state ≡ true) place hosts
 unfolding v4_number mtu_towards
 both_stay = both_are (λ side v. is_synchronized v.block.state ≡ true) through_a through_b refl refl
 
-both_at_home : AreBoth (λ side v. IfSome v.block.names.pair (IsAtHome (start starts side).host.inner)) place hosts
+pub both_at_home : AreBoth (λ side v. IfSome v.block.names.pair (IsAtHome (start starts side).host.inner)) place hosts
 unfolding v4_number mtu_towards
 both_at_home =
     both_are (λ side v. IfSome v.block.names.pair (IsAtHome (start starts side).host.inner)) through_a through_b (record { own = refl; one_host = refl })

@@ -46,7 +46,7 @@ use Rattle.stack_laws.specs.Progress.ByEvents.{GoOnByEvents}
 use Rattle.stack_laws.specs.Progress.Edges.{edge_span}
 use Rattle.stack_laws.specs.Progress.Ends.{AreBoth, AreThroughout, AreUnstamped, IsConnected}
 use Rattle.stack_laws.specs.Progress.Events.{HappensBy, MoveBy, all_at, clock_in, untimed}
-use Rattle.stack_laws.specs.Progress.Moving.{AreSo, ComeInTime, GoOnByMoves, IsFreshFor, IsTcp, SocketIs, end_in, moves_of}
+use Rattle.stack_laws.specs.Progress.Moving.{ComeInTime, GoOnByMoves, IsFreshFor, IsTcp, SocketIs, end_in, moves_of}
 use Rattle.stack_laws.specs.Progress.OneClock.{timed}
 use Rattle.stack_laws.specs.Progress.Reach.{AreInReach, hosts_before}
 use Rattle.stack_laws.specs.Progress.Serving.{AreEventsInTime, HasSpace, HasSpaceThroughout, IsAtHost, KeepsStreamBy}

@@ -18,6 +18,8 @@ ghost use Rattle.lan.specs.Worlds.Settling.{IsService, Settles};
 ghost use Rattle.lan.specs.Worlds.Still.{StillRun};
 ghost use Rattle.stack_laws.specs.Progress.Events.{clock_in};
 ghost use Rattle.stack_laws.specs.Progress.Settled.{HasArrived};
+ghost use Rattle.stack_laws.specs.Progress.SettledNumerals as Numerals;
+ghost use Rattle.stack_laws.specs.Progress.SettledNumerals.{news, place};
 ghost use Rattle.stack_laws.specs.Progress.Within.{GoAtOnce, MayBegin, MaySettle, enough_for};
 
 use super::events::partners_go_on_by_their_events;
@@ -59,3 +61,9 @@ pub fn what_settles_arrives_in_time()
     rounds_bring_frames_and_serve_sockets_at_once();
     partners_go_on_by_their_events();
 }
+
+/// Law: there are two worlds that meet all that this asks for of worlds: as A's user has written in the world on numerals that settles, and as all has come.
+pub fn a_world_that_settles_may_settle()
+    ensures { (old new : WorldValue) × (sockets : Side → TcpValue) × MaySettle place news (pos 0) sockets old new
+        × (new.history ≡ Numerals.history) × (old.history ≡ Numerals.told_to_send) }
+{}
