@@ -9,6 +9,7 @@ use Rattle.lan.specs.declared.at_link.history.event.Event.{Event}
 use Rattle.lan.specs.declared.at_link.history.event.Event.TheVariants as E
 use Rattle.lan.specs.declared.at_link.history.event.Side.{Side}
 use Rattle.lan.specs.declared.at_link.history.event.Side.TheVariants.{A, B}
+pub use Rattle.lan.specs.declared.world.settle.Handed.{Handed}
 use Rattle.lan.specs.Worlds.AtLink.History.{Entry}
 use Rattle.lan.specs.Worlds.AtLink.Runs.{Step, Steps, WorldValue}
 use Rattle.lan.specs.Worlds.AtLink.Station.{station}
@@ -34,11 +35,6 @@ AreAtRest moment history =
     (past between : List Entry) × WasAsked A moment None past between × WasAsked B moment None between history
 
 -- FRAMES THAT ARE HANDED OVER
-
--- how many frames of each host were handed over, or are lost
-pub record Handed : Type 0 where
-  pub a : ℕ
-  pub b : ℕ
 
 -- as many as each host sent
 abbrev pub all_sent : WorldValue → Handed
