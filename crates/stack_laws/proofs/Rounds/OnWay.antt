@@ -268,8 +268,10 @@ module _ (t : ℤ) (budget : ℕ) (old new : Stations) (side : Side) where
     new_under (f ∷ frames) read among = (
       (
         this_moment t,
-        (read.0,
-        inl (subst (λ (fs : Frames). IsIn f (drop k fs)) (sym sent.are) (drop_new f k (station old side).link.sent sent.gone few (among f (inl refl))))),
+        (
+          read.0,
+          inl (subst (λ (fs : Frames). IsIn f (drop k fs)) (sym sent.are) (drop_new f k (station old side).link.sent sent.gone few (among f (inl refl)))),
+        ),
       ),
       new_under frames read.1 (λ frame is. among frame (inr is)),
     )

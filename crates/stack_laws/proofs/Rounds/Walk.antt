@@ -375,9 +375,9 @@ walk_begins once old fresh places from typed run up soon_first = record {
   typed = typed;
   run = run;
   goes = λ still. (
-      record { few = fits; on_way = λ s. []; carried = λ s. refl; under = λ s. tt },
-      record { keeps = tt; clock = up; at_once = tt; soon = soon_first },
-    );
+    record { few = fits; on_way = λ s. []; carried = λ s. refl; under = λ s. tt },
+    record { keeps = tt; clock = up; at_once = tt; soon = soon_first },
+  );
 } where
   fits : (s : Side) → of (all_sent old) s ≤ length (station old.hosts s).link.sent
   fits A = omega arith
