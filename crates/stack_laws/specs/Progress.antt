@@ -38,3 +38,4 @@ pub mod ByEvents
 pub mod Edges
 pub mod EdgesMet
 pub mod Settled
+pub mod Within
