@@ -32,7 +32,9 @@ pub mod EventCarried
 pub mod EventMade
 pub mod EventFrames
 pub mod EventHeard
+pub mod EventNamed
 pub mod EventHears
+pub mod EventHops
 pub mod EventFacts
 pub mod EventComes
 pub mod EventStamps
