@@ -1,5 +1,6 @@
 -- Where hosts know each other throughout, what two connected sockets offer goes.
 use Rattle.std.proofs.Common.{◌≡◌, inl, inr, ℕ, Bool, true, false, ℤ, IsTrue, List, [], ◌∷◌, ◌++◌, Option, Some, None, IfSome, refl, sym, ap, ◌∙◌, subst}
+use Rattle.std.specs.Prelude.{not, ◌&&◌, int_lt}
 use Rattle.std.specs.List.{AllByRecursion}
 use Rattle.ip_packet.specs.Ip.{destination_of}
 use Rattle.ip_wire.specs.HardwareAddress.{HardwareAddress}
@@ -14,6 +15,10 @@ use Rattle.tcp_progress.specs.Arrivals.{is_synchronized}
 use Rattle.tcp_progress.specs.Sent.{is_early}
 use Rattle.tcp_tie.specs.Endpoints.{GoesBetween}
 use Rattle.tcp_tie.proofs.NameLaws.{offer_between_ends}
+use Rattle.interface.specs.Turn.{is_known}
+use Rattle.interface_egress.specs.Meta.{neighbor_by, waits_by}
+use Rattle.interface_egress.specs.declared.socket_meta.Waiting.{Waiting}
+use Rattle.interface_tables.specs.Inner.{InnerValue, has_neighbor}
 use Rattle.lan.specs.declared.at_link.history.event.Side.{Side}
 use Rattle.lan.specs.Worlds.AtLink.Fresh.{IsFreshWorld}
 use Rattle.lan.specs.Worlds.AtLink.Happening.{Happening, goes}
@@ -27,7 +32,7 @@ use Rattle.lan.specs.Worlds.AtLink.Paired.{Seat}
 use Rattle.lan.specs.Worlds.AtLink.Parties.{Net, party, socket_at}
 use Rattle.lan.specs.Worlds.AtLink.Parties.Socket.{Tcp}
 use Rattle.lan.specs.Worlds.AtLink.Runs.{Starts}
-use Rattle.lan.specs.Worlds.AtLink.Station.{Stations, station}
+use Rattle.lan.specs.Worlds.AtLink.Station.{StationValue, Stations, station}
 use Rattle.lan.specs.Worlds.Events.{AreTyped}
 use Rattle.lan.specs.Worlds.Moves.Follows.{IsNetOf}
 use Rattle.lan.specs.Worlds.Still.{StillRun, seats_of}
@@ -36,11 +41,11 @@ use Rattle.lan_base.specs.Medium.TheVariants as Medium
 use Rattle.stack_laws.specs.Progress.Acquainted.{AreAcquainted}
 use Rattle.stack_laws.specs.Progress.Ends.{AreBoth, AreConnected, IsConnected}
 use Rattle.stack_laws.specs.Progress.Events.{AreOfEvent, MoveBy, clock_in, shown_in, untimed}
-use Rattle.stack_laws.specs.Progress.KnownHops.{AreSentTo, IsSentTo, KnowEachOther, KnowsOther, KnowsThroughout}
+use Rattle.stack_laws.specs.Progress.KnownHops.{AreSentTo, IsMarkedForKnown, IsSentTo, KnowEachOther, KnowsOther, KnowsThroughout}
 use Rattle.stack_laws.specs.Progress.Linked.{AreLinked}
 use Rattle.stack_laws.specs.Progress.Moving.{AreLetGo, IsLetGo}
 use Rattle.stack_laws.specs.Progress.OneClock.{timed}
-use Rattle.stack_laws.specs.Progress.Serving.{GiveLeave, GivesLeave}
+use Rattle.stack_laws.specs.Progress.Serving.{GiveLeave, GivesLeave, WaitsForNone}
 use Rattle.stack_laws.proofs.EventFacts.{both_now, net_at}
 use Rattle.stack_laws.proofs.EventGoes.{bare_knows}
 use Rattle.stack_laws.proofs.EventHeard.{one_pair}
@@ -172,3 +177,14 @@ acquainted starts places delay past more hosts still fresh typed linked = record
   on_way = linked.on_way;
   carried = linked.carried;
 }
+
+-- A MARK for a neighbor that is known
+
+pub waits_for_none_known : (s : StationValue) (place : ℕ) → IsMarkedForKnown place s → WaitsForNone place s
+waits_for_none_known s place marked at item here is = by item.meta.waiting (marked at item here is) where
+  i : InnerValue
+  i = s.host.inner
+
+  by : (w : Option Waiting) → IfSome (neighbor_by w) (λ neighbor. has_neighbor i neighbor ≡ true) → waits_by w (is_known i (neighbor_by w)) i.moment ≡ false
+  by None known = refl
+  by (Some w) known = ap (λ (b : Bool). not b && int_lt i.moment w.silent_until) known

@@ -1,5 +1,5 @@
 -- Hosts that know throughout their polls where their frames go: they know each other's hardware address, or their medium has none.
-use Rattle.std.specs.Prelude.{◌≡◌, ℕ, ℤ, true, IsTrue, List, [], ◌∷◌, ◌++◌, IfSome}
+use Rattle.std.specs.Prelude.{◌≡◌, ℕ, ℤ, true, IsTrue, List, [], ◌∷◌, ◌++◌, Some, IfSome, slice_get}
 use Rattle.std.specs.List.{AllByRecursion}
 use Rattle.ip_packet.specs.Ip.{destination_of}
 use Rattle.ip_wire.specs.HardwareAddress.{HardwareAddress}
@@ -7,6 +7,11 @@ use Rattle.ip_wire.specs.IpAddress.{IpAddress}
 use Rattle.tcp_control.specs.Endpoints.{remote_of}
 use Rattle.tcp_control.specs.declared.endpoints.EndpointPair.{EndpointPair}
 use Rattle.tcp_model.specs.Offers.{offer_of}
+use Rattle.interface_egress.specs.Meta.{neighbor_of}
+use Rattle.interface_egress.specs.declared.socket_set.Item.{Item}
+use Rattle.interface_egress.specs.declared.socket_set.SocketStorage.{SocketStorage}
+use Rattle.interface_ingress.specs.Socket.{Socket}
+use Rattle.interface_tables.specs.Inner.{has_neighbor}
 use Rattle.lan.specs.declared.at_link.history.event.Side.{Side}
 use Rattle.lan.specs.Worlds.AtLink.History.{Entry}
 use Rattle.lan.specs.Worlds.AtLink.Kinds.{Kind, kind_of, other}
@@ -53,3 +58,11 @@ abbrev pub KnowEachOther : (Side → HardwareAddress) → (Side → EndpointPair
 KnowEachOther own pairs starts past [] hosts still = Unit {0}
 KnowEachOther own pairs starts past (e ∷ more) hosts still =
     KnowEachOther own pairs starts past more still.0 still.1 × KnowsOther own pairs (kind_of e.event) still.0 hosts
+
+-- WHO WAITS
+
+-- if the socket at this place of a host is marked as one that waits, its host knows the neighbor that it waits for
+abbrev pub IsMarkedForKnown : ℕ → StationValue → Type 0
+IsMarkedForKnown place s =
+    (at : SocketStorage Socket) (item : Item Socket) → slice_get s.places place ≡ Some at → at.inner ≡ Some item
+    → IfSome (neighbor_of item.meta) (λ neighbor. has_neighbor s.host.inner neighbor ≡ true)

@@ -25,7 +25,7 @@ ghost use Rattle.lan.specs.Worlds.AtLink.Moves.Move.{Offers};
 ghost use Rattle.lan.specs.Worlds.AtLink.Parties.{Net};
 ghost use Rattle.lan.specs.Worlds.AtLink.Partners.{ArePartners};
 ghost use Rattle.lan.specs.Worlds.AtLink.Runs.{Starts};
-ghost use Rattle.lan.specs.Worlds.AtLink.Station.{Stations, station};
+ghost use Rattle.lan.specs.Worlds.AtLink.Station.{StationValue, Stations, station};
 ghost use Rattle.lan.specs.Worlds.Events.{AreTyped};
 ghost use Rattle.lan.specs.Worlds.Moves.Joined.{first_net};
 ghost use Rattle.lan.specs.Worlds.Still.{StillRun, seats_of};
@@ -37,11 +37,11 @@ ghost use Rattle.stack_laws.specs.Progress.Ends.{AreConnected};
 ghost use Rattle.stack_laws.specs.Progress.Events.{HappensBy, MoveBy};
 ghost use Rattle.stack_laws.specs.Progress.Gone.{GoesInFrame};
 ghost use Rattle.stack_laws.specs.Progress.Hearing.{AreSo};
-ghost use Rattle.stack_laws.specs.Progress.KnownHops.{KnowEachOther, KnowsThroughout};
+ghost use Rattle.stack_laws.specs.Progress.KnownHops.{IsMarkedForKnown, KnowEachOther, KnowsThroughout};
 ghost use Rattle.stack_laws.specs.Progress.Linked.{AreLinked};
 ghost use Rattle.stack_laws.specs.Progress.Moving.{AreHeard, AreLetGo, ComeFresh, IsFreshFor, IsHeardBy};
 ghost use Rattle.stack_laws.specs.Progress.OneClock.{timed};
-ghost use Rattle.stack_laws.specs.Progress.Serving.{GiveLeave};
+ghost use Rattle.stack_laws.specs.Progress.Serving.{GiveLeave, WaitsForNone};
 
 /// Law: on any medium, where in each poll a host knows throughout that the frames for the remote address of its connection go to the other host, and its link
 /// gives leave to send behind it, whatever two connected TCP sockets offer in the moves of the events goes.
@@ -107,4 +107,9 @@ pub fn what_goes_between_known_hosts_is_heard()
         → AreAcquainted starts places delay past more hosts still
         → AreSo IsHeardBy (seats_of starts places) moves
         → AreHeard (seats_of starts places) delay (run (first_net starts) so_far) moves }
+{}
+
+/// Law: a socket waits for no neighbor where its host knows the one that it is marked for, if it is.
+pub fn nobody_waits_for_a_known_neighbor()
+    ensures { (s : StationValue) (place : ℕ) → IsMarkedForKnown place s → WaitsForNone place s }
 {}

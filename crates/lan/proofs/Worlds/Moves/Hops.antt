@@ -30,7 +30,7 @@ use Rattle.ip_wire.specs.AddressTests.{is_same_address, is_same_hardware}
 use Rattle.ip_wire.specs.EthernetAddress.{EthernetAddress}
 use Rattle.ip_wire.specs.Ipv6Address.{Ipv6Address}
 use Rattle.ip_wire.specs.IpCidr.{IpCidr}
-use Rattle.icmpv6.specs.declared.ndisc_flags.NdiscNeighborFlags.{NdiscNeighborFlags}
+use Rattle.interface.specs.NdiscNeighborFlags.{NdiscNeighborFlags}
 use Rattle.sockets.specs.Packet.{PayloadValue, ControlV4, ControlV6, Bytes, Datagram, Segment}
 use Rattle.interface_egress.specs.Departing.{HasSettingsOf}
 use Rattle.interface_tables.specs.Best.{at_place}
