@@ -35,6 +35,7 @@ pub mod EventHeard
 pub mod EventNamed
 pub mod EventHears
 pub mod EventHops
+pub mod EventTold
 pub mod EventFacts
 pub mod EventComes
 pub mod EventStamps

@@ -12,6 +12,9 @@ ghost use Rattle.tcp_model.specs.Value.{TcpValue};
 ghost use Rattle.interface_egress.specs.Plan.{never_leaves};
 ghost use Rattle.interface_ingress.specs.Context.{ContextValue};
 ghost use Rattle.interface_ingress.specs.Packet.{Segment, packet_of};
+ghost use Rattle.interface_ingress.specs.WellFormed.{IsWellFormed};
+ghost use Rattle.interface.specs.Taken.{CanRead, HasWidths};
+ghost use Rattle.interface_tables.specs.Inner.{InnerValue};
 ghost use Rattle.lan.specs.declared.at_link.history.event.Side.{Side};
 ghost use Rattle.lan.specs.declared.at_link.history.event.Side.TheVariants.{A, B};
 ghost use Rattle.lan.specs.Worlds.AtLink.Fresh.{IsFreshWorld};
@@ -27,12 +30,14 @@ ghost use Rattle.lan.specs.Worlds.AtLink.Partners.{ArePartners};
 ghost use Rattle.lan.specs.Worlds.AtLink.Runs.{Starts};
 ghost use Rattle.lan.specs.Worlds.AtLink.Station.{StationValue, Stations, station};
 ghost use Rattle.lan.specs.Worlds.Events.{AreTyped};
+ghost use Rattle.lan.specs.Worlds.Moves.Hops.{FrameTellsAtMost};
 ghost use Rattle.lan.specs.Worlds.Moves.Joined.{first_net};
 ghost use Rattle.lan.specs.Worlds.Still.{StillRun, seats_of};
 ghost use Rattle.lan_base.specs.Carried.{names_tcp_or_udp};
 ghost use Rattle.lan_base.specs.Medium.TheVariants as Medium;
 ghost use Rattle.lan_base.specs.Port.{has_leave};
 ghost use Rattle.stack_laws.specs.Progress.Acquainted.{AreAcquainted};
+ghost use Rattle.stack_laws.specs.Progress.Delivered.{reader_of};
 ghost use Rattle.stack_laws.specs.Progress.Ends.{AreConnected};
 ghost use Rattle.stack_laws.specs.Progress.Events.{HappensBy, MoveBy};
 ghost use Rattle.stack_laws.specs.Progress.Gone.{GoesInFrame};
@@ -41,6 +46,8 @@ ghost use Rattle.stack_laws.specs.Progress.KnownHops.{IsMarkedForKnown, KnowEach
 ghost use Rattle.stack_laws.specs.Progress.Linked.{AreLinked};
 ghost use Rattle.stack_laws.specs.Progress.Moving.{AreHeard, AreLetGo, ComeFresh, IsFreshFor, IsHeardBy};
 ghost use Rattle.stack_laws.specs.Progress.OneClock.{timed};
+ghost use Rattle.stack_laws.specs.Progress.Queued.{frame_under, with_ident};
+ghost use Rattle.stack_laws.specs.Progress.Segments.{CanLeave, OffersSegment};
 ghost use Rattle.stack_laws.specs.Progress.Serving.{GiveLeave, WaitsForNone};
 
 /// Law: on any medium, where in each poll a host knows throughout that the frames for the remote address of its connection go to the other host, and its link
@@ -112,4 +119,16 @@ pub fn what_goes_between_known_hosts_is_heard()
 /// Law: a socket waits for no neighbor where its host knows the one that it is marked for, if it is.
 pub fn nobody_waits_for_a_known_neighbor()
     ensures { (s : StationValue) (place : ℕ) → IsMarkedForKnown place s → WaitsForNone place s }
+{}
+
+/// Law: a frame of a segment that a TCP socket offers tells nothing of hardware addresses, whatever it is padded with.
+pub fn segments_tell_of_no_neighbor()
+    ensures { (i j : InnerValue) (ident : ℕ) (v : TcpValue) (ip : IpRepr) (header : TcpHeader) (bytes : List ℕ) (to : HardwareAddress)
+        (padding : List ℕ) (hop : IpAddress) (told : HardwareAddress)
+        → HasWidths (with_ident i ident)
+        → OffersSegment i v ip header bytes
+        → CanLeave i to (packet_of ip (Segment header bytes))
+        → IsWellFormed (packet_of ip (Segment header bytes))
+        → CanRead i to (reader_of j)
+        → FrameTellsAtMost j hop told (frame_under i ident to (packet_of ip (Segment header bytes)) ++ padding) }
 {}
