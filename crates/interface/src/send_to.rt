@@ -237,8 +237,8 @@ fn leave_if_known<D: Device>(
     ensures capabilities { D.described device.new ≡ D.described device.old }
 {
     fields_have_widths(packet);
-    match straight_to(inner, &packet.ip_repr()) {
-        Some(to) => is_done(leave_straight(inner, device, meta, packet, to)),
+    match straight_to(inner, &packet.ip_repr(), packet.payload()) {
+        Some(straight) => is_done(leave_straight(inner, device, meta, &straight)),
         None => false,
     }
 }
