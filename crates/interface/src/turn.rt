@@ -1,5 +1,5 @@
 //! A socket's turn.
-ghost use Rattle.std.specs.Prelude.{◌≡◌, is_some, Some, IfSome};
+ghost use Rattle.std.specs.Prelude.{◌≡◌, is_some, Some, IsSome, IfSome};
 ghost use Rattle.net_base.specs.Time.{IsMoment};
 ghost use Rattle.ip_wire.specs.Ip.{destination_of};
 ghost use Rattle.interface_ingress.specs.Packet.{packet_value, payload_value, IsSendable};
@@ -8,13 +8,13 @@ ghost use Rattle.interface_ingress.specs.Offers.{HasPacket};
 ghost use Rattle.interface_ingress.specs.WellFormed.{IsWellFormed};
 ghost use Rattle.interface_ingress.specs.Sockets.{Offers, offered_by, IfSendable};
 ghost use Rattle.interface_ingress.specs.TcpOffers.{offered_packet};
-ghost use Rattle.interface_egress.specs.Departure.{segment_packet};
+ghost use Rattle.interface_egress.specs.Straight.{segment_in, datagram_in, straight_packet};
 ghost use Rattle.interface_egress.specs.Plan.{IsPacket, GoesStraight, comes_from_here, plan_of};
 ghost use Rattle.interface.specs.Host.{sender};
 ghost use Rattle.interface.specs.Remote.{context_for};
 ghost use Rattle.interface.specs.Turn.{is_known, is_heard, is_waiting, is_given_up, is_other, is_out_of_turn, held, waits_until, is_done, marked};
 ghost use Rattle.interface.specs.Turn.{is_raw, keeps_source, with_source, sourced_header, sourced};
-ghost use Rattle.interface.specs.Turn.{turned_by, Leaves, LeavesAs, LeavesStraight, HasLeft, Sends, Turns, PlaceTurns};
+ghost use Rattle.interface.specs.Turn.{turned_by, Leaves, LeavesAs, LeavesStraight, HasLeft, OfferLeaves, Sends, Turns, PlaceTurns};
 ghost use Rattle.interface_egress.specs.Meta.{freed};
 
 use crate::remote::remote_of;
@@ -165,8 +165,8 @@ fn leave_offered<D: Device>(
 ) -> Sent
     requires offered { IsSome (offered_by socket.now) }
     requires sendable { IfSendable (offered_by socket.now) }
-    ensures left { IfSome (offered_by socket.now) (LeavesOffered D.moves turn.now (sender device.old inner.old fragmenter.old) meta.old result
-        (sender device.new inner.new fragmenter.new) meta.new) }
+    ensures left { OfferLeaves D.moves turn.now (offered_by socket.now) (sender device.old inner.old fragmenter.old) meta.old result
+        (sender device.new inner.new fragmenter.new) meta.new }
     ensures capabilities { D.described device.new ≡ D.described device.old }
 {
     match socket {
@@ -193,7 +193,8 @@ fn straight_segment<'a>(
     inner: &InterfaceInner,
     socket: &'a tcp::Socket,
 ) -> Option<Straight<'a, LentSegment<'a>>>
-    ensures { IfSome result (λ s. IsStraight inner.now segment_carried (offered_segment socket.now) s) }
+    ensures offered { IfSome result (λ s. offered_packet socket.now ≡ Some (straight_packet segment_in s)) }
+    ensures straight { IfSome result (λ s. GoesStraight inner.now (straight_packet segment_in s).header s.to) }
 {
     match socket.offered_segment() {
         Some(offered) => straight_to(
@@ -213,7 +214,8 @@ fn straight_datagram<'a>(
     inner: &InterfaceInner,
     socket: &'a udp::Socket,
 ) -> Option<Straight<'a, LentDatagram<'a>>>
-    ensures { IfSome result (λ s. IsStraight inner.now datagram_carried socket.now.offered s) }
+    ensures offered { IfSome result (λ s. socket.now.offered ≡ Some (straight_packet datagram_in s)) }
+    ensures straight { IfSome result (λ s. GoesStraight inner.now (straight_packet datagram_in s).header s.to) }
 {
     match socket.offered_datagram() {
         Some(offered) => straight_to(
@@ -241,8 +243,8 @@ fn leave_any<D: Device>(
 ) -> Sent
     requires offered { IsSome (offered_by socket.now) }
     requires sendable { IfSendable (offered_by socket.now) }
-    ensures left { IfSome (offered_by socket.now) (LeavesOffered D.moves turn.now (sender device.old inner.old fragmenter.old) meta.old result
-        (sender device.new inner.new fragmenter.new) meta.new) }
+    ensures left { OfferLeaves D.moves turn.now (offered_by socket.now) (sender device.old inner.old fragmenter.old) meta.old result
+        (sender device.new inner.new fragmenter.new) meta.new }
     ensures capabilities { D.described device.new ≡ D.described device.old }
 {
     let Some(packet) = socket.offered() else {

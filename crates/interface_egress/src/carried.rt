@@ -1,8 +1,8 @@
 //! What packets carry that go straight to a hardware address: it is written from where it lies.
 ghost use Rattle.std.specs.Prelude.{◌≡◌, length};
 ghost use Rattle.ip_wire.specs.IpRepr.TheVariants as Ip;
-ghost use Rattle.socket_base.specs.Packet.{PayloadValue, Datagram, Segment, payload_value, payload_len, payload_written, PayloadFits};
-ghost use Rattle.socket_base.specs.Text.{text_bytes};
+ghost use Rattle.socket_base.specs.Packet.{PayloadValue, payload_value, payload_len, payload_written, PayloadFits};
+ghost use Rattle.interface_egress.specs.Straight.{segment_in, datagram_in};
 
 use ip_wire::{
     HardwareAddress, IpAddress, IpRepr, Ipv4Repr, TcpHeader, TcpPacketMut, UdpPacketMut, UdpRepr,
@@ -11,7 +11,7 @@ use net_base::ChecksumCapabilities;
 use socket_base::{IpPayload, SegmentText};
 
 /// What a packet carries.
-pub trait Carried {
+pub trait Carried: Drop {
     /// it as a value
     ghost value: { Self → PayloadValue };
 
@@ -45,7 +45,7 @@ pub struct LentDatagram<'a> {
 }
 
 impl<'a> Carried for LentSegment<'a> {
-    ghost value = { λ s. Segment s.header.now (text_bytes s.text) };
+    ghost value = { segment_in };
 
     fn emit(&self, header: &Ipv4Repr, buffer: &mut [u8], checksums: &ChecksumCapabilities) {
         self.header.emit_parts(
@@ -60,7 +60,7 @@ impl<'a> Carried for LentSegment<'a> {
 }
 
 impl<'a> Carried for LentDatagram<'a> {
-    ghost value = { λ d. Datagram d.header d.bytes.now };
+    ghost value = { datagram_in };
 
     fn emit(&self, header: &Ipv4Repr, buffer: &mut [u8], checksums: &ChecksumCapabilities) {
         self.header.emit(

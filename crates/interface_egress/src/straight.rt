@@ -2,23 +2,25 @@
 ghost use Rattle.std.specs.Prelude.{◌≡◌, nat_le, IfSome};
 ghost use Rattle.ip_wire.specs.IpAddress.TheVariants as Address;
 ghost use Rattle.ip_wire.specs.IpRepr.TheVariants as Ip;
+ghost use Rattle.socket_base.specs.Packet.{packet_of};
 ghost use Rattle.interface_tables.specs.Inner.{link_address, mtu_to};
 ghost use Rattle.interface_tables.specs.declared.link.LinkAddress.TheVariants as Link;
-ghost use Rattle.interface_egress.specs.Straight.{GoesAs};
+ghost use Rattle.interface_egress.specs.Straight.{straight_packet};
 ghost use Rattle.interface_egress.specs.Plan.{total_len, is_ordinary, GoesStraight};
 
-use crate::carried::Straight;
+use crate::carried::{Carried, Straight};
 use interface_tables::{InterfaceInner, LinkAddress};
 use ip_wire::{HardwareAddress, IPV4_HEADER_LEN, IpAddress, IpRepr, Ipv4Repr};
 use socket_base::Context;
 
 /// A packet of this header, if it goes straight to a hardware address. One of which nothing is said here goes as `plan_for` says.
-pub fn straight_to<'a, P: Drop>(
+pub fn straight_to<'a, P: Carried>(
     inner: &InterfaceInner,
     header: &'a IpRepr,
     carried: P,
 ) -> Option<Straight<'a, P>>
-    ensures { IfSome result (λ s. GoesAs inner.now header.now carried s) }
+    ensures packet { IfSome result (λ s. straight_packet P.value s ≡ packet_of header.now (P.value carried)) }
+    ensures straight { IfSome result (λ s. GoesStraight inner.now (straight_packet P.value s).header s.to) }
 {
     let IpRepr::Ipv4(header) = header else {
         return None;
