@@ -23,7 +23,7 @@ use Rattle.interface_egress.specs.declared.socket_meta.Meta.{Meta}
 use Rattle.interface_egress.specs.declared.socket_set.Item.{Item}
 use Rattle.interface_egress.specs.declared.way_out.Sent.{Sent}
 use Rattle.interface.specs.Host.{Sender}
-use Rattle.interface.specs.Turn.{keeps_source, with_source, sourced_header, sourced, is_done, turned_by, HasLeft, SendsBy}
+use Rattle.interface.specs.Turn.{keeps_source, with_source, sourced_header, sourced, is_done, turned_by, HasLeft, OfferLeaves, SendsBy}
 use Rattle.interface.specs.declared.turn.Turned.{Turned}
 
 fits_v4 : (v : Ipv4Repr) (a : Ipv4Address) (x : PayloadValue) → PayloadFits (Ip.Ipv4 v) x → PayloadFits (Ip.Ipv4 (record v { src_addr = a })) x
@@ -149,3 +149,13 @@ sends_from moves turn s s' p item item' changed turned sent mark formed left is 
       formed,
       (sent, left.2.0, by, is ∙ ap with_mark left.2.2, left.2.1),
     )
+
+-- the same of the packet of an open offer
+pub sends_offer : {D : Type 0} (moves : D → Move → D → Type 0) (turn : Option IpAddress) (s s' : Sender D) (o : Option PacketValue)
+    (item item' : Item Socket) (changed : Bool) (turned : Turned) (sent : Sent) (mark : Meta)
+    → OfferLeaves moves turn o s item.meta sent s' mark
+    → item' ≡ record { meta = mark; socket = settled (is_done sent) item.socket } → turned ≡ turned_by sent changed
+    → SendsBy moves turn o s item changed turned s' item'
+sends_offer moves turn s s' None item item' changed turned sent mark left is by = absurd left
+sends_offer moves turn s s' (Some p) item item' changed turned sent mark left is by =
+    sends_from moves turn s s' p item item' changed turned sent mark left.0 left.1 is by

@@ -194,6 +194,11 @@ module _ {D : Type 0} (moves : D → Move → D → Type 0) (turn : Option IpAdd
   abbrev pub HasLeft : Sender D → Meta → PacketValue → Sent → Sender D → Meta → Type 0
   HasLeft s m p sent s' m' = (leaving : PacketValue) × (leaving ≡ sourced s.inner p) × LeavesAs s m leaving sent s' m'
 
+  -- the same of the packet of an open offer, which is one that can be sent
+  abbrev pub OfferLeaves : Option PacketValue → Sender D → Meta → Sent → Sender D → Meta → Type 0
+  OfferLeaves None s m sent s' m' = ⊥
+  OfferLeaves (Some p) s m sent s' m' = IsWellFormed p × HasLeft s m p sent s' m'
+
   -- the packet leaves, and its socket is told what became of it
   abbrev pub SendsAs : PacketValue → Sender D → Item Socket → Bool → Turned → Sender D → Item Socket → Type 0
   SendsAs p s item changed turned s' item' =

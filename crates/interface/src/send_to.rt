@@ -14,12 +14,12 @@ ghost use Rattle.interface.specs.Turn.{is_waiting};
 use crate::host::Interface;
 use crate::turn::{is_done, is_waiting, leave_straight};
 use interface_egress::{
-    Fragmenter, InterfaceInner, Item, Meta, Places, SocketHandle, SocketSet, SocketStorage,
+    Fragmenter, InterfaceInner, LentDatagram, Item, Meta, Places, SocketHandle, SocketSet, SocketStorage,
     straight_to,
 };
 use interface_ingress::udp::{SendError, UdpMetadata};
 use interface_ingress::widths::fields_have_widths;
-use interface_ingress::{Packet, Socket, udp};
+use interface_ingress::{IpPayload, Packet, Socket, udp};
 use interface_tables::Look;
 use net_base::{Device, Instant};
 use thiserror::Error;
@@ -237,8 +237,15 @@ fn leave_if_known<D: Device>(
     ensures capabilities { D.described device.new ≡ D.described device.old }
 {
     fields_have_widths(packet);
-    match straight_to(inner, &packet.ip_repr()) {
-        Some(to) => is_done(leave_straight(inner, device, meta, packet, to)),
+    let IpPayload::Udp(header, bytes) = packet.payload() else {
+        return false;
+    };
+    let datagram = LentDatagram {
+        header: *header,
+        bytes,
+    };
+    match straight_to(inner, &packet.ip_repr(), datagram) {
+        Some(straight) => is_done(leave_straight(inner, device, meta, &straight)),
         None => false,
     }
 }

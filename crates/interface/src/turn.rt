@@ -1,5 +1,5 @@
 //! A socket's turn.
-ghost use Rattle.std.specs.Prelude.{◌≡◌, is_some, Some, IfSome};
+ghost use Rattle.std.specs.Prelude.{◌≡◌, is_some, Some, IsSome, IfSome};
 ghost use Rattle.net_base.specs.Time.{IsMoment};
 ghost use Rattle.ip_wire.specs.Ip.{destination_of};
 ghost use Rattle.interface_ingress.specs.Packet.{packet_value, payload_value, IsSendable};
@@ -8,27 +8,27 @@ ghost use Rattle.interface_ingress.specs.Offers.{HasPacket};
 ghost use Rattle.interface_ingress.specs.WellFormed.{IsWellFormed};
 ghost use Rattle.interface_ingress.specs.Sockets.{Offers, offered_by, IfSendable};
 ghost use Rattle.interface_ingress.specs.TcpOffers.{offered_packet};
-ghost use Rattle.interface_egress.specs.Departure.{segment_packet};
+ghost use Rattle.interface_egress.specs.Straight.{segment_in, datagram_in, straight_packet};
 ghost use Rattle.interface_egress.specs.Plan.{IsPacket, GoesStraight, comes_from_here, plan_of};
 ghost use Rattle.interface.specs.Host.{sender};
 ghost use Rattle.interface.specs.Remote.{context_for};
 ghost use Rattle.interface.specs.Turn.{is_known, is_heard, is_waiting, is_given_up, is_other, is_out_of_turn, held, waits_until, is_done, marked};
 ghost use Rattle.interface.specs.Turn.{is_raw, keeps_source, with_source, sourced_header, sourced};
-ghost use Rattle.interface.specs.Turn.{turned_by, Leaves, LeavesAs, LeavesStraight, HasLeft, Sends, Turns, PlaceTurns};
+ghost use Rattle.interface.specs.Turn.{turned_by, Leaves, LeavesAs, LeavesStraight, HasLeft, OfferLeaves, Sends, Turns, PlaceTurns};
 ghost use Rattle.interface_egress.specs.Meta.{freed};
 
 use crate::remote::remote_of;
-use crate::widths::segment_has_widths;
+use crate::widths::{datagram_has_widths, segment_has_widths};
 use interface_egress::{
-    Fragmenter, InterfaceInner, Item, Meta, Plan, Sent, SocketStorage, StraightSegment,
-    dispatch_by, plan_from, send_segment, send_whole, straight_to, straight_v4,
+    Carried, Fragmenter, InterfaceInner, Item, LentDatagram, LentSegment, Meta, Plan, Sent,
+    SocketStorage, Straight, dispatch_by, plan_from, send_straight, straight_to,
 };
 use interface_ingress::addresses::is_same_address;
 use interface_ingress::socket_laws::unsent_is_offered_again;
 use interface_ingress::widths::fields_have_widths;
-use interface_ingress::{Context, IpPayload, Offer, Packet, Socket, tcp};
+use interface_ingress::{Context, IpPayload, Offer, Packet, Socket, tcp, udp};
 use interface_tables::Look;
-use ip_wire::{HardwareAddress, IpAddress, IpRepr, Ipv4Repr, Ipv6Repr};
+use ip_wire::{IpAddress, IpRepr, Ipv4Repr, Ipv6Repr};
 use net_base::{Device, Duration, Instant};
 
 /// How long a packet waits for a route, in milliseconds.
@@ -126,8 +126,7 @@ pub(crate) fn is_known(inner: &InterfaceInner, neighbor: Option<IpAddress>) -> b
     }
 }
 
-/// Sends the packet of the open offer, and tells the socket what became of it. A segment that goes straight to a hardware address is sent
-/// from where it lies in its socket.
+/// Sends the packet of the open offer, and tells the socket what became of it.
 fn send_offered<D: Device>(
     turn: &Option<IpAddress>,
     inner: &mut InterfaceInner,
@@ -142,91 +141,117 @@ fn send_offered<D: Device>(
         (sender device.new inner.new fragmenter.new) item.new }
     ensures capabilities { D.described device.new ≡ D.described device.old }
 {
-    let Socket::Tcp(socket) = &item.socket else {
-        return send_any(turn, inner, fragmenter, device, item, changed);
-    };
-    let Some(segment) = straight_segment(inner, socket) else {
-        return send_any(turn, inner, fragmenter, device, item, changed);
-    };
-    segment_has_widths(&segment);
-    let sent = leave_segment(inner, device, &mut item.meta, &segment);
+    let sent = leave_offered(
+        turn,
+        inner,
+        fragmenter,
+        device,
+        &mut item.meta,
+        &item.socket,
+    );
     item.socket.settle(is_done(sent));
     turned_by(sent, changed)
+}
+
+/// Lets the packet of the open offer leave. A segment and a datagram that go straight to a hardware address are sent from where they lie in
+/// their sockets.
+fn leave_offered<D: Device>(
+    turn: &Option<IpAddress>,
+    inner: &mut InterfaceInner,
+    fragmenter: &mut Fragmenter,
+    device: &mut D,
+    meta: &mut Meta,
+    socket: &Socket,
+) -> Sent
+    requires offered { IsSome (offered_by socket.now) }
+    requires sendable { IfSendable (offered_by socket.now) }
+    ensures left { OfferLeaves D.moves turn.now (offered_by socket.now) (sender device.old inner.old fragmenter.old) meta.old result
+        (sender device.new inner.new fragmenter.new) meta.new }
+    ensures capabilities { D.described device.new ≡ D.described device.old }
+{
+    match socket {
+        Socket::Tcp(tcp) => {
+            let Some(packet) = straight_segment(inner, tcp) else {
+                return leave_any(turn, inner, fragmenter, device, meta, socket);
+            };
+            segment_has_widths(&packet);
+            leave_straight(inner, device, meta, &packet)
+        }
+        Socket::Udp(udp) => {
+            let Some(packet) = straight_datagram(inner, udp) else {
+                return leave_any(turn, inner, fragmenter, device, meta, socket);
+            };
+            datagram_has_widths(&packet);
+            leave_straight(inner, device, meta, &packet)
+        }
+        _ => leave_any(turn, inner, fragmenter, device, meta, socket),
+    }
 }
 
 /// The segment that a TCP socket offers, as it lies there, where it goes straight to a hardware address.
 fn straight_segment<'a>(
     inner: &InterfaceInner,
     socket: &'a tcp::Socket,
-) -> Option<StraightSegment<'a>>
-    ensures offered { IfSome result (λ s. offered_packet socket.now ≡ Some (segment_packet s)) }
-    ensures straight { IfSome result (λ s. GoesStraight inner.now (segment_packet s).header s.to) }
+) -> Option<Straight<'a, LentSegment<'a>>>
+    ensures offered { IfSome result (λ s. offered_packet socket.now ≡ Some (straight_packet segment_in s)) }
+    ensures straight { IfSome result (λ s. GoesStraight inner.now (straight_packet segment_in s).header s.to) }
 {
-    let Some(offered) = socket.offered_segment() else {
-        return None;
-    };
-    let IpRepr::Ipv4(header) = offered.header else {
-        return None;
-    };
-    match straight_v4(inner, header) {
-        Some(to) => Some(StraightSegment {
-            to,
-            header,
-            segment: offered.segment,
-            text: offered.text,
-        }),
+    match socket.offered_segment() {
+        Some(offered) => straight_to(
+            inner,
+            offered.header,
+            LentSegment {
+                header: offered.segment,
+                text: offered.text,
+            },
+        ),
         None => None,
     }
 }
 
-/// Lets a segment leave straight to its hardware address, if the device gives leave.
-fn leave_segment<D: Device>(
-    inner: &mut InterfaceInner,
-    device: &mut D,
-    meta: &mut Meta,
-    segment: &StraightSegment<'_>,
-) -> Sent
-    requires sendable { IsSendable (segment_packet segment.now) }
-    ensures left { LeavesStraight D.moves segment.now.to (segment_packet segment.now) device.old inner.old meta.old result
-        device.new inner.new meta.new }
-    ensures capabilities { D.described device.new ≡ D.described device.old }
+/// The datagram that a UDP socket offers, as it lies there, where it goes straight to a hardware address.
+fn straight_datagram<'a>(
+    inner: &InterfaceInner,
+    socket: &'a udp::Socket,
+) -> Option<Straight<'a, LentDatagram<'a>>>
+    ensures offered { IfSome result (λ s. socket.now.offered ≡ Some (straight_packet datagram_in s)) }
+    ensures straight { IfSome result (λ s. GoesStraight inner.now (straight_packet datagram_in s).header s.to) }
 {
-    match device.transmit(inner.now()) {
-        Some(token) => {
-            let sent = send_segment(inner, device, token, segment);
-            if is_done(sent) {
-                meta.unmark();
-            }
-            sent
-        }
-        None => Sent::Refused,
+    match socket.offered_datagram() {
+        Some(offered) => straight_to(
+            inner,
+            offered.header,
+            LentDatagram {
+                header: offered.ports,
+                bytes: offered.bytes,
+            },
+        ),
+        None => None,
     }
 }
 
-/// The same of a packet that is lent as a value of its own. It stands apart, so that this isn't made ready for a segment that is sent from
+/// The same of a packet that is lent as a value of its own. It stands apart, so that this isn't made ready for one that is sent from
 /// where it lies.
 #[inline(never)]
-fn send_any<D: Device>(
+fn leave_any<D: Device>(
     turn: &Option<IpAddress>,
     inner: &mut InterfaceInner,
     fragmenter: &mut Fragmenter,
     device: &mut D,
-    item: &mut Item<Socket>,
-    changed: bool,
-) -> Turned
-    requires offered { HasPacket (Answer.Packet changed) (offered_by item.old.socket) }
-    requires sendable { IfSendable (offered_by item.old.socket) }
-    ensures sends { Sends D.moves turn.now (sender device.old inner.old fragmenter.old) item.old changed result
-        (sender device.new inner.new fragmenter.new) item.new }
+    meta: &mut Meta,
+    socket: &Socket,
+) -> Sent
+    requires offered { IsSome (offered_by socket.now) }
+    requires sendable { IfSendable (offered_by socket.now) }
+    ensures left { OfferLeaves D.moves turn.now (offered_by socket.now) (sender device.old inner.old fragmenter.old) meta.old result
+        (sender device.new inner.new fragmenter.new) meta.new }
     ensures capabilities { D.described device.new ≡ D.described device.old }
 {
-    let Some(packet) = item.socket.offered() else {
+    let Some(packet) = socket.offered() else {
         unreachable!()
     };
     fields_have_widths(&packet);
-    let sent = let_leave(turn, inner, fragmenter, device, &mut item.meta, &packet);
-    item.socket.settle(is_done(sent));
-    turned_by(sent, changed)
+    let_leave(turn, inner, fragmenter, device, meta, &packet)
 }
 
 /// Lets a packet leave from its source, if the device gives leave: straight to a hardware address, as nearly each does, else by its
@@ -245,27 +270,27 @@ fn let_leave<D: Device>(
         result (sender device.new inner.new fragmenter.new) meta.new }
     ensures capabilities { D.described device.new ≡ D.described device.old }
 {
-    match straight_to(inner, &packet.ip_repr()) {
-        Some(to) => leave_straight(inner, device, meta, packet, to),
+    match straight_to(inner, &packet.ip_repr(), packet.payload()) {
+        Some(straight) => leave_straight(inner, device, meta, &straight),
         None => leave_planned(turn, inner, fragmenter, device, meta, packet),
     }
 }
 
-/// Lets a packet leave straight to a hardware address, if the device gives leave.
-pub(crate) fn leave_straight<D: Device>(
+/// Lets a packet leave straight to its hardware address, if the device gives leave.
+pub(crate) fn leave_straight<D: Device, P: Carried>(
     inner: &mut InterfaceInner,
     device: &mut D,
     meta: &mut Meta,
-    packet: &Packet<'_>,
-    to: HardwareAddress,
+    packet: &Straight<'_, P>,
 ) -> Sent
-    requires sendable { IsSendable (packet_value packet.now) }
-    ensures left { LeavesStraight D.moves to (packet_value packet.now) device.old inner.old meta.old result device.new inner.new meta.new }
+    requires sendable { IsSendable (straight_packet P.value packet.now) }
+    ensures left { LeavesStraight D.moves packet.now.to (straight_packet P.value packet.now) device.old inner.old meta.old result
+        device.new inner.new meta.new }
     ensures capabilities { D.described device.new ≡ D.described device.old }
 {
     match device.transmit(inner.now()) {
         Some(token) => {
-            let sent = send_whole(inner, device, token, to, packet);
+            let sent = send_straight(inner, device, token, packet);
             if is_done(sent) {
                 meta.unmark();
             }

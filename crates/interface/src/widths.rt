@@ -1,4 +1,4 @@
-//! What the types of a lent segment say of its numbers: each has the width of its field. No packet is made for it.
+//! What the types of a lent segment or datagram say of its numbers: each has the width of its field. No packet is made for it.
 ghost use Rattle.std.specs.Prelude.{◌<◌, ◌^◌};
 ghost use Rattle.ip_wire.specs.Address.{IsIpv4Address};
 ghost use Rattle.ip_wire.specs.Fields.{IsNumber};
@@ -7,23 +7,32 @@ ghost use Rattle.ip_wire.specs.Ipv4 as Ipv4;
 ghost use Rattle.ip_wire.specs.Options.{AreOptions, AreRanges, IsRange, IsStamp};
 ghost use Rattle.ip_wire.specs.Protocol.{protocol_number};
 ghost use Rattle.ip_wire.specs.Tcp.{IsAck};
-ghost use Rattle.interface_egress.specs.Departure.{segment_packet};
-ghost use Rattle.interface_ingress.specs.WellFormed.{AreFields, HasWidths};
+ghost use Rattle.interface_egress.specs.Straight.{segment_in, datagram_in, straight_packet};
+ghost use Rattle.interface_ingress.specs.WellFormed.{AreFields, ArePorts, HasWidths};
 
-use interface_egress::StraightSegment;
+use interface_egress::{LentDatagram, LentSegment, Straight};
 use ip_wire::{
-    IpProtocol, Ipv4Address, Ipv4Repr, SeqNumber, TcpHeader, TcpOptions, TcpTimestampRepr,
+    IpProtocol, Ipv4Address, Ipv4Repr, SeqNumber, TcpHeader, TcpOptions, TcpTimestampRepr, UdpRepr,
     laws as wire_laws,
 };
 
 /// Law: each field of a lent segment is a number of its width, since it is of that type. A caller that holds the segment calls this,
 /// which does nothing.
-pub(crate) fn segment_has_widths(segment: &StraightSegment<'_>)
-    ensures header { Ips.IsValue (segment_packet segment.now).header }
-    ensures payload { HasWidths (segment_packet segment.now).payload }
+pub(crate) fn segment_has_widths(segment: &Straight<'_, LentSegment<'_>>)
+    ensures header { Ips.IsValue (straight_packet segment_in segment.now).header }
+    ensures payload { HasWidths (straight_packet segment_in segment.now).payload }
 {
     ipv4_widths(*segment.header);
-    tcp_widths(*segment.segment);
+    tcp_widths(*segment.carried.header);
+}
+
+/// Law: the same of a lent datagram.
+pub(crate) fn datagram_has_widths(datagram: &Straight<'_, LentDatagram<'_>>)
+    ensures header { Ips.IsValue (straight_packet datagram_in datagram.now).header }
+    ensures payload { HasWidths (straight_packet datagram_in datagram.now).payload }
+{
+    ipv4_widths(*datagram.header);
+    ports_widths(datagram.carried.header);
 }
 
 /// A protocol has a number of eight bits.
@@ -57,6 +66,13 @@ fn range_widths(range: Option<(u32, u32)>)
         }
         None => {}
     }
+}
+
+/// Both ports are numbers of 16 bits.
+fn ports_widths(header: UdpRepr)
+    ensures { ArePorts header }
+{
+    let (_source, _destination) = (header.src_port, header.dst_port);
 }
 
 /// There are three ranges.

@@ -9,7 +9,7 @@ pub mod ReadBack
 pub mod LastThree
 pub mod EmitsAt
 pub mod PieceOut
-pub mod SegmentOut
+pub mod StraightOut
 pub mod FirstOut
 pub mod OneWay
 pub mod Leaving

@@ -32,14 +32,12 @@ use Rattle.ip_wire.specs.Ipv6 as Ipv6
 use Rattle.ip_wire.specs.Ipv6Address.{Ipv6Address}
 use Rattle.ip_wire.specs.Ipv6Repr.{Ipv6Repr}
 use Rattle.ip_wire.specs.Protocol.{protocol_number}
-use Rattle.socket_base.specs.Packet.{PacketValue, ControlV6, Segment, packet_of, payload_len, payload_written}
-use Rattle.socket_base.specs.Text.{text_bytes}
+use Rattle.socket_base.specs.Packet.{PacketValue, ControlV6, packet_of, payload_len, payload_written}
 use Rattle.interface_tables.specs.Pieces as Pieces
 use Rattle.interface_egress.specs.declared.frame.CutHeader.{CutHeader}
 use Rattle.interface_egress.specs.declared.frame.CutHeader.TheVariants as Cut
 use Rattle.interface_egress.specs.declared.frame.Question.{Question}
 use Rattle.interface_egress.specs.declared.frame.Question.TheVariants as Query
-use Rattle.interface_egress.specs.declared.frame.StraightSegment.{StraightSegment}
 
 -- What leaves in one frame: a question for a neighbour, an ARP packet that answers one, a packet, or a piece of a datagram
 -- with this header. The hardware address is that of the frame's receiver.
@@ -67,13 +65,6 @@ ether_for (Ip.Ipv4 v) = Ether.Ipv4
 ether_for (Ip.Ipv6 v) = Ether.Ipv6
 
 -- PACKETS
-
--- a segment that is lent, behind its header or another one
-abbrev pub segment_behind : Ipv4Repr → StraightSegment → PacketValue
-segment_behind header s = packet_of (Ip.Ipv4 header) (Segment s.segment.now (text_bytes s.text))
-
-abbrev pub segment_packet : StraightSegment → PacketValue
-segment_packet s = segment_behind s.header.now s
 
 -- a packet behind the link header
 abbrev pub packet_frame : ChecksumCapabilities → HardwareAddress → HardwareAddress → PacketValue → List ℕ

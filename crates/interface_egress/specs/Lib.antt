@@ -9,6 +9,7 @@ pub mod Departure
 pub mod Fragments
 pub mod Plan
 pub mod GoesOut
+pub mod Straight
 pub mod Departing
 pub mod Determined
 pub use Rattle.interface_tables.specs.Inner

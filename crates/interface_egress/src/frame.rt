@@ -3,20 +3,22 @@ ghost use Rattle.std.specs.Prelude.{◌≡◌, ◌+◌, ◌<◌, ◌^◌, ◌++�
 ghost use Rattle.ip_wire.specs.Address.{solicited_of};
 ghost use Rattle.socket_base.specs.Packet.{packet_value, packet_of, payload_value, IsSendable};
 ghost use Rattle.interface_egress.specs.Emits.{Emits};
-ghost use Rattle.interface_egress.specs.Departure.{segment_behind, link_header, link_len, ether_for, packet_frame, packet_frame_len, piece_frame, piece_frame_len, arp_frame};
+ghost use Rattle.interface_egress.specs.Straight.{straight_behind};
+ghost use Rattle.interface_egress.specs.Departure.{link_header, link_len, ether_for, packet_frame, packet_frame_len, piece_frame, piece_frame_len, arp_frame};
 ghost use Rattle.interface_egress.specs.Departure.{ether_in, destination_in, piece_header_len, piece_v6, fragment_header, piece_header};
 ghost use Rattle.interface_egress.specs.Departure.{arp_request, solicited_node, solicited_station, solicitation, question_frame, question_len, target_of};
 
+use crate::carried::{Carried, Straight};
 use crate::fill::{Fill, send};
 use control_wire::{Icmpv6Repr, NdiscRepr};
 use ip_wire::{
     ArpOperation, ArpPacketMut, ArpRepr, ETHERNET_HEADER_LEN, EthernetAddress, EthernetFrameMut,
     EthernetProtocol, EthernetRepr, HardwareAddress, IPV4_HEADER_LEN, IPV6_HEADER_LEN, IpAddress,
     IpProtocol, IpRepr, Ipv4Address, Ipv4PacketMut, Ipv4Repr, Ipv6Address, Ipv6FragmentHeaderMut,
-    Ipv6FragmentRepr, Ipv6PacketMut, Ipv6Repr, RawHardwareAddress, TcpHeader, TcpPacketMut,
+    Ipv6FragmentRepr, Ipv6PacketMut, Ipv6Repr, RawHardwareAddress,
 };
 use net_base::{ChecksumCapabilities, Device};
-use socket_base::{IpPayload, Packet, SegmentText};
+use socket_base::{IpPayload, Packet};
 
 /// A question for the hardware address of a neighbour, from a host with these addresses.
 #[derive(Clone, Copy, Debug, PartialEq, Eq)]
@@ -107,21 +109,12 @@ pub(crate) struct Whole<'a> {
     pub checksums: ChecksumCapabilities,
 }
 
-/// A segment that goes straight to a hardware address: its headers and its text, where they lie.
-#[derive(Clone, Copy, Debug)]
-pub struct StraightSegment<'a> {
-    pub to: HardwareAddress,
-    pub header: &'a Ipv4Repr,
-    pub segment: &'a TcpHeader,
-    pub text: SegmentText<'a>,
-}
-
-/// A frame that carries such a segment behind this header.
+/// A frame of a packet that goes straight, with this header.
 #[derive(Drop)]
-pub(crate) struct SegmentFrame<'a> {
+pub(crate) struct StraightFrame<'a, P> {
     pub from: HardwareAddress,
     pub header: Ipv4Repr,
-    pub carried: &'a StraightSegment<'a>,
+    pub packet: &'a Straight<'a, P>,
     pub checksums: ChecksumCapabilities,
 }
 
@@ -188,33 +181,25 @@ impl<'a> Fill for Whole<'a> {
     }
 }
 
-impl<'a> Fill for SegmentFrame<'a> {
-    ghost filled = { λ f. packet_frame f.checksums f.from f.carried.now.to (segment_behind f.header f.carried.now) };
+impl<'a, P: Carried> Fill for StraightFrame<'a, P> {
+    ghost filled = { λ f. packet_frame f.checksums f.from f.packet.now.to (straight_behind P.value f.header f.packet.now) };
 
-    ghost len = { λ f. packet_frame_len f.from f.carried.now.to (segment_behind f.header f.carried.now) };
+    ghost len = { λ f. packet_frame_len f.from f.packet.now.to (straight_behind P.value f.header f.packet.now) };
 
-    ghost fits = { λ f. IsSendable (segment_behind f.header f.carried.now) };
+    ghost fits = { λ f. IsSendable (straight_behind P.value f.header f.packet.now) };
 
     fn frame_len(&self) -> usize {
-        let carried = self.carried;
-        link_len(&self.from, &carried.to) + (IPV4_HEADER_LEN + self.header.payload_len)
+        link_len(&self.from, &self.packet.to) + (IPV4_HEADER_LEN + self.header.payload_len)
     }
 
     fn fill(&self, buffer: &mut [u8]) {
-        let carried = self.carried;
-        let (front, rest) = buffer.split_at_mut(link_len(&self.from, &carried.to));
-        write_link(&self.from, &carried.to, EthernetProtocol::Ipv4, front);
+        let packet = self.packet;
+        let (front, rest) = buffer.split_at_mut(link_len(&self.from, &packet.to));
+        write_link(&self.from, &packet.to, EthernetProtocol::Ipv4, front);
         let (head, body) = rest.split_at_mut(IPV4_HEADER_LEN);
         self.header
             .emit(&mut Ipv4PacketMut::new_unchecked(head), &self.checksums);
-        carried.segment.emit_parts(
-            &mut TcpPacketMut::new_unchecked(body),
-            &IpAddress::Ipv4(self.header.src_addr),
-            &IpAddress::Ipv4(self.header.dst_addr),
-            carried.text.first,
-            carried.text.rest,
-            &self.checksums,
-        );
+        packet.carried.emit(&self.header, body, &self.checksums);
     }
 }
 

@@ -3,6 +3,7 @@
 #![tactic(auto)]
 
 mod announcement;
+mod carried;
 mod filed;
 mod fill;
 mod fragmenter;
@@ -18,10 +19,11 @@ mod way_out;
 
 pub use agenda::Idle;
 pub use announcement::announce;
+pub use carried::{Carried, LentDatagram, LentSegment, Straight};
 pub use filed::Wanted;
 pub use fill::{Fill, send};
 pub use fragmenter::{Cut, Fragmenter, Left, MAX_CUT_PAYLOAD};
-pub use frame::{ArpFrame, CutHeader, Piece, Question, StraightSegment, ask};
+pub use frame::{ArpFrame, CutHeader, Piece, Question, ask};
 pub use interface_tables::{
     Config, HardwareAddrError, InterfaceInner, LinkAddress, NewError, NotUnicast,
     PacketAssemblerSet, Route, RouteTableFull, Routes, TABLE_ROOM,
@@ -32,5 +34,5 @@ pub use socket_meta::{Meta, Waiting};
 pub use socket_set::{
     AddError, Handles, Item, Iter, IterMut, SocketHandle, SocketSet, SocketStorage,
 };
-pub use straight::{straight_to, straight_v4};
-pub use way_out::{Sent, dispatch, dispatch_by, send_next, send_segment, send_whole};
+pub use straight::straight_to;
+pub use way_out::{Sent, dispatch, dispatch_by, send_next, send_straight};

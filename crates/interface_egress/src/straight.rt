@@ -2,28 +2,43 @@
 ghost use Rattle.std.specs.Prelude.{◌≡◌, nat_le, IfSome};
 ghost use Rattle.ip_wire.specs.IpAddress.TheVariants as Address;
 ghost use Rattle.ip_wire.specs.IpRepr.TheVariants as Ip;
+ghost use Rattle.socket_base.specs.Packet.{packet_of};
 ghost use Rattle.interface_tables.specs.Inner.{link_address, mtu_to};
 ghost use Rattle.interface_tables.specs.declared.link.LinkAddress.TheVariants as Link;
+ghost use Rattle.interface_egress.specs.Straight.{straight_packet};
 ghost use Rattle.interface_egress.specs.Plan.{total_len, is_ordinary, GoesStraight};
 
+use crate::carried::{Carried, Straight};
 use interface_tables::{InterfaceInner, LinkAddress};
 use ip_wire::{HardwareAddress, IPV4_HEADER_LEN, IpAddress, IpRepr, Ipv4Repr};
 use socket_base::Context;
 
-/// The hardware address that an IPv4 packet goes to whole, as its plan says, where that is seen at once: its addresses are compared as
-/// words. A packet of which nothing is said here goes as `plan_for` says.
-pub fn straight_to(inner: &InterfaceInner, header: &IpRepr) -> Option<HardwareAddress>
-    ensures { IfSome result (λ to. GoesStraight inner.now header.now to) }
+/// A packet of this header, if it goes straight to a hardware address. One of which nothing is said here goes as `plan_for` says.
+pub fn straight_to<'a, P: Carried>(
+    inner: &InterfaceInner,
+    header: &'a IpRepr,
+    carried: P,
+) -> Option<Straight<'a, P>>
+    ensures packet { IfSome result (λ s. straight_packet P.value s ≡ packet_of header.now (P.value carried)) }
+    ensures straight { IfSome result (λ s. GoesStraight inner.now (straight_packet P.value s).header s.to) }
 {
-    match header {
-        IpRepr::Ipv4(header) => straight_v4(inner, header),
-        IpRepr::Ipv6(_) => None,
+    let IpRepr::Ipv4(header) = header else {
+        return None;
+    };
+    match straight_v4(inner, header) {
+        Some(to) => Some(Straight {
+            to,
+            header,
+            carried,
+        }),
+        None => None,
     }
 }
 
-/// The same of an IPv4 packet.
+/// The hardware address that an IPv4 packet goes to whole, as its plan says, where that is seen at once: its addresses are compared as
+/// words.
 #[tactic(auto, using(crate::proofs::GoesWhole::straight_if))]
-pub fn straight_v4(inner: &InterfaceInner, header: &Ipv4Repr) -> Option<HardwareAddress>
+fn straight_v4(inner: &InterfaceInner, header: &Ipv4Repr) -> Option<HardwareAddress>
     ensures { IfSome result (λ to. GoesStraight inner.now (Ip.Ipv4 header.now) to) }
 {
     if is_ordinary(inner, header) && is_short(inner, header) {

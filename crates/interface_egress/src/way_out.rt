@@ -6,12 +6,13 @@ ghost use Rattle.interface_egress.specs.Plan.{CanBeCut};
 ghost use Rattle.interface_tables.specs.Inner.{mtu_to};
 ghost use Rattle.ip_wire.specs.Ip.{destination_of};
 ghost use Rattle.interface_egress.specs.Departure as Departures;
-ghost use Rattle.interface_egress.specs.Departure.{segment_packet};
+ghost use Rattle.interface_egress.specs.Straight.{straight_packet};
 ghost use Rattle.interface_egress.specs.GoesOut.{GoesOut, PieceGoesOut, Asked, Went, WasCut, numbered_v4, numbered_header, numbered, after_header, cut_header, cut_of};
 
+use crate::carried::{Carried, Straight};
 use crate::fill::send;
 use crate::fragmenter::{Cut, Fragmenter};
-use crate::frame::{CutHeader, Question, SegmentFrame, StraightSegment, Whole, ask};
+use crate::frame::{CutHeader, Question, StraightFrame, Whole, ask};
 use crate::plan::{Plan, plan_for};
 use interface_tables::InterfaceInner;
 use ip_wire::{HardwareAddress, IpAddress, IpRepr, Ipv4Repr};
@@ -114,7 +115,7 @@ fn send_question<D: Device>(
 }
 
 /// Sends a packet in one frame.
-pub fn send_whole<D: Device>(
+fn send_whole<D: Device>(
     inner: &mut InterfaceInner,
     device: &mut D,
     token: D::TxToken,
@@ -142,23 +143,23 @@ pub fn send_whole<D: Device>(
     Sent::Gone
 }
 
-/// Sends a segment in one frame, whose headers and text aren't copied before they are written.
-pub fn send_segment<D: Device>(
+/// Sends an IPv4 packet in one frame, whose header and payload aren't copied before they are written.
+pub fn send_straight<D: Device, P: Carried>(
     inner: &mut InterfaceInner,
     device: &mut D,
     token: D::TxToken,
-    segment: &StraightSegment<'_>,
+    packet: &Straight<'_, P>,
 ) -> Sent
     requires room { D.refused device.old + 1 < 2 ^ 64 }
-    requires fits { IsSendable (segment_packet segment.now) }
-    ensures out { Went D.moves device.old inner.old (segment_packet segment.now).header
-        (Departures.Whole segment.now.to (numbered inner.old (segment_packet segment.now))) result device.new inner.new }
+    requires fits { IsSendable (straight_packet P.value packet.now) }
+    ensures out { Went D.moves device.old inner.old (straight_packet P.value packet.now).header
+        (Departures.Whole packet.now.to (numbered inner.old (straight_packet P.value packet.now))) result device.new inner.new }
     ensures capabilities { D.described device.new ≡ D.described device.old }
 {
-    let frame = SegmentFrame {
+    let frame = StraightFrame {
         from: inner.hardware_addr(),
-        header: numbered_v4(inner, segment.header),
-        carried: segment,
+        header: numbered_v4(inner, packet.header),
+        packet,
         checksums: inner.checksum_caps(),
     };
     if send(device, token, &frame) {

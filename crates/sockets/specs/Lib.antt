@@ -9,6 +9,7 @@ pub mod Idle
 pub mod Keys
 pub mod Held
 pub mod Lends
+pub mod Lent
 pub mod Header
 pub mod Udp
 pub mod Icmp

@@ -15,6 +15,7 @@ ghost use Rattle.socket_base.specs.declared.offer.Offer.TheVariants as Answer;
 ghost use Rattle.sockets.specs.Udp.{UdpValue, made, metadata_to, is_open, bind_answer, bind_after, closed, with_hop_limit, is_unaddressable};
 ghost use Rattle.sockets.specs.Udp.{send_answer, send_after, accepts, process_after, header_for, settings_of, IsHeaderToSend, Offers};
 ghost use Rattle.sockets.specs.Udp.{offered_in, header_at_once, TakesAtOnce};
+ghost use Rattle.sockets.specs.Lent.{lent_value};
 ghost use Rattle.sockets.specs.SocketValue.{can_send, can_recv, with_queued, is_done, recv_answer, recv_after, recv_written, settled, poll_of};
 ghost use Rattle.sockets.specs.Offers.{HasPacket, IsFound, IsSameButForPlaces, changed_by};
 ghost use Rattle.sockets.specs.Dispatch.{TakesOffered, Dispatches};
@@ -85,6 +86,14 @@ impl fmt::Display for UdpMetadata {
     fn fmt<W: fmt::Write>(&self, f: &mut fmt::Formatter<W>) -> fmt::Result {
         write!(f, "{}", self.endpoint)
     }
+}
+
+/// The packet of an open offer, whose header and bytes are lent from where they lie in the socket.
+#[derive(Clone, Copy, Debug)]
+pub struct OfferedDatagram<'a> {
+    pub header: &'a IpRepr,
+    pub ports: UdpRepr,
+    pub bytes: &'a [u8],
 }
 
 /// An entry of a socket's queue.
@@ -584,17 +593,33 @@ impl Socket {
         Offer::Packet { changed: false }
     }
 
+    /// The packet of the open offer, lent from where it lies.
+    pub fn offered_datagram(&self) -> Option<OfferedDatagram<'_>>
+        ensures { lent_value result ≡ self.now.offered }
+    {
+        let header = self.offered.as_ref()?;
+        let (metadata, bytes) = self.queues.queued.front().ok()?;
+        Some(OfferedDatagram {
+            header,
+            ports: UdpRepr {
+                src_port: self.endpoint.port,
+                dst_port: metadata.endpoint.port,
+            },
+            bytes,
+        })
+    }
+
     /// The packet of the open offer.
     pub fn offered(&self) -> Option<Packet<'_>>
         ensures { option_value result ≡ self.now.offered }
     {
-        let header = self.offered?;
-        let (metadata, bytes) = self.queues.queued.front().ok()?;
-        let repr = UdpRepr {
-            src_port: self.endpoint.port,
-            dst_port: metadata.endpoint.port,
-        };
-        Some(Packet::new(header, IpPayload::Udp(repr, bytes)))
+        match self.offered_datagram() {
+            None => None,
+            Some(lent) => Some(Packet::new(
+                *lent.header,
+                IpPayload::Udp(lent.ports, lent.bytes),
+            )),
+        }
     }
 
     /// Says what became of the offered packet: a datagram that was sent leaves its queue, another one

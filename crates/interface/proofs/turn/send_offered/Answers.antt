@@ -1,32 +1,17 @@
-use Rattle.std.proofs.Common.{rules, ◌≡◌, Bool, Option, Some, sym, ap, ◌∙◌, subst}
-use Rattle.interface_ingress.specs.Packet.{PacketValue}
+use Rattle.std.proofs.Common.{rules, ◌≡◌, Bool, ap, ◌∙◌}
 use Rattle.interface_ingress.specs.Socket.{Socket}
 use Rattle.interface_ingress.specs.Sockets.{offered_by, settled}
-use Rattle.interface_ingress.specs.WellFormed.{IsWellFormed}
 use Rattle.interface_egress.specs.declared.socket_set.Item.{Item}
-use Rattle.interface_egress.specs.Departure.{segment_packet}
-use Rattle.interface_egress.specs.Plan.{GoesStraight}
 use Rattle.interface.specs.Host.{sender}
-use Rattle.interface.specs.Turn.{SendsBy}
-use Rattle.interface.proofs.Sourced.{sends_from}
-use Rattle.interface.proofs.Straight.{straight_left}
+use Rattle.interface.proofs.Sourced.{sends_offer}
 use Rattle.interface.proofs.turn.send_offered.Goals as goal
 
 pub returns-clause-sends : goal.returns-clause-sends
 returns-clause-sends g c =
-    let segment = c.in-Some.segment in
-    let p = segment_packet segment in
     let s = sender c.args.device.now c.args.inner.now c.args.fragmenter.now in
-    let s' = sender c.leave_segment-sent.new.device c.leave_segment-sent.new.inner c.args.fragmenter.now in
+    let s' = sender c.leave_offered-sent.new.device c.leave_offered-sent.new.inner c.leave_offered-sent.new.fragmenter in
     let item = c.args.item.now in
-    let is : offered_by item.socket ≡ Some p = search rules in
-    let straight : GoesStraight c.args.inner.now p.header segment.to = search rules in
-    let formed : IsWellFormed p = search rules in
-    let marked : Socket → Item Socket = λ k. record { meta = c.leave_segment-sent.new.meta; socket = k } in
+    let marked : Socket → Item Socket = λ k. record { meta = c.leave_offered-sent.new.meta; socket = k } in
     let told = c.settle.ensures ∙ ap (λ (done : Bool). settled done item.socket) c.is_done.ensures in
-    let left = straight_left g.D.Device.moves c.args.turn.now s item.meta c.leave_segment-sent.new.meta p segment.to c.leave_segment-sent.result
-    c.leave_segment-sent.new.device c.leave_segment-sent.new.inner straight formed c.leave_segment-sent.ensures.left in
-    subst (λ (o : Option PacketValue). SendsBy g.D.Device.moves c.args.turn.now o s item c.args.changed c.turned_by.result s' (marked c.settle.new.self))
-    (sym is)
-    (sends_from g.D.Device.moves c.args.turn.now s s' p item (marked c.settle.new.self) c.args.changed c.turned_by.result c.leave_segment-sent.result
-    c.leave_segment-sent.new.meta formed left (ap marked told) c.turned_by.ensures)
+    sends_offer g.D.Device.moves c.args.turn.now s s' (offered_by item.socket) item (marked c.settle.new.self) c.args.changed c.turned_by.result
+    c.leave_offered-sent.result c.leave_offered-sent.new.meta c.leave_offered-sent.ensures.left (ap marked told) c.turned_by.ensures
