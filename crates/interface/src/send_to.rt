@@ -14,8 +14,8 @@ ghost use Rattle.interface.specs.Turn.{is_waiting};
 use crate::host::Interface;
 use crate::turn::{is_done, is_waiting, leave_straight};
 use interface_egress::{
-    Fragmenter, InterfaceInner, LentDatagram, Item, Meta, Places, SocketHandle, SocketSet, SocketStorage,
-    straight_to,
+    Fragmenter, InterfaceInner, Item, LentDatagram, Meta, Places, SocketHandle, SocketSet,
+    SocketStorage, straight_to,
 };
 use interface_ingress::udp::{SendError, UdpMetadata};
 use interface_ingress::widths::fields_have_widths;

@@ -615,10 +615,7 @@ impl Socket {
     {
         match self.offered_datagram() {
             None => None,
-            Some(lent) => Some(Packet::new(
-                *lent.header,
-                IpPayload::Udp(lent.ports, lent.bytes),
-            )),
+            Some(lent) => Some(Packet::new(*lent.header, IpPayload::Udp(lent.ports, lent.bytes))),
         }
     }
 

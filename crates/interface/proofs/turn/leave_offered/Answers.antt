@@ -19,9 +19,11 @@ returns-in-Some-clause-left g c =
     let goes : GoesStraight c.args.inner.now p.header packet.to = search rules in
     let formed : IsWellFormed p = search rules in
     subst (λ (o : Option PacketValue). OfferLeaves g.D.Device.moves c.args.turn.now o s c.args.meta.now c.leave_straight.result s' c.leave_straight.new.meta)
-    (sym is)
-    (formed, straight_left g.D.Device.moves c.args.turn.now s c.args.meta.now c.leave_straight.new.meta p packet.to c.leave_straight.result
-    c.leave_straight.new.device c.leave_straight.new.inner goes formed c.leave_straight.ensures.left)
+    (sym is) (
+      formed,
+      straight_left g.D.Device.moves c.args.turn.now s c.args.meta.now c.leave_straight.new.meta p packet.to c.leave_straight.result
+          c.leave_straight.new.device c.leave_straight.new.inner goes formed c.leave_straight.ensures.left,
+    )
 
 pub returns-in-Some-straight_datagram-clause-left : goal.returns-in-Some-straight_datagram-clause-left
 returns-in-Some-straight_datagram-clause-left g c =
@@ -33,6 +35,8 @@ returns-in-Some-straight_datagram-clause-left g c =
     let goes : GoesStraight c.args.inner.now p.header packet.to = search rules in
     let formed : IsWellFormed p = search rules in
     subst (λ (o : Option PacketValue). OfferLeaves g.D.Device.moves c.args.turn.now o s c.args.meta.now c.leave_straight-in-Udp.result s' c.leave_straight-in-Udp.new.meta)
-    (sym is)
-    (formed, straight_left g.D.Device.moves c.args.turn.now s c.args.meta.now c.leave_straight-in-Udp.new.meta p packet.to c.leave_straight-in-Udp.result
-    c.leave_straight-in-Udp.new.device c.leave_straight-in-Udp.new.inner goes formed c.leave_straight-in-Udp.ensures.left)
+    (sym is) (
+      formed,
+      straight_left g.D.Device.moves c.args.turn.now s c.args.meta.now c.leave_straight-in-Udp.new.meta p packet.to c.leave_straight-in-Udp.result
+          c.leave_straight-in-Udp.new.device c.leave_straight-in-Udp.new.inner goes formed c.leave_straight-in-Udp.ensures.left,
+    )
