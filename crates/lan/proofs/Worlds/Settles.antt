@@ -1,5 +1,5 @@
 -- Worlds that go on by what a good link and served hosts do, round by round.
-use Rattle.std.proofs.Common.{◌≡◌, ℕ, zero, suc, ◌+◌, ◌-◌, ◌<◌, ℤ, List, [], ◌∷◌, ◌++◌, refl, sym, subst, ap, ◌∙◌, inl, inr, ◌≤◌, add-one, arith, Option, Some, None, IfSome, Result, Ok, Err, IfOk, OnErr, option_map}
+use Rattle.std.proofs.Common.{◌≡◌, ℕ, zero, suc, ◌+◌, ◌-◌, ◌<◌, ℤ, List, [], ◌∷◌, ◌++◌, refl, sym, subst, ap, ◌∙◌, inl, inr, ◌≤◌, add-one, arith, Option, Some, None, Result, Ok, Err, IfOk, OnErr, option_map}
 use Rattle.std.specs.List.{AllByRecursion}
 use Rattle.std.specs.Int.{int_max}
 use Rattle.interface.specs.Instant.{earlier}
@@ -54,9 +54,9 @@ handed_on old mid new side from frame padding answer below bare before step =
     let first : List Event = deliveries side from (frame - from) in
     let plain : Step mid (E.Deliver side frame []) answer new = subst (λ (p : List ℕ). Step mid (E.Deliver side frame p) answer new) bare step in
     let both : Steps old (first ++ E.Deliver side frame [] ∷ []) new =
-        steps_of_both old mid new first (E.Deliver side frame [] ∷ []) before (answer, new, plain, refl) in
+    steps_of_both old mid new first (E.Deliver side frame [] ∷ []) before (answer, new, plain, refl) in
     let all : Steps old (first ++ E.Deliver side (from + (frame - from)) [] ∷ []) new =
-        subst (λ (m : ℕ). Steps old (first ++ E.Deliver side m [] ∷ []) new) place both in
+    subst (λ (m : ℕ). Steps old (first ++ E.Deliver side m [] ∷ []) new) place both in
     subst (λ (n : ℕ). Steps old (deliveries side from n) new) (sym counted)
     (subst (λ (events : List Event). Steps old events new) (sym (one_more side from (frame - from))) all)
 
@@ -72,10 +72,12 @@ neither (Some a) (Some b) moment is = absurd cc
 pub rests : (moment : ℤ) (handed : Handed) (old new : WorldValue) → NextRound moment handed None old new → AreAtRest moment new.history
 rests moment handed old new (inl (under_way, at, same)) = absurd cc
 rests moment handed old new (inr (calm, a, b, (between, one, two), is)) =
-    let none : (a ≡ None) × (b ≡ None) = neither a b moment is in
-    (old.history, between.history,
-        (one.entry, one.history, one.event_kept, one.answer_kept ∙ ap To.At none.0),
-        (two.entry, two.history, two.event_kept, two.answer_kept ∙ ap To.At none.1))
+    let none : (a ≡ None) × (b ≡ None) = neither a b moment is in (
+      old.history,
+      between.history,
+      (one.entry, one.history, one.event_kept, one.answer_kept ∙ ap To.At none.0),
+      (two.entry, two.history, two.event_kept, two.answer_kept ∙ ap To.At none.1),
+    )
 
 pub one_round_more : (budget : ℕ) (from moment next : ℤ) (handed now : Handed) (n : ℕ) (first old served new : WorldValue)
     → Rounds budget from first n moment handed old → AreServed moment budget handed now old served → NextRound moment handed (Some next) served new

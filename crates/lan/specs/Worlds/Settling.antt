@@ -36,7 +36,7 @@ AreAtRest moment history =
 
 -- FRAMES THAT ARE HANDED OVER
 
--- as many as each host sent
+-- `Handed` says of each host how many of its frames were handed over, or are lost: at first as many as it sent
 abbrev pub all_sent : WorldValue → Handed
 all_sent w = record { a = length w.hosts.a.link.sent; b = length w.hosts.b.link.sent }
 

@@ -25,12 +25,12 @@ returns-in-None-clause-rounds c = the_last_round c.args.budget c.args.from c.loo
     c.loop-round._round c.args.rounds c.args.self.now c.loop-round.self c.serve_both.new.self c.next_round.new.self c.loop-round-test.true
     c.loop-round.invariant.rounds c.in_ok-now.ensures.served
     (subst (λ (next : Option ℤ). NextRound c.loop-round.moment c.loop-round.handed next c.serve_both.new.self c.next_round.new.self)
-        c.in-None.is c.in_ok-next.ensures.next)
+    c.in-None.is c.in_ok-next.ensures.next)
 
 pub returns-in-None-clause-rest : goal.returns-in-None-clause-rest
 returns-in-None-clause-rest c = rests c.loop-round.moment c.loop-round.handed c.serve_both.new.self c.next_round.new.self
     (subst (λ (next : Option ℤ). NextRound c.loop-round.moment c.loop-round.handed next c.serve_both.new.self c.next_round.new.self)
-        c.in-None.is c.in_ok-next.ensures.next)
+    c.in-None.is c.in_ok-next.ensures.next)
 
 pub loop-round-preserved : goal.loop-round-preserved
 loop-round-preserved c = record {
@@ -40,5 +40,5 @@ loop-round-preserved c = record {
       c.loop-round._round c.args.self.now c.loop-round.self c.serve_both.new.self c.next_round.new.self
       c.loop-round.invariant.rounds c.in_ok-now.ensures.served
       (subst (λ (next : Option ℤ). NextRound c.loop-round.moment c.loop-round.handed next c.serve_both.new.self c.next_round.new.self)
-          c.in-Some.is c.in_ok-next.ensures.next);
+      c.in-Some.is c.in_ok-next.ensures.next);
 }
