@@ -201,8 +201,8 @@ first_ends starts fresh B = new_ends (start starts B).host.inner _ (first_net st
 one_pair : (a b : EndpointPair) → Some a ≡ Some b → a ≡ b
 one_pair a b e = cc
 
-module _ (starts : Starts) (fresh : IsFreshWorld starts) (history : List Entry) (hosts : Stations) (typed : AreTyped history) (still : StillRun starts history hosts)
-    where
+module _ (starts : Starts) (fresh : IsFreshWorld starts) (history : List Entry) (hosts : Stations) (typed : AreTyped history)
+    (still : StillRun starts history hosts) where
   abbrev inner : Side → InnerValue
   inner s = (start starts s).host.inner
 
