@@ -137,7 +137,7 @@ go_on_by_events starts past more hosts places news fresh typed still new keys te
     anywhere moves is read wait delay so streams (are_let_go starts fresh linked.medium seats at past more hosts still moves (by moves is) linked.leave)
     (brought moves is delay linked IsFreshFor fit) in
     let in_reach : (delay : ℕ) → AreBoth (λ s v. IsOpen v.block) places between → AreBoth (λ s v. is_synchronized v.block.state ≡ true) places hosts
-    → AreInReach starts places delay past more hosts still → AreLinked starts places delay past more hosts still =
+    → AreInReach starts delay past more hosts still → AreLinked starts places delay past more hosts still =
     λ delay opened stay reach.
     linked_in_reach starts past more hosts places news delay fresh typed still new keys text partners
     (of_one_net at between (hosts_before starts past more hosts still) past ways.of (begins starts at past more hosts still them.moves them.of_events) places

@@ -1,7 +1,7 @@
 -- Two partners that are open, and stay, over links which bring what is sent: their hosts let go what goes between them, and take it in.
-use Rattle.std.proofs.Common.{◌≡◌, ◌≢◌, ℕ, Bool, true, false, not, ◌&&◌, List, [], ◌∷◌, ◌++◌, Option, Some, IfSome}
+use Rattle.std.proofs.Common.{◌≡◌, ◌≢◌, ℕ, Bool, true, false, not, ◌&&◌, List, [], ◌∷◌, ◌++◌, Option, Some, None, IfSome}
 use Rattle.std.proofs.Common.{refl, sym, ap, ◌∙◌, subst}
-use Rattle.std.specs.Prelude.{◌||◌}
+use Rattle.std.specs.Prelude.{◌||◌, slice_index_or}
 use Rattle.std.specs.List.{list_any}
 use Rattle.ip_packet.specs.Ip.{destination_of, source_of}
 use Rattle.ip_packet.specs.declared.ip.repr.IpRepr.{IpRepr}
@@ -12,9 +12,10 @@ use Rattle.ip_wire.specs.IpAddress.{IpAddress}
 use Rattle.ip_wire.specs.IpAddress.TheVariants as Address
 use Rattle.ip_wire.specs.IpCidr.{IpCidr}
 use Rattle.interface_egress.specs.Plan.{never_leaves}
+use Rattle.interface_ingress.specs.Handed.{is_for_many}
 use Rattle.interface_ingress.specs.Reassembled.{is_astray}
-use Rattle.interface_tables.specs.Inner.{InnerValue, is_broadcast_of, is_foreign_loopback, is_for_us, is_local_broadcast, is_loopback_in, is_loopback_of, is_member_of}
-use Rattle.interface_tables.specs.Inner.{is_own, may_come_from}
+use Rattle.interface_ingress.proofs.OwnSources.{own_of}
+use Rattle.interface_tables.specs.Inner.{InnerValue, is_broadcast_of, is_foreign_loopback, is_for_us, is_local_broadcast, is_loopback_in, is_loopback_of, may_come_from}
 use Rattle.tcp_control.specs.Endpoints.{local_of, remote_of}
 use Rattle.tcp_control.specs.declared.endpoints.EndpointPair.{EndpointPair}
 use Rattle.tcp_control.specs.declared.state.State.{State as TcpState}
@@ -33,12 +34,13 @@ use Rattle.lan.specs.Worlds.AtLink.History.{Entry}
 use Rattle.lan.specs.Worlds.AtLink.Kinds.{other}
 use Rattle.lan.specs.Worlds.AtLink.PacketsSafe.{IsFreshParty}
 use Rattle.lan.specs.Worlds.AtLink.Paired.{AreNew, HaveKeys, NewSocket, at_zero, side_in}
-use Rattle.lan.specs.Worlds.AtLink.Parties.{Net, party, socket_at}
+use Rattle.lan.specs.Worlds.AtLink.Parties.{Net, Socket, party, socket_at}
 use Rattle.lan.specs.Worlds.AtLink.Parties.Socket.{Tcp}
 use Rattle.lan.specs.Worlds.AtLink.Partners.{ArePartners}
 use Rattle.lan.specs.Worlds.AtLink.Runs.{Starts, start}
-use Rattle.lan.specs.Worlds.AtLink.Station.{Stations}
+use Rattle.lan.specs.Worlds.AtLink.Station.{Stations, station}
 use Rattle.lan.specs.Worlds.Events.{AreTyped}
+use Rattle.lan.specs.Worlds.Moves.Follows.{sockets_of}
 use Rattle.lan.specs.Worlds.Moves.Joined.{first_net}
 use Rattle.lan.specs.Worlds.Still.{StillRun, seats_of}
 use Rattle.lan.proofs.Worlds.Moves.Calls.{names}
@@ -50,10 +52,12 @@ use Rattle.stack_laws.specs.Progress.Ends.{AreBoth, AreEnds, GoesAlong, IsConnec
 use Rattle.stack_laws.specs.Progress.Linked.{AreLinked}
 use Rattle.stack_laws.specs.Progress.Partners.{HoldText}
 use Rattle.stack_laws.specs.Progress.Reach.{AreInReach, IsAtHome, hosts_before}
+use Rattle.stack_laws.specs.Progress.Serving.{IsAtHost}
 use Rattle.stack_laws.specs.Progress.Takings.{IsForHost}
 use Rattle.stack_laws.proofs.EventConnected.{StaysConnected, stays_connected}
 use Rattle.stack_laws.proofs.EventFacts.{both_now}
-use Rattle.stack_laws.proofs.EventPlaces.{at_net}
+use Rattle.stack_laws.proofs.EventPlaces.{is_tcp}
+use Rattle.stack_laws.proofs.EventRoomy.{tcp_so}
 use Rattle.stack_laws.proofs.HeldEnds.{HasEnds, IsBetween, AllHave, nameless, quiet_closed, run_ends}
 
 clash : {X : Type 0} → true ≡ false → X
@@ -75,11 +79,10 @@ no_loop : (loop any : Bool) → (loop && not any) ≡ false → any ≡ false �
 no_loop true any is none = clash ((λ k. not (sym none k)) ∙ is)
 no_loop false any is none = refl
 
-may_so : (all group loop far : Bool) → all ≡ false → group ≡ false → loop ≡ false → (not (all || group) && (not loop || far)) ≡ true
-may_so false false false far one two three = refl
-may_so true group loop far one two three = clash one
-may_so false true loop far one two three = clash two
-may_so false false true far one two three = clash three
+may_so : (many loop far : Bool) → many ≡ false → loop ≡ false → (not many && (not loop || far)) ≡ true
+may_so false false far one two = refl
+may_so true loop far one two = clash one
+may_so false true far one two = clash two
 
 leaves_so : (nowhere foreign may : Bool) → nowhere ≡ false → foreign ≡ false → may ≡ true → (nowhere || (foreign || not may)) ≡ false
 leaves_so false false true one two three = refl
@@ -100,23 +103,22 @@ sender_v6 false false one two = refl
 sender_v6 true group one two = clash one
 sender_v6 false true one two = clash two
 
--- one host's address, which isn't the broadcast address of either, may be that of a sender
-sender_so : (i j : InnerValue) (a : IpAddress) → is_unspecified a ≡ false → is_multicast a ≡ false → is_local_broadcast i a ≡ false → is_local_broadcast j a ≡ false
-    → may_be_sender j a ≡ true
-sender_so i j (Address.Ipv4 a) nowhere group all here =
-    sender_v4 (is_unspecified_v4 a) (is_multicast_v4 a) (is_broadcast_v4 a) (is_local_broadcast j (Address.Ipv4 a)) nowhere group
-    (no_or (is_broadcast_v4 a) (list_any (is_broadcast_of a) i.addresses) all).0 here
-sender_so i j (Address.Ipv6 a) nowhere group all here = sender_v6 (is_unspecified_v6 a) (is_multicast_v6 a) nowhere group
+-- one host's address may be that of a sender
+sender_so : (i : InnerValue) (a : IpAddress) → is_unspecified a ≡ false → is_for_many i a ≡ false → may_be_sender i a ≡ true
+sender_so i (Address.Ipv4 a) nowhere one =
+    let all = no_or (is_local_broadcast i (Address.Ipv4 a)) (is_multicast_v4 a) one in
+    sender_v4 (is_unspecified_v4 a) (is_multicast_v4 a) (is_broadcast_v4 a) (is_local_broadcast i (Address.Ipv4 a)) nowhere all.1
+    (no_or (is_broadcast_v4 a) (list_any (is_broadcast_of a) i.addresses) all.0).0 all.0
+sender_so i (Address.Ipv6 a) nowhere one = sender_v6 (is_unspecified_v6 a) (is_multicast_v6 a) nowhere one
 
-ours_so : (i : InnerValue) (a : IpAddress) → is_own i a ≡ true → is_for_us i a ≡ true
-ours_so i a own = λ k. own k || is_member_of i a || is_local_broadcast i a || is_loopback_in a
+outward_so : (a : IpAddress) → is_loopback a ≡ false → is_loopback_in a ≡ false
+outward_so (Address.Ipv4 a) outward = refl
+outward_so (Address.Ipv6 a) outward = outward
 
 -- what a segment that came between two hosts tells of a host without loopback addresses
 pub record AreHosts (i : InnerValue) (pair : EndpointPair) : Type 0 where
   pub remote : is_unspecified (remote_of pair.addresses) ≡ false
-  pub local : is_unspecified (local_of pair.addresses) ≡ false
-  pub one : is_local_broadcast i (local_of pair.addresses) ≡ false
-  pub group : is_multicast (local_of pair.addresses) ≡ false
+  pub one : is_for_many i (local_of pair.addresses) ≡ false
   pub remote_here : is_foreign_loopback i (remote_of pair.addresses) ≡ false
   pub outward : is_loopback (local_of pair.addresses) ≡ false
 
@@ -126,13 +128,10 @@ are_hosts i pair outward between =
     let from : IpAddress = remote_of pair.addresses in
     let one = no_or (is_unspecified from) (is_unspecified to || (is_local_broadcast i to || is_multicast to)) between.somebody in
     let two = no_or (is_unspecified to) (is_local_broadcast i to || is_multicast to) one.1 in
-    let three = no_or (is_local_broadcast i to) (is_multicast to) two.1 in
     let home = no_or (is_foreign_loopback i from) (is_foreign_loopback i to) between.here in
     record {
       remote = one.0;
-      local = two.0;
-      one = three.0;
-      group = three.1;
+      one = two.1;
       remote_here = home.0;
       outward = no_loop (is_loopback to) (list_any (is_loopback_of to) i.addresses) home.1 (none_such to i.addresses outward);
     }
@@ -149,8 +148,7 @@ module _ (starts : Starts) (pairs : Side → EndpointPair) where
 
   module _ (addresses : (side : Side) → remote_of (pairs side).addresses ≡ local_of (pairs (other side)).addresses)
       (ports : (side : Side) → (pairs side).remote_port ≡ (pairs (other side)).local_port) (named : (side : Side) → (pairs side).local_port ≢ 0)
-      (hosts : (side : Side) → AreHosts (first side) (pairs side)) (between : (side : Side) → IsBetween (first side) (pairs side).addresses)
-      (home : (side : Side) → IsAtHome (first side) (pairs side)) where
+      (hosts : (side : Side) → AreHosts (first side) (pairs side)) (between : (side : Side) → IsBetween (first side) (pairs side).addresses) where
     goes : (side : Side) (ip : IpRepr) → GoesAlong (pairs side) ip → never_leaves (first side) ip ≡ false
     goes side ip along =
         let i : InnerValue = first side in
@@ -160,7 +158,7 @@ module _ (starts : Starts) (pairs : Side → EndpointPair) where
         (λ k. is_unspecified (along.destination k)
         || (is_foreign_loopback i (along.destination k) || not (may_come_from i (along.source k) (along.destination k))))
         ∙ leaves_so (is_unspecified destination) (is_foreign_loopback i destination) (may_come_from i source destination) is.remote is.remote_here
-        (may_so (is_local_broadcast i source) (is_multicast source) (is_loopback source) (is_loopback destination) is.one is.group is.outward)
+        (may_so (is_for_many i source) (is_loopback source) (is_loopback destination) is.one is.outward)
 
     comes : (side : Side) (ip : IpRepr) → GoesAlong (pairs side) ip → IsForHost (first (other side)) Hardware.Ip ip
     comes side ip along =
@@ -172,11 +170,9 @@ module _ (starts : Starts) (pairs : Side → EndpointPair) where
         let destination : destination_of ip ≡ local_of far.addresses = along.destination ∙ addresses side in
         record {
           heard = refl;
-          sender = ap (may_be_sender j) along.source
-              ∙ sender_so (first side) j (local_of (pairs side).addresses) (hosts side).local (hosts side).group (hosts side).one
-              (ap (is_local_broadcast j) back_from ∙ (home (other side)).one_host);
+          sender = ap (may_be_sender j) source ∙ sender_so j (remote_of far.addresses) (hosts (other side)).remote (between (other side)).one;
           here = (λ k. is_astray j (source k) (destination k)) ∙ (between (other side)).here;
-          ours = ap (is_for_us j) destination ∙ ours_so j (local_of far.addresses) (home (other side)).own;
+          ours = ap (is_for_us j) destination ∙ (between (other side)).ours;
           named = (λ k. is_unspecified (source k)
               || (is_unspecified (destination k) || (is_local_broadcast j (destination k) || is_multicast (destination k))))
               ∙ (between (other side)).somebody;
@@ -202,50 +198,60 @@ first_ends : (starts : Starts) → IsFreshWorld starts → AllHave (λ s. (start
 first_ends starts fresh A = new_ends (start starts A).host.inner _ (first_net starts) A (fresh_net starts fresh).a
 first_ends starts fresh B = new_ends (start starts B).host.inner _ (first_net starts) B (fresh_net starts fresh).b
 
-same_tcp : (v w : TcpValue) → Some (Tcp v) ≡ Some (Tcp w) → v ≡ w
-same_tcp v w e = let one : Tcp v ≡ Tcp w = cc in tcp_one v w one where
-  tcp_one : (v w : TcpValue) → Tcp v ≡ Tcp w → v ≡ w
-  tcp_one v w is = cc
-
 one_pair : (a b : EndpointPair) → Some a ≡ Some b → a ≡ b
 one_pair a b e = cc
 
-some_so : (P : EndpointPair → Type 0) (o : Option EndpointPair) (pair : EndpointPair) → o ≡ Some pair → IfSome o P → P pair
-some_so P o pair is has = subst (λ (x : Option EndpointPair). IfSome x P) is has
-
-module _ (starts : Starts) (fresh : IsFreshWorld starts) (history : List Entry) (hosts : Stations) (typed : AreTyped history) (still : StillRun starts history hosts)
-    (places : Side → ℕ) (pairs : Side → EndpointPair) (connected : AreBoth (λ side. IsConnected (pairs side)) places hosts) where
+module _ (starts : Starts) (fresh : IsFreshWorld starts) (history : List Entry) (hosts : Stations) (typed : AreTyped history)
+    (still : StillRun starts history hosts) where
   abbrev inner : Side → InnerValue
   inner s = (start starts s).host.inner
-
-  has_ends : (side : Side) → (v : TcpValue) × HasEnds (inner side) v × IsConnected (pairs side) v
-  has_ends side =
-      let came = has_come starts history hosts fresh typed (ran starts history hosts still) in
-      let all : AllHave inner names came.net =
-      subst (AllHave inner names) came.ends
-      (run_ends inner names at_zero (first_net starts) came.steps (moments starts hosts) came.may (held_run starts history hosts fresh typed still)
-      (first_ends starts fresh)) in
-      let it = at_net came.net hosts history side (places side) (IsConnected (pairs side)) came.of (connected side) in
-      (it.0, all side (places side) it.0 it.1, it.2)
-
-  pub named : (side : Side) → (pairs side).local_port ≢ 0
-  named side = let (v, ends, is) = has_ends side in ends.named (pairs side) is.1
-
-  pub between : (side : Side) → IsBetween (inner side) (pairs side).addresses
-  between side = let (v, ends, is) = has_ends side in ends.heard (later_past v.block.state is.0) (pairs side) is.1
 
   pub outward : (side : Side) → list_any (λ b. is_loopback (block_address b)) (inner side).addresses ≡ false
   outward side =
       let it = now_still starts history hosts still side in ap (list_any (λ b. is_loopback (block_address b))) (sym it.addresses) ∙ it.outward
 
-  pub at_home : AreBoth (λ side v. IfSome v.block.names.pair (IsAtHome (inner side))) places hosts → (side : Side) → IsAtHome (inner side) (pairs side)
-  at_home homes side =
+  ends_at : (side : Side) (place : ℕ) (P : TcpValue → Type 0) → IsAtHost place (station hosts side) P
+      → IsAtHost place (station hosts side) (λ v. HasEnds (inner side) v × P v)
+  ends_at side place P is =
       let came = has_come starts history hosts fresh typed (ran starts history hosts still) in
-      let it = at_net came.net hosts history side (places side) (IsConnected (pairs side)) came.of (connected side) in
-      let at = at_net came.net hosts history side (places side) (λ v. IfSome v.block.names.pair (IsAtHome (inner side))) came.of (homes side) in
-      let same : at.0 ≡ it.0 = same_tcp at.0 it.0 (sym at.1 ∙ it.1) in
-      some_so (IsAtHome (inner side)) at.0.block.names.pair (pairs side)
-      (ap (λ (v : TcpValue). v.block.names.pair) same ∙ it.2.1) at.2
+      let all : AllHave inner names came.net =
+      subst (AllHave inner names) came.ends
+      (run_ends inner names at_zero (first_net starts) came.steps (moments starts hosts) came.may (held_run starts history hosts fresh typed still)
+      (first_ends starts fresh)) in
+      tcp_so (slice_index_or (sockets_of (station hosts side).places) place None) P (λ v. HasEnds (inner side) v × P v)
+      (λ v there so. (all side place v (ap (λ (ss : List (Option Socket)). slice_index_or ss place None) (came.of.sockets side) ∙ there), so)) is
+
+  module _ (places : Side → ℕ) (pairs : Side → EndpointPair) (connected : AreBoth (λ side. IsConnected (pairs side)) places hosts) where
+    has_ends : (side : Side) → (v : TcpValue) × HasEnds (inner side) v × IsConnected (pairs side) v
+    has_ends side =
+        let it = is_tcp (slice_index_or (sockets_of (station hosts side).places) (places side) None) (λ v. HasEnds (inner side) v × IsConnected (pairs side) v)
+        (ends_at side (places side) (IsConnected (pairs side)) (connected side)) in
+        (it.0, it.2.0, it.2.1)
+
+    pub named : (side : Side) → (pairs side).local_port ≢ 0
+    named side = let (v, ends, is) = has_ends side in ends.named (pairs side) is.1
+
+    pub between : (side : Side) → IsBetween (inner side) (pairs side).addresses
+    between side = let (v, ends, is) = has_ends side in ends.heard (later_past v.block.state is.0) (pairs side) is.1
+
+  -- AT HOME
+  home_named : (side : Side) (o : Option EndpointPair) → ((pair : EndpointPair) → o ≡ Some pair → IsBetween (inner side) pair.addresses)
+      → IfSome o (IsAtHome (inner side))
+  home_named side None heard = tt
+  home_named side (Some pair) heard =
+      let is = are_hosts (inner side) pair (outward side) (heard pair refl) in
+      let local : IpAddress = local_of pair.addresses in
+      record {
+        own = own_of (inner side) local (heard pair refl).ours is.one (outward_so local is.outward);
+        one_host = (heard pair refl).one;
+      }
+
+  pub home_at : (side : Side) (place : ℕ) → IsAtHost place (station hosts side) (λ v. is_past v.block.state ≡ true)
+      → IsAtHost place (station hosts side) (λ v. IfSome v.block.names.pair (IsAtHome (inner side)))
+  home_at side place is =
+      tcp_so (slice_index_or (sockets_of (station hosts side).places) place None) (λ v. HasEnds (inner side) v × (is_past v.block.state ≡ true))
+      (λ v. IfSome v.block.names.pair (IsAtHome (inner side))) (λ v there so. home_named side v.block.names.pair (so.0.heard so.1))
+      (ends_at side place (λ v. is_past v.block.state ≡ true) is)
 
 module _ (starts : Starts) (places : Side → ℕ) (past more : List Entry) (hosts : Stations) (still : StillRun starts (more ++ past) hosts)
     (it : StaysConnected starts places past more hosts still) where
@@ -273,7 +279,7 @@ pub linked : (starts : Starts) (past more : List Entry) (hosts : Stations) (plac
     → AreTyped (more ++ past) → (still : StillRun starts (more ++ past) hosts) → AreNew (seats_of starts places) news (first_net starts)
     → HaveKeys (seats_of starts places) → HoldText (seats_of starts places) → ArePartners past A (places A) (places B)
     → AreBoth (λ side v. IsOpen v.block) places (hosts_before starts past more hosts still)
-    → AreBoth (λ side v. is_synchronized v.block.state ≡ true) places hosts → AreInReach starts places delay past more hosts still
+    → AreBoth (λ side v. is_synchronized v.block.state ≡ true) places hosts → AreInReach starts delay past more hosts still
     → AreLinked starts places delay past more hosts still
 linked starts past more hosts places news delay fresh typed still new keys text partners opened stay reach =
     let it = stays_connected starts past more hosts places news fresh typed still new keys text partners opened stay in
@@ -286,8 +292,8 @@ linked starts past more hosts places news delay fresh typed still new keys text 
       pairs = it.pairs;
       ends = are_ends starts it.pairs (mirrored_addresses starts places past more hosts still it) (mirrored_ports starts places past more hosts still it)
           (named starts fresh history hosts typed still places it.pairs now)
-          (λ side. are_hosts (start starts side).host.inner (it.pairs side) (outward starts fresh history hosts typed still places it.pairs now side) (far side))
-          far (at_home starts fresh history hosts typed still places it.pairs now reach.at_home);
+          (λ side. are_hosts (start starts side).host.inner (it.pairs side) (outward starts fresh history hosts typed still side) (far side))
+          far;
       connected = it.connected;
       leave = reach.leave;
       on_way = reach.on_way;

@@ -4,13 +4,14 @@ use Rattle.std.proofs.Common.{Option, Some, None, IfSome, Result, Ok, Err, refl,
 use Rattle.std.specs.Prelude.{◌||◌, ◌==◌, slice_set, slice_index_or}
 use Rattle.std.proofs.lemmas.Bool.{and_parts}
 use Rattle.ip_wire.specs.AddressTests.{is_multicast, is_unspecified}
+use Rattle.interface_ingress.specs.Handed.{is_for_many}
 use Rattle.interface_ingress.specs.Reassembled.{is_astray}
 use Rattle.ip_address.specs.declared.ip.IpEndpoint.{IpEndpoint}
 use Rattle.ip_address.specs.declared.ip.IpListenEndpoint.{IpListenEndpoint}
 use Rattle.ip_packet.specs.Ip.{source_of, destination_of}
 use Rattle.ip_packet.specs.declared.ip.repr.IpRepr.{IpRepr}
 use Rattle.ip_packet.specs.declared.ip.repr.IpRepr.TheVariants as Ip
-use Rattle.interface_tables.specs.Inner.{InnerValue, is_local_broadcast}
+use Rattle.interface_tables.specs.Inner.{InnerValue, is_for_us, is_local_broadcast}
 use Rattle.ip_wire.specs.TcpHeader.{TcpHeader}
 use Rattle.net_base.specs.Ring.{anchored, enqueued}
 use Rattle.sockets.specs.Context.{ContextValue}
@@ -76,9 +77,12 @@ quiet_closed other is = absurd cc
 -- A SOCKET
 
 module _ (i : InnerValue) where
-  -- A segment came to the host from the remote address, at the local one: both are those of one host, and no loopback address is among them but an own one.
+  -- A segment came to the host from the remote address, at the local one: both are those of one host, the local one is for this host, and no loopback address
+  -- is among them but an own one.
   pub record IsBetween (a : AddressPair) : Type 0 where
     pub somebody : (is_unspecified (remote_of a) || (is_unspecified (local_of a) || (is_local_broadcast i (local_of a) || is_multicast (local_of a)))) ≡ false
+    pub one : is_for_many i (remote_of a) ≡ false
+    pub ours : is_for_us i (local_of a) ≡ true
     pub here : is_astray i (remote_of a) (local_of a) ≡ false
 
   pub record HasEnds (v : TcpValue) : Type 0 where
@@ -91,6 +95,8 @@ module _ (i : InnerValue) where
     somebody =
         sym (λ k. is_unspecified (source k) || (is_unspecified (destination k) || (is_local_broadcast i (destination k) || is_multicast (destination k))))
         ∙ between.somebody;
+    one = sym (ap (is_for_many i) source) ∙ between.one;
+    ours = sym (ap (is_for_us i) destination) ∙ between.ours;
     here = sym (λ k. is_astray i (source k) (destination k)) ∙ between.here;
   }
 

@@ -1,5 +1,5 @@
 -- A world on numerals whose link brings what is sent at once.
-use Rattle.std.proofs.Common.{◌≡◌, ◌≢◌, ◌⊎◌, inl, inr, ℕ, leb-true, ltb-true, Bool, true, false, ◌||◌, None, IfSome, ℤ, List, [], ◌∷◌, ◌++◌, refl, sym, ap, ◌∙◌, subst, arith}
+use Rattle.std.proofs.Common.{◌≡◌, ◌≢◌, ◌⊎◌, inl, inr, ℕ, leb-true, ltb-true, Bool, true, false, ◌||◌, None, ℤ, List, [], ◌∷◌, ◌++◌, refl, sym, ap, ◌∙◌, subst, arith}
 use Rattle.std.specs.Prelude.{◌≤ℤ◌, pos}
 use Rattle.std.specs.List.{AllByRecursion}
 use Rattle.std.proofs.lemmas.Int.{ints}
@@ -38,7 +38,7 @@ use Rattle.stack_laws.specs.Progress.Delivered.{may_be_sender}
 use Rattle.stack_laws.specs.Progress.Ends.{AreBoth, AreConnected, AreEnds, AreThroughout, AreUnstamped, GoesAlong, IsConnected}
 use Rattle.stack_laws.specs.Progress.Leave.{LiesAmong}
 use Rattle.stack_laws.specs.Progress.Linked.{AreLinked}
-use Rattle.stack_laws.specs.Progress.Reach.{AreInReach, IsAtHome, hosts_before}
+use Rattle.stack_laws.specs.Progress.Reach.{AreInReach, hosts_before}
 use Rattle.stack_laws.specs.Progress.Serving.{GiveLeave, IsAtHost}
 use Rattle.stack_laws.specs.Progress.SettledNumerals.{ack_frame, both_open, counts, entry, first_host, heard, hosts, last_frame, later, place, push_frame, since_open, starts, syn_ack_frame}
 use Rattle.stack_laws.specs.Progress.SettledNumerals.{opened, syn_frame, through, through_a, through_b, writing, written}
@@ -393,18 +393,12 @@ pub both_stay : AreBoth (λ side v. is_synchronized v.block.state ≡ true) plac
 unfolding v4_number mtu_towards
 both_stay = both_are (λ side v. is_synchronized v.block.state ≡ true) through_a through_b refl refl
 
-pub both_at_home : AreBoth (λ side v. IfSome v.block.names.pair (IsAtHome (start starts side).host.inner)) place hosts
-unfolding v4_number mtu_towards
-both_at_home =
-    both_are (λ side v. IfSome v.block.names.pair (IsAtHome (start starts side).host.inner)) through_a through_b (record { own = refl; one_host = refl })
-    (record { own = refl; one_host = refl })
-
 pub are_in_reach : (still : StillRun starts (since_open ++ both_open) hosts)
     × AreBoth (λ side v. IsOpen v.block) place (hosts_before starts both_open since_open hosts still)
-    × AreBoth (λ side v. is_synchronized v.block.state ≡ true) place hosts × AreInReach starts place 0 both_open since_open hosts still
+    × AreBoth (λ side v. is_synchronized v.block.state ≡ true) place hosts × AreInReach starts 0 both_open since_open hosts still
 are_in_reach = (
   stayed,
   both_opened,
   both_stay,
-  record { medium = refl; at_home = both_at_home; leave = leaves; on_way = none; carried = are_carried },
+  record { medium = refl; leave = leaves; on_way = none; carried = are_carried },
 )

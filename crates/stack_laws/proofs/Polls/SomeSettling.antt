@@ -22,7 +22,7 @@ use Rattle.stack_laws.specs.Progress.Events.{clock_in, shown_in}
 use Rattle.stack_laws.specs.Progress.SettledNumerals.{history, hosts, news, opened, place, starts, told_to_send, writing}
 use Rattle.stack_laws.specs.Progress.Unread.{HasRoomForAll}
 use Rattle.stack_laws.specs.Progress.Within.{MayBegin, MaySettle}
-use Rattle.stack_laws.proofs.Polls.SomeLinked.{both_at_home, both_stay}
+use Rattle.stack_laws.proofs.Polls.SomeLinked.{both_stay}
 use Rattle.stack_laws.proofs.Polls.SomeStarts.{are_new, have_keys, hold_text, is_fresh}
 use Rattle.stack_laws.proofs.Polls.SomeStations.{open_b, writing_a}
 use Rattle.stack_laws.proofs.Polls.SomeWorld.{are_typed, stays, wrote}
@@ -111,6 +111,5 @@ may_settle = record {
   clocks = clocks;
   still = stays;
   stay = both_stay;
-  at_home = both_at_home;
   leave = leaves;
 }

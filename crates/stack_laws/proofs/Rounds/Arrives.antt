@@ -289,10 +289,9 @@ module _ (once : Once) (places : Side → ℕ) (news : Side → NewSocket) (from
     room = then_between (λ s v. 1 ≤ room_of v.received) some_room (other s);
   }
 
-  reach : AreInReach starts places 0 past more hosts still
+  reach : AreInReach starts 0 past more hosts still
   reach = record {
     medium = may.begins.medium;
-    at_home = may.at_home;
     leave = leave_throughout starts past more hosts still services may.leave;
     on_way = goes.on_way;
     carried = goes.carried;

@@ -55,10 +55,10 @@ pub record GoOnByEvents (starts : Starts) (past : List Entry) (between : Station
       → AreSo IsFreshFor (seats_of starts places) moves
       → ComeInTime read wait delay (clock_in past) (seats_of starts places) goes.clocks goes.net moves
   pub linked_in_reach : (delay : ℕ) → AreBoth (λ side v. IsOpen v.block) places between
-      → AreBoth (λ side v. is_synchronized v.block.state ≡ true) places hosts → AreInReach starts places delay past more hosts still
+      → AreBoth (λ side v. is_synchronized v.block.state ≡ true) places hosts → AreInReach starts delay past more hosts still
       → AreLinked starts places delay past more hosts still
   pub in_time_in_reach : (moves : List (ℤ × Happening)) → timed moves ≡ steps → (read wait delay : ℕ)
       → ((side : Side) → AreEventsInTime starts places read wait side past between more hosts still)
-      → ((side : Side) → KeepsStreamBy (places side) side past more) → AreInReach starts places delay past more hosts still
+      → ((side : Side) → KeepsStreamBy (places side) side past more) → AreInReach starts delay past more hosts still
       → AreSo IsFreshFor (seats_of starts places) moves
       → ComeInTime read wait delay (clock_in past) (seats_of starts places) goes.clocks goes.net moves

@@ -1,5 +1,5 @@
 -- By when all has arrived where a world ran rounds.
-use Rattle.std.specs.Prelude.{◌≡◌, ℕ, suc, ◌+◌, ◌*◌, max, ℤ, ◌≤ℤ◌, true, false, IsTrue, IfSome, List, ◌++◌, length}
+use Rattle.std.specs.Prelude.{◌≡◌, ℕ, suc, ◌+◌, ◌*◌, max, ℤ, ◌≤ℤ◌, true, false, IsTrue, List, ◌++◌, length}
 use Rattle.tcp_model.specs.Blocks.{one_if}
 use Rattle.tcp_model.specs.Value.{TcpValue, room_of}
 use Rattle.tcp_progress.specs.Arrivals.{is_synchronized}
@@ -26,7 +26,6 @@ use Rattle.stack_laws.specs.Progress.Ends.{AreBoth}
 use Rattle.stack_laws.specs.Progress.Events.{clock_in, shown_in}
 use Rattle.stack_laws.specs.Progress.OneClock.{KeepOneClock}
 use Rattle.stack_laws.specs.Progress.Partners.{HoldText}
-use Rattle.stack_laws.specs.Progress.Reach.{IsAtHome}
 use Rattle.stack_laws.specs.Progress.Serving.{AreServedAtOnce, WantsAt}
 use Rattle.stack_laws.specs.Progress.Unread.{HasRoomForAll}
 
@@ -72,7 +71,7 @@ enough_for history places sockets =
 
 -- Rounds begin at this moment in the old world, in which two partners, each a new socket at first, have these values. Both are open, without timestamps and
 -- with streams that are no empty ones, and each has a receive buffer for all that the other's user wrote; no host's clock is ahead. In the new world both
--- have their connection, and the local address of it, and their links give leave to send; and the hosts were still throughout.
+-- have their connection, and their links give leave to send; and the hosts were still throughout.
 pub record MaySettle (places : Side → ℕ) (news : Side → NewSocket) (from : ℤ) (sockets : Side → TcpValue) (old new : WorldValue) : Type 0 where
   pub begins : MayBegin places from old
   pub keys : HaveKeys (seats_of old.starts places)
@@ -87,5 +86,4 @@ pub record MaySettle (places : Side → ℕ) (news : Side → NewSocket) (from :
   pub clocks : (side : Side) → shown_in old.starts old.history side ≤ℤ clock_in old.history
   pub still : StillRun old.starts new.history new.hosts
   pub stay : AreBoth (λ side v. is_synchronized v.block.state ≡ true) places new.hosts
-  pub at_home : AreBoth (λ side v. IfSome v.block.names.pair (IsAtHome (start old.starts side).host.inner)) places new.hosts
   pub leave : (side : Side) → IsTrue (has_leave (station new.hosts side).link)

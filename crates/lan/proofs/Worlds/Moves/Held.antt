@@ -1,5 +1,5 @@
 -- Steps in which a host shows itself as it was, takes what came whole, and makes no reset.
-use Rattle.std.proofs.Common.{◌≡◌, ℕ, ◌^◌, ◌<◌, ℤ, ◌≤ℤ◌, Bool, false, not, ◌&&◌, if◌then◌else◌, List, [], ◌∷◌, ◌++◌, IfSome, Option, Some, None, refl, sym, ap, ◌∙◌}
+use Rattle.std.proofs.Common.{◌≡◌, ℕ, ◌^◌, ◌<◌, ℤ, ◌≤ℤ◌, Bool, true, false, not, ◌&&◌, if◌then◌else◌, List, [], ◌∷◌, ◌++◌, IfSome, Option, Some, None, refl, sym, ap, ◌∙◌}
 use Rattle.std.specs.Prelude.{◌||◌}
 use Rattle.std.specs.List.{list_any}
 use Rattle.interface_egress.specs.Departing.{HasSettingsOf}
@@ -11,10 +11,10 @@ use Rattle.interface.specs.Ip.{source_of, destination_of}
 use Rattle.interface.specs.IpRepr.{IpRepr}
 use Rattle.interface.specs.Turn.{with_source}
 use Rattle.interface_ingress.specs.IpAddress.{IpAddress}
-use Rattle.interface_ingress.specs.Handed.{names_nobody}
+use Rattle.interface_ingress.specs.Handed.{is_for_many, names_nobody}
 use Rattle.interface_ingress.specs.Reassembled.{is_astray}
-use Rattle.interface_tables.specs.Inner.{InnerValue, context_of, context_towards, is_address_of, is_broadcast_of, is_local_broadcast, is_loopback_of}
-use Rattle.interface_tables.specs.Inner.{may_come_from, mtu_by_destination}
+use Rattle.interface_tables.specs.Inner.{InnerValue, context_of, context_towards, is_address_of, is_all_nodes, is_broadcast_of, is_for_us, is_local_broadcast, is_loopback_in}
+use Rattle.interface_tables.specs.Inner.{is_loopback_of, is_member_of, is_own, may_come_from, mtu_by_destination, solicits_block}
 use Rattle.interface_tables.specs.PathMtu.{mtu_towards}
 use Rattle.interface_tables.specs.declared.path_mtu.Path.{Path}
 use Rattle.interface.specs.SameHost.{IsSameHost}
@@ -38,9 +38,11 @@ IsShownAt i t cx = cx ≡ context_on (host_in i) t cx.random
 abbrev pub source_by : InnerValue → IpRepr → IpAddress
 source_by i h = source_of (if may_come_from i (source_of h) (destination_of h) then h else with_source h (source_for i.addresses (destination_of h)))
 
--- a packet goes between two hosts, and no loopback address is in it but an own one
+-- a packet goes between two hosts, of which this is the second, and no loopback address is in it but an own one
 pub record IsBetweenHosts (i : InnerValue) (ip : IpRepr) : Type 0 where
   pub somebody : names_nobody i ip ≡ false
+  pub one : is_for_many i (source_of ip) ≡ false
+  pub ours : is_for_us i (destination_of ip) ≡ true
   pub here : is_astray i (source_of ip) (destination_of ip) ≡ false
 
 abbrev pub IsHeld : InnerValue → ℤ → Net → Side → Move → Type 0
@@ -109,6 +111,19 @@ module _ (i0 i : InnerValue) (seen : IsSeenAs i0 i) where
       ap (λ (all : Bool). is_unspecified (source_of ip) || (is_unspecified (destination_of ip) || (all || is_multicast (destination_of ip))))
       (broadcasts (destination_of ip))
 
+  pub many : (a : IpAddress) → is_for_many i a ≡ is_for_many i0 a
+  many a = ap (λ (all : Bool). all || is_multicast a) (broadcasts a)
+
+  owns : (a : IpAddress) → is_own i a ≡ is_own i0 a
+  owns a = λ k. seen.any_ip k || list_any (is_address_of a) (seen.addresses k)
+
+  members : (a : IpAddress) → is_member_of i a ≡ is_member_of i0 a
+  members (Address.Ipv4 a) = refl
+  members (Address.Ipv6 a) = ap (λ (bs : List IpCidr). is_all_nodes a || list_any (solicits_block a) bs) seen.addresses
+
+  pub for_us : (a : IpAddress) → is_for_us i a ≡ is_for_us i0 a
+  for_us a = λ k. owns a k || members a k || broadcasts a k || is_loopback_in a
+
   pub strays : (source destination : IpAddress) → is_astray i source destination ≡ is_astray i0 source destination
   strays source destination = ap (λ (bs : List IpCidr). (is_loopback source && not (list_any (is_loopback_of source) bs))
       || (is_loopback destination && not (list_any (is_loopback_of destination) bs))) seen.addresses
@@ -122,7 +137,12 @@ module _ (i0 i : InnerValue) (seen : IsSeenAs i0 i) where
       else with_source h (source_for (seen.addresses k) (destination_of h)))
 
   between_so : (ip : IpRepr) → IsBetweenHosts i ip → IsBetweenHosts i0 ip
-  between_so ip is = record { somebody = sym (nobodies ip) ∙ is.somebody; here = sym (strays (source_of ip) (destination_of ip)) ∙ is.here }
+  between_so ip is = record {
+    somebody = sym (nobodies ip) ∙ is.somebody;
+    one = sym (many (source_of ip)) ∙ is.one;
+    ours = sym (for_us (destination_of ip)) ∙ is.ours;
+    here = sym (strays (source_of ip) (destination_of ip)) ∙ is.here;
+  }
 
   left_so : (o : Option OpenOffer) (from : IpAddress) → IfSome o (λ o. from ≡ source_by i o.header) → IfSome o (λ o. from ≡ source_by i0 o.header)
   left_so None from is = tt

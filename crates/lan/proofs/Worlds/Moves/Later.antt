@@ -1,10 +1,11 @@
 -- What an arrival makes of the paths that a host knows, and of the errors that it counts: neither is forgotten.
 use Rattle.std.proofs.Common.{◌≡◌, ℕ, ℤ, ◌≤ℤ◌, ◌^◌, ◌<◌, ◌-◌, Bool, true, false, not, ◌&&◌, if◌then◌else◌, List, [], ◌∷◌, ◌++◌, length}
 use Rattle.std.proofs.Common.{Option, Some, None, refl, sym, ap, ◌∙◌, subst, arith, zero, suc}
-use Rattle.std.specs.Prelude.{nat_lt, slice_set, remove}
+use Rattle.std.specs.Prelude.{◌||◌, ◌==◌, nat_lt, slice_set, remove}
 use Rattle.std.proofs.lemmas.Int.{ints, clamps}
 use Rattle.interface_ingress.specs.Icmpv6 as Icmpv6
 use Rattle.lan.specs.Worlds.AtLink.Ndisc.{NeighborMessage}
+use Rattle.interface_ingress.specs.AddressTests.{is_broadcast_v4, is_multicast_v4, is_multicast_v6, is_unspecified, is_unspecified_v4, is_unspecified_v6}
 use Rattle.interface_ingress.specs.IpAddress.{IpAddress}
 use Rattle.interface_ingress.specs.IpAddress.TheVariants as Address
 use Rattle.interface_ingress.specs.IpProtocol.TheVariants as Protocol
@@ -13,20 +14,22 @@ use Rattle.interface_ingress.specs.ArpRepr.{ArpRepr}
 use Rattle.interface_ingress.specs.ArpRepr.TheVariants as Arps
 use Rattle.interface.specs.IpRepr.{IpRepr}
 use Rattle.interface.specs.IpRepr.TheVariants as Ip
+use Rattle.interface_ingress.specs.Ipv4Address.{Ipv4Address}
 use Rattle.interface.specs.Ipv4Repr.{Ipv4Repr}
+use Rattle.interface_ingress.specs.Ipv6Address.{Ipv6Address}
 use Rattle.interface.specs.Ipv6Repr.{Ipv6Repr}
 use Rattle.interface.specs.SameHost.{IsSameHost}
 use Rattle.ip_tcp.specs.declared.header.TcpHeader.{TcpHeader}
 use Rattle.sockets.specs.Packet.{PayloadValue, ControlV4, ControlV6, Bytes, Datagram, Segment}
 use Rattle.interface_egress.specs.Departing.{HasSettingsOf}
 use Rattle.interface_tables.specs.ErrorLimit.{answered_at}
-use Rattle.interface_tables.specs.Inner.{InnerValue, at_moment, context_of, with_error, with_path}
+use Rattle.interface_tables.specs.Inner.{InnerValue, at_moment, context_of, is_local_broadcast, is_own_solicited_node, with_error, with_path}
 use Rattle.interface_tables.specs.PathMtu.{entered, entered_at, heard_of, is_news, lowered, path_room, place_of, victim}
 use Rattle.interface_tables.specs.declared.path_mtu.Path.{Path}
 use Rattle.interface_ingress.specs.Arp.{teaches, learned, arp_arrived}
 use Rattle.interface_ingress.specs.Arrives.{Arrived, ArrivesV4, ArrivesV6, Brings, Hands, is_direct, sender_of, renewed, renewed_by, whole_after}
 use Rattle.interface_ingress.specs.Delivered.{Places, drawn_if, is_taken_raw, packet_delivered, segment_draws}
-use Rattle.interface_ingress.specs.Handed.{handed_host, handed_reply, is_unclaimed, limited_host, message_host, names_nobody, segment_host}
+use Rattle.interface_ingress.specs.Handed.{handed_host, handed_reply, is_for_many, is_unclaimed, limited_host, message_host, names_nobody, segment_host}
 use Rattle.interface_ingress.specs.Heard.{neighbor_heard}
 use Rattle.interface_ingress.specs.Incoming.{IncomingValue, Arp, Ip4, Ip6}
 use Rattle.interface_ingress.specs.Kept.{HasSameSettings}
@@ -57,26 +60,55 @@ segment_errors i places ip header bytes = by_errors (names_nobody i ip) (segment
 
 -- WHAT COMES TO THIS HOST
 
--- no loopback address is in it but one of a family of which the host has one
+-- It comes from one host, or from the unspecified address; and no loopback address is in it but one of a family of which the host has one.
+pub record IsFromOne (i : InnerValue) (source destination : IpAddress) : Type 0 where
+  pub here : is_astray i source destination ≡ false
+  pub one : is_unspecified source ≡ false → is_for_many i source ≡ false
+
 abbrev pub IsHome : InnerValue → Option IncomingValue → Type 0
 IsHome i None = Unit {0}
 IsHome i (Some (Arp link packet)) = Unit {0}
-IsHome i (Some (Ip4 link header piece payload)) = is_astray i (Address.Ipv4 header.src_addr) (Address.Ipv4 header.dst_addr) ≡ false
-IsHome i (Some (Ip6 link header payload)) = is_astray i (Address.Ipv6 header.src_addr) (Address.Ipv6 header.dst_addr) ≡ false
+IsHome i (Some (Ip4 link header piece payload)) = IsFromOne i (Address.Ipv4 header.src_addr) (Address.Ipv4 header.dst_addr)
+IsHome i (Some (Ip6 link header payload)) = IsFromOne i (Address.Ipv6 header.src_addr) (Address.Ipv6 header.dst_addr)
 
 -- what the host takes in of a content
-taken_cut : (i : InnerValue) (h : Bool) (heard sender astray : Bool) → (heard && sender && not astray) ≡ h → h ≡ true → astray ≡ false
-taken_cut i h true true false is so = refl
-taken_cut i h true true true is so = absurd (let clash : false ≡ true = is ∙ so in cc)
-taken_cut i h true false astray is so = absurd (let clash : false ≡ true = is ∙ so in cc)
-taken_cut i h false sender astray is so = absurd (let clash : false ≡ true = is ∙ so in cc)
+clash : {X : Type 0} → true ≡ false → X
+clash {X} e = absurd cc
+
+taken_cut : (heard sender astray : Bool) → (heard && sender && not astray) ≡ true → (sender ≡ true) × (astray ≡ false)
+taken_cut true true false is = (refl, refl)
+taken_cut true true true is = clash (sym is)
+taken_cut true false astray is = clash (sym is)
+taken_cut false sender astray is = clash (sym is)
+
+one_v4 : (nowhere group every here : Bool) → ((not (nowhere || group || every) && not here) || nowhere) ≡ true → nowhere ≡ false → (here || group) ≡ false
+one_v4 false false false false is named = refl
+one_v4 false true every here is named = clash (sym is)
+one_v4 false false true here is named = clash (sym is)
+one_v4 false false false true is named = clash (sym is)
+one_v4 true group every here is named = clash named
+
+one_v6 : (nowhere group own control near : Bool) → (not (nowhere || group) || (nowhere && own && control && near)) ≡ true → nowhere ≡ false → group ≡ false
+one_v6 false false own control near is named = refl
+one_v6 false true own control near is named = clash (sym is)
+one_v6 true group own control near is named = clash named
 
 home_taken : (i : InnerValue) (v : IncomingValue) → is_taken_in i v ≡ true → IsHome i (Some v)
 home_taken i (Arp link packet) is = tt
 home_taken i (Ip4 link h piece payload) is =
-    taken_cut i true (is_heard i link) (is_sender i h.src_addr) (is_astray i (Address.Ipv4 h.src_addr) (Address.Ipv4 h.dst_addr)) is refl
+    let a : Ipv4Address = h.src_addr in
+    let cut = taken_cut (is_heard i link) (is_sender i a) (is_astray i (Address.Ipv4 a) (Address.Ipv4 h.dst_addr)) is in
+    record {
+      here = cut.1;
+      one = one_v4 (is_unspecified_v4 a) (is_multicast_v4 a) (is_broadcast_v4 a) (is_local_broadcast i (Address.Ipv4 a)) cut.0;
+    }
 home_taken i (Ip6 link h payload) is =
-    taken_cut i true (is_heard i link) (is_sender_v6 i h) (is_astray i (Address.Ipv6 h.src_addr) (Address.Ipv6 h.dst_addr)) is refl
+    let a : Ipv6Address = h.src_addr in
+    let cut = taken_cut (is_heard i link) (is_sender_v6 i h) (is_astray i (Address.Ipv6 a) (Address.Ipv6 h.dst_addr)) is in
+    record {
+      here = cut.1;
+      one = one_v6 (is_unspecified_v6 a) (is_multicast_v6 a) (is_own_solicited_node i h.dst_addr) (is_control_v6 h.next_header) (h.hop_limit == 255) cut.0;
+    }
 
 taken_if : (i : InnerValue) (v : IncomingValue) (taken : Bool) → is_taken_in i v ≡ taken → IsHome i (if taken then Some v else None)
 taken_if i v true is = home_taken i v is
@@ -88,7 +120,7 @@ taken_home i (Some v) = taken_if i v (is_taken_in i v) refl
 
 -- a datagram that is rebuilt has the addresses of its last piece
 rebuilt_v4_home : (i : InnerValue) (link : Option EthernetRepr) (h : Ipv4Repr) (bytes : Option (List ℕ)) →
-    is_astray i (Address.Ipv4 h.src_addr) (Address.Ipv4 h.dst_addr) ≡ false → IsHome i (rebuilt link h bytes)
+    IsFromOne i (Address.Ipv4 h.src_addr) (Address.Ipv4 h.dst_addr) → IsHome i (rebuilt link h bytes)
 rebuilt_v4_home i link h None home = tt
 rebuilt_v4_home i link h (Some bytes) home = by (nat_lt (length bytes) (2 ^ 16 - 20)) where
   by : (fits : Bool) → IsHome i (if fits then Some (Ip4 link (record h { payload_len = length bytes }) uncut bytes) else None)
@@ -96,7 +128,7 @@ rebuilt_v4_home i link h (Some bytes) home = by (nat_lt (length bytes) (2 ^ 16 -
   by false = tt
 
 rebuilt_v6_home : (i : InnerValue) (link : Option EthernetRepr) (h : Ipv6Repr) (bytes : Option (List ℕ)) →
-    is_astray i (Address.Ipv6 h.src_addr) (Address.Ipv6 h.dst_addr) ≡ false → IsHome i (rebuilt_v6 link h bytes)
+    IsFromOne i (Address.Ipv6 h.src_addr) (Address.Ipv6 h.dst_addr) → IsHome i (rebuilt_v6 link h bytes)
 rebuilt_v6_home i link h None home = tt
 rebuilt_v6_home i link h (Some bytes) home = by (nat_lt (length bytes) (2 ^ 16)) where
   by : (fits : Bool) → IsHome i (if fits then Some (Ip6 link (record h { next_header = Protocol.Ipv6Frag; payload_len = length bytes }) bytes) else None)

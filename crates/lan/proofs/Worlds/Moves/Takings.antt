@@ -21,12 +21,12 @@ use Rattle.interface_ingress.specs.Arrives.{ReplyValue, Arrived, ArrivesV4, Arri
 use Rattle.interface_ingress.specs.Arrives.{sender_of}
 use Rattle.interface_ingress.specs.Delivered.{changed_at, packet_by, packet_delivered, is_taken_raw, datagram_place, segment_place, segment_answer_at}
 use Rattle.interface_ingress.specs.Delivered.{with_segment}
-use Rattle.interface_ingress.specs.Reassembled.{is_astray}
+use Rattle.interface_ingress.specs.AddressTests.{is_unspecified}
 use Rattle.sockets.specs.Context.{ContextValue}
 use Rattle.sockets.specs.Replies.{packet_in}
 use Rattle.tcp_model.specs.Controls.{is_rst}
 use Rattle.tcp_model.specs.Segments.{rst_reply}
-use Rattle.interface_ingress.specs.Handed.{control_v4_places, control_v6_places, names_nobody, handed_reply, if_it_may, is_unclaimed, let_go, limited_host}
+use Rattle.interface_ingress.specs.Handed.{control_v4_places, control_v6_places, is_for_many, names_nobody, handed_reply, if_it_may, is_unclaimed, let_go, limited_host}
 use Rattle.interface_ingress.specs.Handed.{limited_reply, segment_host, HandsTo}
 use Rattle.interface_ingress.proofs.Limit.{let_go_counted, let_go_so}
 use Rattle.interface_ingress.specs.Incoming.{IncomingValue, Arp, Ip4, Ip6}
@@ -40,8 +40,8 @@ use Rattle.lan.specs.Worlds.Moves.Answered.{AnswerLeft}
 use Rattle.lan.specs.Worlds.Moves.Follows.{sockets_of}
 use Rattle.lan.proofs.Worlds.Moves.Following.{Reaches}
 use Rattle.lan.proofs.Worlds.Moves.Frames.{Frames}
-use Rattle.lan.proofs.Worlds.Moves.Held.{IsAsAt, IsBetweenHosts, nobodies, seen_at, shows, strays}
-use Rattle.lan.proofs.Worlds.Moves.Later.{IsHome, past_it, segment_errors}
+use Rattle.lan.proofs.Worlds.Moves.Held.{IsAsAt, IsBetweenHosts, for_us, many, nobodies, seen_at, shows, strays}
+use Rattle.lan.proofs.Worlds.Moves.Later.{IsFromOne, IsHome, past_it, segment_errors}
 use Rattle.lan.specs.Worlds.Moves.Made.{IsMade, HandsMade, BringsMade, datagram_of}
 use Rattle.lan.specs.Worlds.Moves.Taken.{BringsIn, ComesNext, HandsIn, IfSegment}
 use Rattle.lan.proofs.Worlds.Moves.MadeReplies.{IsMadeReply}
@@ -73,6 +73,23 @@ counted_later : (i0 i after now : InnerValue) → i0.errors_until ≤ℤ i.error
 counted_later i0 i after now low same is still = past_it i0.errors_until i.errors_until after.moment low
     (ap (λ (u : ℤ). answered_at u after.moment) (sym same) ∙ ap (λ (x : InnerValue). x.errors_until) (sym is) ∙ still)
 
+-- a packet that names two hosts comes from one
+no_first : (a b : Bool) → (a || b) ≡ false → a ≡ false
+no_first true b is = absurd (let clash : true ≡ false = is in cc)
+no_first false b is = refl
+
+somebody_named : (i : InnerValue) (ip : IpRepr) → names_nobody i ip ≡ false → is_unspecified (source_of ip) ≡ false
+somebody_named i ip somebody =
+    no_first (is_unspecified (source_of ip)) (is_unspecified (destination_of ip) || is_for_many i (destination_of ip)) somebody
+
+-- what comes to a host from one comes so to the host that it was
+module _ (i0 i : InnerValue) (t : ℤ) (like : IsAsAt i0 t i) where
+  from_one_so : (source destination : IpAddress) → IsFromOne i source destination → IsFromOne i0 source destination
+  from_one_so source destination home = record {
+    here = sym (strays i0 i (seen_at i0 i t like) source destination) ∙ home.here;
+    one = λ named. sym (many i0 i (seen_at i0 i t like) source) ∙ home.one named;
+  }
+
 module _ (names : List ℕ → Bool) (side : Side) (C G : Type 0) (F : Frames) (i0 : InnerValue) (t : ℤ) (net now : Net) (r : Reaches names side C G F i0 t net now) where
   -- WHAT ANSWERS goes, where the device gives leave
 
@@ -89,7 +106,7 @@ module _ (names : List ℕ → Bool) (side : Side) (C G : Type 0) (F : Frames) (
   -- A PAYLOAD
 
   module _ (i : InnerValue) (places : Places) (ip : IpRepr) (payload : List ℕ) (taken : Bool) (has : (party now side).sockets ≡ sockets_of places)
-      (like : IsAsAt i0 t i) (here : is_astray i0 (source_of ip) (destination_of ip) ≡ false) where
+      (like : IsAsAt i0 t i) (home : IsFromOne i0 (source_of ip) (destination_of ip)) (ours : is_for_us i0 (destination_of ip) ≡ true) where
     abbrev Ends : Places → Option PacketValue → Type 0
     Ends qs reply = Answered names side C G F i0 t net now (sockets_of qs) reply
 
@@ -126,7 +143,12 @@ module _ (names : List ℕ → Bool) (side : Side) (C G : Type 0) (F : Frames) (
       Goes = (names_nobody i ip ≡ false) × (segment_place ip header places ≡ None) × ((taken || is_rst header.control) ≡ false) × (may_tell i ≡ true)
 
       between : names_nobody i ip ≡ false → IsBetweenHosts i0 ip
-      between somebody = record { somebody = sym (nobodies i0 i (seen_at i0 i t like) ip) ∙ somebody; here = here }
+      between somebody = record {
+        somebody = sym (nobodies i0 i (seen_at i0 i t like) ip) ∙ somebody;
+        one = home.one (somebody_named i ip somebody);
+        ours = ours;
+        here = home.here;
+      }
 
       reset_if : (quiet goes : Bool) → names_nobody i ip ≡ false → (quiet ≡ false → goes ≡ true → C → ⊥)
           → Ends places (let r : Option PacketValue = if_goes goes (if quiet then None else packet_by (Some (rst_reply ip header (length bytes)))) in r)
@@ -299,13 +321,15 @@ module _ (names : List ℕ → Bool) (side : Side) (C G : Type 0) (F : Frames) (
     abbrev IfOurs : IpRepr → List ℕ → List Step → Type 0
     IfOurs ip payload steps = is_for_us i (destination_of ip) ≡ true → HandsIn side i0 t net ip payload steps
 
-    here : (link : Option EthernetRepr) (ip : IpRepr) (payload : List ℕ) (a : Arrived) → is_astray i (source_of ip) (destination_of ip) ≡ false →
+    here : (link : Option EthernetRepr) (ip : IpRepr) (payload : List ℕ) (a : Arrived) → is_for_us i (destination_of ip) ≡ true →
+        IsFromOne i (source_of ip) (destination_of ip) →
         (C → a.inner.errors_until ≡ i0.errors_until) → Hands (renewed i link ip) (packet_delivered ip payload places) ip payload (is_taken_raw ip places) a
         → HandsMade (party net (other side)) i.checksums ip payload → AreLeft a → Ended names side C G F i0 t net now a.places a.reply (IfOurs ip payload)
-    here link ip payload a home c is made answers =
+    here link ip payload a ours home c is made answers =
         let later = renewed_as i link ip like in
         let end = hands (renewed i link ip) (packet_delivered ip payload places) ip payload (is_taken_raw ip places) (has ∙
-        sym (packet_delivered_same ip payload places)) later (sym (strays i0 i (seen_at i0 i t like) (source_of ip) (destination_of ip)) ∙ home) i.checksums a
+        sym (packet_delivered_same ip payload places)) later (from_one_so i0 i t like (source_of ip) (destination_of ip) home)
+        (sym (for_us i0 i (seen_at i0 i t like) (destination_of ip)) ∙ ours) i.checksums a
         (later.settings.checksums ∙ sym like.settings.checksums) c is made answers in
         record { moved = end.moved; made = end.made; brings = λ ours. end.brings }
 
@@ -313,16 +337,16 @@ module _ (names : List ℕ → Bool) (side : Side) (C G : Type 0) (F : Frames) (
     theirs ours ip payload is none steps = λ so. (let both : true ≡ false = sym so ∙ is ∙ none in absurd (cc))
 
     v4 : (ours : Bool) (link : Option EthernetRepr) (ip : IpRepr) (payload : List ℕ) (a : Arrived) → is_for_us i (destination_of ip) ≡ ours →
-        is_astray i (source_of ip) (destination_of ip) ≡ false → (C → a.inner.errors_until ≡ i0.errors_until) → ArrivesV4 ours i places link ip payload a →
+        IsFromOne i (source_of ip) (destination_of ip) → (C → a.inner.errors_until ≡ i0.errors_until) → ArrivesV4 ours i places link ip payload a →
         HandsMade (party net (other side)) i.checksums ip payload → AreLeft a → Ended names side C G F i0 t net now a.places a.reply (IfOurs ip payload)
-    v4 true link ip payload a so home c is made answers = here link ip payload a home c is made answers
+    v4 true link ip payload a so home c is made answers = here link ip payload a so home c is made answers
     v4 false link ip payload a so home c is made answers =
         silent i places (packet_delivered ip payload places) a (IfOurs ip payload) (theirs false ip payload so refl) has (packet_delivered_same ip payload places) is
 
     v6 : (ours : Bool) (link : Option EthernetRepr) (ip : IpRepr) (payload : List ℕ) (a : Arrived) → is_for_us i (destination_of ip) ≡ ours →
-        is_astray i (source_of ip) (destination_of ip) ≡ false → (C → a.inner.errors_until ≡ i0.errors_until) → ArrivesV6 ours i places link ip payload a →
+        IsFromOne i (source_of ip) (destination_of ip) → (C → a.inner.errors_until ≡ i0.errors_until) → ArrivesV6 ours i places link ip payload a →
         HandsMade (party net (other side)) i.checksums ip payload → AreLeft a → Ended names side C G F i0 t net now a.places a.reply (IfOurs ip payload)
-    v6 true link ip payload a so home c is made answers = here link ip payload a home c is made answers
+    v6 true link ip payload a so home c is made answers = here link ip payload a so home c is made answers
     v6 false link ip payload a so home c is made answers = silent i places places a (IfOurs ip payload) (theirs false ip payload so refl) has refl is
 
     pub brings_moves : (content : Option IncomingValue) (a : Arrived) → IsHome i content → (C → a.inner.errors_until ≡ i0.errors_until) →
