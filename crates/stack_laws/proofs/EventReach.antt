@@ -201,57 +201,57 @@ first_ends starts fresh B = new_ends (start starts B).host.inner _ (first_net st
 one_pair : (a b : EndpointPair) → Some a ≡ Some b → a ≡ b
 one_pair a b e = cc
 
-module _ (starts : Starts) (fresh : IsFreshWorld starts) (history : List Entry) (hosts : Stations) (typed : AreTyped history) (still : StillRun starts history hosts)
-  where
-    abbrev inner : Side → InnerValue
-    inner s = (start starts s).host.inner
+module _ (starts : Starts) (fresh : IsFreshWorld starts) (history : List Entry) (hosts : Stations) (typed : AreTyped history)
+    (still : StillRun starts history hosts) where
+  abbrev inner : Side → InnerValue
+  inner s = (start starts s).host.inner
 
-    pub outward : (side : Side) → list_any (λ b. is_loopback (block_address b)) (inner side).addresses ≡ false
-    outward side =
-        let it = now_still starts history hosts still side in ap (list_any (λ b. is_loopback (block_address b))) (sym it.addresses) ∙ it.outward
+  pub outward : (side : Side) → list_any (λ b. is_loopback (block_address b)) (inner side).addresses ≡ false
+  outward side =
+      let it = now_still starts history hosts still side in ap (list_any (λ b. is_loopback (block_address b))) (sym it.addresses) ∙ it.outward
 
-    ends_at : (side : Side) (place : ℕ) (P : TcpValue → Type 0) → IsAtHost place (station hosts side) P
-        → IsAtHost place (station hosts side) (λ v. HasEnds (inner side) v × P v)
-    ends_at side place P is =
-        let came = has_come starts history hosts fresh typed (ran starts history hosts still) in
-        let all : AllHave inner names came.net =
-        subst (AllHave inner names) came.ends
-        (run_ends inner names at_zero (first_net starts) came.steps (moments starts hosts) came.may (held_run starts history hosts fresh typed still)
-        (first_ends starts fresh)) in
-        tcp_so (slice_index_or (sockets_of (station hosts side).places) place None) P (λ v. HasEnds (inner side) v × P v)
-        (λ v there so. (all side place v (ap (λ (ss : List (Option Socket)). slice_index_or ss place None) (came.of.sockets side) ∙ there), so)) is
+  ends_at : (side : Side) (place : ℕ) (P : TcpValue → Type 0) → IsAtHost place (station hosts side) P
+      → IsAtHost place (station hosts side) (λ v. HasEnds (inner side) v × P v)
+  ends_at side place P is =
+      let came = has_come starts history hosts fresh typed (ran starts history hosts still) in
+      let all : AllHave inner names came.net =
+      subst (AllHave inner names) came.ends
+      (run_ends inner names at_zero (first_net starts) came.steps (moments starts hosts) came.may (held_run starts history hosts fresh typed still)
+      (first_ends starts fresh)) in
+      tcp_so (slice_index_or (sockets_of (station hosts side).places) place None) P (λ v. HasEnds (inner side) v × P v)
+      (λ v there so. (all side place v (ap (λ (ss : List (Option Socket)). slice_index_or ss place None) (came.of.sockets side) ∙ there), so)) is
 
-    module _ (places : Side → ℕ) (pairs : Side → EndpointPair) (connected : AreBoth (λ side. IsConnected (pairs side)) places hosts) where
-      has_ends : (side : Side) → (v : TcpValue) × HasEnds (inner side) v × IsConnected (pairs side) v
-      has_ends side =
-          let it = is_tcp (slice_index_or (sockets_of (station hosts side).places) (places side) None) (λ v. HasEnds (inner side) v × IsConnected (pairs side) v)
-          (ends_at side (places side) (IsConnected (pairs side)) (connected side)) in
-          (it.0, it.2.0, it.2.1)
+  module _ (places : Side → ℕ) (pairs : Side → EndpointPair) (connected : AreBoth (λ side. IsConnected (pairs side)) places hosts) where
+    has_ends : (side : Side) → (v : TcpValue) × HasEnds (inner side) v × IsConnected (pairs side) v
+    has_ends side =
+        let it = is_tcp (slice_index_or (sockets_of (station hosts side).places) (places side) None) (λ v. HasEnds (inner side) v × IsConnected (pairs side) v)
+        (ends_at side (places side) (IsConnected (pairs side)) (connected side)) in
+        (it.0, it.2.0, it.2.1)
 
-      pub named : (side : Side) → (pairs side).local_port ≢ 0
-      named side = let (v, ends, is) = has_ends side in ends.named (pairs side) is.1
+    pub named : (side : Side) → (pairs side).local_port ≢ 0
+    named side = let (v, ends, is) = has_ends side in ends.named (pairs side) is.1
 
-      pub between : (side : Side) → IsBetween (inner side) (pairs side).addresses
-      between side = let (v, ends, is) = has_ends side in ends.heard (later_past v.block.state is.0) (pairs side) is.1
+    pub between : (side : Side) → IsBetween (inner side) (pairs side).addresses
+    between side = let (v, ends, is) = has_ends side in ends.heard (later_past v.block.state is.0) (pairs side) is.1
 
-    -- AT HOME
-    home_named : (side : Side) (o : Option EndpointPair) → ((pair : EndpointPair) → o ≡ Some pair → IsBetween (inner side) pair.addresses)
-        → IfSome o (IsAtHome (inner side))
-    home_named side None heard = tt
-    home_named side (Some pair) heard =
-        let is = are_hosts (inner side) pair (outward side) (heard pair refl) in
-        let local : IpAddress = local_of pair.addresses in
-        record {
-          own = own_of (inner side) local (heard pair refl).ours is.one (outward_so local is.outward);
-          one_host = (heard pair refl).one;
-        }
+  -- AT HOME
+  home_named : (side : Side) (o : Option EndpointPair) → ((pair : EndpointPair) → o ≡ Some pair → IsBetween (inner side) pair.addresses)
+      → IfSome o (IsAtHome (inner side))
+  home_named side None heard = tt
+  home_named side (Some pair) heard =
+      let is = are_hosts (inner side) pair (outward side) (heard pair refl) in
+      let local : IpAddress = local_of pair.addresses in
+      record {
+        own = own_of (inner side) local (heard pair refl).ours is.one (outward_so local is.outward);
+        one_host = (heard pair refl).one;
+      }
 
-    pub home_at : (side : Side) (place : ℕ) → IsAtHost place (station hosts side) (λ v. is_past v.block.state ≡ true)
-        → IsAtHost place (station hosts side) (λ v. IfSome v.block.names.pair (IsAtHome (inner side)))
-    home_at side place is =
-        tcp_so (slice_index_or (sockets_of (station hosts side).places) place None) (λ v. HasEnds (inner side) v × (is_past v.block.state ≡ true))
-        (λ v. IfSome v.block.names.pair (IsAtHome (inner side))) (λ v there so. home_named side v.block.names.pair (so.0.heard so.1))
-        (ends_at side place (λ v. is_past v.block.state ≡ true) is)
+  pub home_at : (side : Side) (place : ℕ) → IsAtHost place (station hosts side) (λ v. is_past v.block.state ≡ true)
+      → IsAtHost place (station hosts side) (λ v. IfSome v.block.names.pair (IsAtHome (inner side)))
+  home_at side place is =
+      tcp_so (slice_index_or (sockets_of (station hosts side).places) place None) (λ v. HasEnds (inner side) v × (is_past v.block.state ≡ true))
+      (λ v. IfSome v.block.names.pair (IsAtHome (inner side))) (λ v there so. home_named side v.block.names.pair (so.0.heard so.1))
+      (ends_at side place (λ v. is_past v.block.state ≡ true) is)
 
 module _ (starts : Starts) (places : Side → ℕ) (past more : List Entry) (hosts : Stations) (still : StillRun starts (more ++ past) hosts)
     (it : StaysConnected starts places past more hosts still) where

@@ -1,8 +1,8 @@
 -- A receive buffer for more than was written and not read isn't full: what waits in it was written.
-use Rattle.std.proofs.Common.{◌≡◌, ℕ, ◌+◌, ◌<◌, ◌≤◌, true, List, [], ◌∷◌, ◌++◌, length, Option, Some, None, refl, sym, ap, ◌∙◌, arith}
+use Rattle.std.proofs.Common.{◌≡◌, ℕ, ◌+◌, ◌<◌, ◌≤◌, List, [], ◌∷◌, ◌++◌, length, Option, Some, None, refl, ap, arith}
 use Rattle.std.proofs.lemmas.List.{length-append}
 use Rattle.std.specs.Prelude.{slice_index_or}
-use Rattle.tcp_model.specs.Value.{TcpValue, free_in, room_of}
+use Rattle.tcp_model.specs.Value.{TcpValue, free_in}
 use Rattle.tcp_tie.specs.Safe.{IsPrefixOf}
 use Rattle.lan.specs.declared.at_link.history.event.Side.{Side}
 use Rattle.lan.specs.declared.at_link.history.event.Side.TheVariants.{A, B}
