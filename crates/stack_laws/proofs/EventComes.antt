@@ -2,11 +2,12 @@
 use Rattle.std.proofs.Common.{◌≡◌, inl, inr, ℕ, ℤ, pos, ◌+ℤ◌, List, [], ◌∷◌, ◌++◌, Some, sym, ap, ◌∙◌, subst}
 use Rattle.std.specs.Prelude.{slice_get}
 use Rattle.std.specs.List.{AllByRecursion}
+use Rattle.ip_wire.specs.HardwareAddress.{HardwareAddress}
 use Rattle.ip_wire.specs.TcpHeader.{TcpHeader}
+use Rattle.interface.specs.Delivered.{AreOfOneMedium}
 use Rattle.tcp_control.specs.declared.endpoints.EndpointPair.{EndpointPair}
 use Rattle.tcp_model.specs.Value.{TcpValue}
 use Rattle.tcp_tie.specs.Host.{Made}
-use Rattle.lan_base.specs.Medium.TheVariants as Medium
 use Rattle.lan.specs.declared.at_link.history.event.Side.{Side}
 use Rattle.lan.specs.declared.at_link.history.event.Side.TheVariants.{A, B}
 use Rattle.lan.specs.declared.at_link.history.record.Opening.{Opening}
@@ -34,6 +35,8 @@ use Rattle.stack_laws.specs.Progress.Carried.{AreCarried}
 use Rattle.stack_laws.specs.Progress.Ends.{AreConnected, AreEnds}
 use Rattle.stack_laws.specs.Progress.Events.{AreOfEvent, IsOfPoll, MoveBy, clock_in, shown_in, untimed}
 use Rattle.stack_laws.specs.Progress.Hearing.{AreSo, IsSoAt}
+use Rattle.stack_laws.specs.Progress.Acquainted.{AreAcquainted}
+use Rattle.stack_laws.specs.Progress.KnownHops.{KnowEachOther}
 use Rattle.stack_laws.specs.Progress.Linked.{AreLinked}
 use Rattle.stack_laws.specs.Progress.Moving as Moving
 use Rattle.stack_laws.specs.Progress.OneClock.{timed}
@@ -43,6 +46,7 @@ use Rattle.stack_laws.proofs.EventFacts as Facts
 use Rattle.stack_laws.proofs.EventFacts.{call_none, moves_run}
 use Rattle.stack_laws.proofs.EventFrames.{IsFrameOf}
 use Rattle.stack_laws.proofs.EventHears.{Brings, IsBroughtBy, poll_quiet}
+use Rattle.stack_laws.proofs.EventHops.{acquainted}
 use Rattle.stack_laws.proofs.EventMade.{AreOpened, IsNoReset, are_opened_then, stays_sent}
 use Rattle.stack_laws.proofs.EventMoves.{untimed_append}
 
@@ -86,12 +90,12 @@ begins starts net past (e ∷ more) hosts still moves by = begins starts net pas
 
 -- WITH NUMBERS
 
-module _ (ports : Side → ℕ → ℕ) (pls : Places) (seats : Side → Seat) (pairs : Side → EndpointPair) (IsSo : TcpValue → TcpHeader → List ℕ → Type 0) where
+module _ (ports : Side → ℕ → ℕ) (pls : Places) (seats : Side → Seat) (pairs : Side → EndpointPair) (own : Side → HardwareAddress) (IsSo : TcpValue → TcpHeader → List ℕ → Type 0) where
   abbrev places : Side → ℕ
   places side = (seats side).place
 
   abbrev Frame : Side → Made → List ℕ → Type 0
-  Frame side x frame = IsFrameOf (pairs side) x frame
+  Frame side x frame = IsFrameOf (pairs side) (own side) (own (other side)) x frame
 
   abbrev Bring : Side → Made → Step → Type 0
   Bring side x step = Brings places side x step
@@ -148,35 +152,61 @@ openings_of past places partners B = (partners.another, partners.partner_opened)
 
 are_brought : (starts : Starts) (so_far : List Step) (past more : List Entry) (hosts : Stations) (still : StillRun starts (more ++ past) hosts)
     (places : Side → ℕ) (pairs : Side → EndpointPair) (moves : List (ℤ × Happening)) (delay : ℕ) (on_way : Side → List (ℤ × List ℕ))
-    (IsSo : TcpValue → TcpHeader → List ℕ → Type 0) → IsFreshWorld starts → starts.a.capabilities.medium ≡ Medium.Ip → AreTyped (more ++ past)
+    (IsSo : TcpValue → TcpHeader → List ℕ → Type 0) (own : Side → HardwareAddress) → IsFreshWorld starts
+    → ((side : Side) → AreOfOneMedium (own side) (own (other side)) (own (other side))) → AreTyped (more ++ past)
     → IsRun names (first_net starts) so_far → ArePartners past A (places A) (places B) → AreEnds starts pairs
     → (by : MoveBy starts (run (first_net starts) so_far) past more hosts still (timed moves)) → GiveLeave starts past more hosts still
-    → AreConnected starts places pairs past more hosts still → AreCarried starts delay past more hosts still on_way
-    → AreSo IsSo (seats_of starts places) moves
+    → AreConnected starts places pairs past more hosts still → KnowEachOther own pairs starts past more hosts still
+    → AreCarried starts delay past more hosts still on_way → AreSo IsSo (seats_of starts places) moves
     → Moving.AreBrought IsSo (seats_of starts places) delay (run (first_net starts) so_far) moves
-are_brought starts so_far past more hosts still places pairs moves delay on_way IsSo fresh ip typed ran partners ends by leave connected carried so =
-    let pls = Facts.pls starts fresh ip places pairs ends in
-    let ports = Facts.ports starts fresh ip places pairs ends in
+are_brought starts so_far past more hosts still places pairs moves delay on_way IsSo own fresh of_one typed ran partners ends by leave connected known carried so =
+    let pls = Facts.pls starts fresh own of_one places pairs ends in
+    let ports = Facts.ports starts fresh own of_one places pairs ends in
     let net : Net = run (first_net starts) so_far in
     let openings = openings_of past places partners in
-    let facts = Facts.facts starts fresh ip places pairs ends so_far ran past openings more hosts still (timed moves) by typed leave connected in
-    let are = all_are (Brings places) (λ side x frame. IsFrameOf (pairs side) x frame) (sent_in (seats_of starts places)) starts net past delay more hosts still
+    let facts = Facts.facts starts fresh own of_one places pairs ends so_far ran past openings more hosts still (timed moves) by typed leave connected known in
+    let are = all_are (Brings places) (λ side x frame. IsFrameOf (pairs side) (own side) (own (other side)) x frame) (sent_in (seats_of starts places)) starts net past delay more hosts still
     (timed moves) on_way by facts carried in
     let kept : Kept ports pls net = kept_run ports pls (first_net starts) so_far (fresh_kept ports names (first_net starts) (fresh_net starts fresh)) ran in
-    all_so ports pls (seats_of starts places) pairs IsSo delay moves net kept
+    all_so ports pls (seats_of starts places) pairs own IsSo delay moves net kept
     (λ side. ((openings side).0, ap (λ (h : List Entry). opening h side (places side)) (begins starts net past more hosts still (timed moves) by) ∙ (openings side).1))
     (moves_run starts net past more hosts still (timed moves) by) (moves_quiet starts net past more hosts still (timed moves) by) so are
 
--- OVER LINKS
+-- WHERE HOSTS KNOW EACH OTHER
+
+pub brought_there : (starts : Starts) (so_far : List Step) (past more : List Entry) (hosts : Stations) (still : StillRun starts (more ++ past) hosts)
+    (places : Side → ℕ) (moves : List (ℤ × Happening)) (delay : ℕ) (IsSo : TcpValue → TcpHeader → List ℕ → Type 0) → IsFreshWorld starts
+    → AreTyped (more ++ past) → IsRun names (first_net starts) so_far → ArePartners past A (places A) (places B)
+    → MoveBy starts (run (first_net starts) so_far) past more hosts still (timed moves) → AreAcquainted starts places delay past more hosts still
+    → AreSo IsSo (seats_of starts places) moves → Moving.AreBrought IsSo (seats_of starts places) delay (run (first_net starts) so_far) moves
+brought_there starts so_far past more hosts still places moves delay IsSo fresh typed ran partners by linked so =
+    are_brought starts so_far past more hosts still places linked.pairs moves delay linked.on_way IsSo linked.own fresh linked.medium typed ran partners linked.ends
+    by linked.leave linked.connected linked.known linked.carried so
+
+pub come_there : (starts : Starts) (so_far : List Step) (past more : List Entry) (hosts : Stations) (still : StillRun starts (more ++ past) hosts)
+    (places : Side → ℕ) (moves : List (ℤ × Happening)) (delay : ℕ) → IsFreshWorld starts → AreTyped (more ++ past) → IsRun names (first_net starts) so_far
+    → ArePartners past A (places A) (places B) → MoveBy starts (run (first_net starts) so_far) past more hosts still (timed moves)
+    → AreAcquainted starts places delay past more hosts still → AreSo Moving.IsFreshFor (seats_of starts places) moves
+    → Moving.ComeFresh (seats_of starts places) delay (run (first_net starts) so_far) moves
+come_there starts so_far past more hosts still places moves delay = brought_there starts so_far past more hosts still places moves delay Moving.IsFreshFor
+
+pub heard_there : (starts : Starts) (so_far : List Step) (past more : List Entry) (hosts : Stations) (still : StillRun starts (more ++ past) hosts)
+    (places : Side → ℕ) (moves : List (ℤ × Happening)) (delay : ℕ) → IsFreshWorld starts → AreTyped (more ++ past) → IsRun names (first_net starts) so_far
+    → ArePartners past A (places A) (places B) → MoveBy starts (run (first_net starts) so_far) past more hosts still (timed moves)
+    → AreAcquainted starts places delay past more hosts still → AreSo Moving.IsHeardBy (seats_of starts places) moves
+    → Moving.AreHeard (seats_of starts places) delay (run (first_net starts) so_far) moves
+heard_there starts so_far past more hosts still places moves delay = brought_there starts so_far past more hosts still places moves delay Moving.IsHeardBy
+
+-- OVER LINKS of a medium that has no hardware addresses
 
 pub brought_over : (starts : Starts) (so_far : List Step) (past more : List Entry) (hosts : Stations) (still : StillRun starts (more ++ past) hosts)
     (places : Side → ℕ) (moves : List (ℤ × Happening)) (delay : ℕ) (IsSo : TcpValue → TcpHeader → List ℕ → Type 0) → IsFreshWorld starts
     → AreTyped (more ++ past) → IsRun names (first_net starts) so_far → ArePartners past A (places A) (places B)
     → MoveBy starts (run (first_net starts) so_far) past more hosts still (timed moves) → AreLinked starts places delay past more hosts still
     → AreSo IsSo (seats_of starts places) moves → Moving.AreBrought IsSo (seats_of starts places) delay (run (first_net starts) so_far) moves
-brought_over starts so_far past more hosts still places moves delay IsSo fresh typed ran partners by linked so =
-    are_brought starts so_far past more hosts still places linked.pairs moves delay linked.on_way IsSo fresh linked.medium typed ran partners linked.ends by
-    linked.leave linked.connected linked.carried so
+brought_over starts so_far past more hosts still places moves delay IsSo fresh typed ran partners by linked =
+    brought_there starts so_far past more hosts still places moves delay IsSo fresh typed ran partners by
+    (acquainted starts places delay past more hosts still fresh typed linked)
 
 pub come_over : (starts : Starts) (so_far : List Step) (past more : List Entry) (hosts : Stations) (still : StillRun starts (more ++ past) hosts)
     (places : Side → ℕ) (moves : List (ℤ × Happening)) (delay : ℕ) → IsFreshWorld starts → AreTyped (more ++ past) → IsRun names (first_net starts) so_far

@@ -2,6 +2,10 @@
 use Rattle.std.proofs.Common.{◌≡◌, ◌≢◌, inl, inr, ℕ, ◌≤◌, Bool, true, false, ℤ, IsTrue, List, [], ◌∷◌, ◌++◌, Option, Some, None, refl, sym, ap, ◌∙◌, subst, arith}
 use Rattle.std.specs.Prelude.{slice_get, slice_index_or, not, ◌&&◌}
 use Rattle.ip_packet.specs.declared.ip.repr.IpRepr.{IpRepr}
+use Rattle.std.proofs.lemmas.Bool.{or_left}
+use Rattle.std.proofs.lemmas.Slice.Eq.{bytes_eq-Decides}
+use Rattle.ip_wire.specs.AddressTests.{is_same_hardware}
+use Rattle.ip_wire.specs.HardwareAddress.{HardwareAddress}
 use Rattle.ip_wire.specs.HardwareAddress.TheVariants as Hardware
 use Rattle.ip_wire.specs.TcpHeader.{TcpHeader}
 use Rattle.tcp_control.specs.Endpoints.{local_of, remote_of}
@@ -14,10 +18,9 @@ use Rattle.tcp_model.specs.Value.{TcpValue}
 use Rattle.tcp_progress.specs.Arrivals.{is_synchronized}
 use Rattle.tcp_progress.proofs.Accepts.{accepted_by, between}
 use Rattle.tcp_tie.specs.Host.{Made, made_of}
+use Rattle.interface.specs.Delivered.{AreOfOneMedium}
 use Rattle.interface_tables.specs.Inner.{InnerValue}
 use Rattle.interface_tables.specs.Settings.{is_mtu}
-use Rattle.lan_base.specs.DeviceCapabilities.{DeviceCapabilities}
-use Rattle.lan_base.specs.Medium.TheVariants as Medium
 use Rattle.lan_base.specs.Port.{has_leave}
 use Rattle.lan.specs.declared.at_link.history.event.Side.{Side}
 use Rattle.lan.specs.declared.at_link.history.event.Side.TheVariants.{A, B}
@@ -54,6 +57,8 @@ use Rattle.lan.proofs.Worlds.StillOnward.{ran, seen_in_run}
 use Rattle.stack_laws.specs.Progress.Carried.{SendsIn}
 use Rattle.stack_laws.specs.Progress.Ends.{AreBoth, AreConnected, AreEnds, AreThroughout, GoesAlong, IsConnected}
 use Rattle.stack_laws.specs.Progress.Events.{AreGone, AreOfEvent, HappensBy, IsOfCall, MoveBy, clock_in, shown_in, untimed}
+use Rattle.stack_laws.specs.Progress.Delivered.{hears}
+use Rattle.stack_laws.specs.Progress.KnownHops.{KnowEachOther, KnowsOther, KnowsThroughout}
 use Rattle.stack_laws.specs.Progress.Leave.{LiesAmong}
 use Rattle.stack_laws.specs.Progress.Moving.{IsTcp}
 use Rattle.stack_laws.specs.Progress.Serving.{GiveLeave, GivesLeave}
@@ -63,12 +68,10 @@ use Rattle.stack_laws.proofs.EventFrames.{IsFrameOf, can_read, for_host_same, ne
 use Rattle.stack_laws.proofs.EventHeard.{IsReadyHost}
 use Rattle.stack_laws.proofs.EventHears.{Brings}
 use Rattle.stack_laws.proofs.EventHears as Hears
-use Rattle.stack_laws.proofs.EventLeave.{on_ip, same_link}
 use Rattle.stack_laws.proofs.EventMade.{AreOpened, IsNoReset, Makes, new_of}
 use Rattle.stack_laws.proofs.EventMoves.{untimed_append}
 use Rattle.stack_laws.proofs.EventPlaces.{at_net, comes_as_read}
 use Rattle.stack_laws.proofs.Polls.Connected.{late_at}
-use Rattle.stack_laws.proofs.SentOff.{is_ip}
 
 clash : {X : Type 0} → true ≡ false → X
 clash {X} e = absurd cc
@@ -84,6 +87,15 @@ back B = refl
 
 heard_with : (first i : InnerValue) (ip : IpRepr) → IsForHost first Hardware.Ip ip → IsForHost (with_routes first i) Hardware.Ip ip
 heard_with first i ip is = record { heard = is.heard; sender = is.sender; here = is.here; ours = is.ours; named = is.named }
+
+-- a host hears what is for its own address
+hears_its_own : (i : InnerValue) → hears i i.hardware ≡ true
+hears_its_own i = by i.hardware refl where
+  by : (h : HardwareAddress) → i.hardware ≡ h → hears i h ≡ true
+  by Hardware.Ip is = refl
+  by (Hardware.Ethernet station) is =
+      or_left (is_same_hardware i.hardware (Hardware.Ethernet station)) _
+      (ap (λ (h : HardwareAddress). is_same_hardware h (Hardware.Ethernet station)) is ∙ (bytes_eq-Decides station.0 station.0).1 refl)
 
 -- the socket of the other end has the connection of what goes along
 listens_not : (v : TcpValue) → is_synchronized v.block.state ≡ true → is_listening v.block.state ≡ false
@@ -157,7 +169,8 @@ both_now IsSo starts places past (e ∷ more) hosts still are = are.1
 
 -- A WORLD
 
-module _ (starts : Starts) (fresh : IsFreshWorld starts) (ip_medium : starts.a.capabilities.medium ≡ Medium.Ip) (places : Side → ℕ) (pairs : Side → EndpointPair)
+module _ (starts : Starts) (fresh : IsFreshWorld starts) (own : Side → HardwareAddress)
+    (of_one : (side : Side) → AreOfOneMedium (own side) (own (other side)) (own (other side))) (places : Side → ℕ) (pairs : Side → EndpointPair)
     (ends : AreEnds starts pairs) where
   abbrev pub seats : Side → Seat
   seats = seats_of starts places
@@ -186,24 +199,21 @@ module _ (starts : Starts) (fresh : IsFreshWorld starts) (ip_medium : starts.a.c
     seen : (s : Side) → IsSeenAs (first s) (inner s)
     seen s = seen_in_run starts history hosts still s
 
-    bare : (s : Side) → (inner s).hardware ≡ Hardware.Ip
-    bare s =
-        is_ip (inner s).hardware
-        (sym (well.joined.device s) ∙ ap (λ (c : DeviceCapabilities). c.medium) (same_link starts history hosts still s) ∙ on_ip starts fresh ip_medium s)
-
-    pub ready : (s : Side) → IsReadyHost (inner s) (pairs s)
-    ready s = record {
-      bare = bare s;
+    pub ready : (s : Side) → (inner s).hardware ≡ own s → IsReadyHost (inner s) (pairs s) (own s)
+    ready s its = record {
+      hardware = its;
       seals = (well.joined.sends s).sound.checksums;
       enough = subst (λ (n : ℕ). 576 ≤ n) (sym (seen s).mtu) (mtu_enough (first s).mtu (first_mtu s));
       widths = (well.joined.sends s).sound.widths;
       never = λ ip along. never_same (with_routes (first s) (inner s)) (inner s) (stayed (first s) (inner s) (seen s)) ip ∙ ends.let_go s ip along;
     }
 
-    pub for_host : (s : Side) (ip : IpRepr) → GoesAlong (pairs s) ip → IsForHost (inner (other s)) Hardware.Ip ip
-    for_host s ip along =
+    pub for_host : (s : Side) (ip : IpRepr) → (inner (other s)).hardware ≡ own (other s) → GoesAlong (pairs s) ip → IsForHost (inner (other s)) (own (other s)) ip
+    for_host s ip its along =
         let o = other s in
-        for_host_same (with_routes (first o) (inner o)) (inner o) (stayed (first o) (inner o) (seen o)) ip (heard_with (first o) (inner o) ip (ends.taken_in s ip along))
+        for_host_same (with_routes (first o) (inner o)) (inner o) (stayed (first o) (inner o) (seen o)) (own o) ip
+        (subst (λ (h : HardwareAddress). hears (inner o) h ≡ true) its (hears_its_own (inner o)))
+        (heard_with (first o) (inner o) ip (ends.taken_in s ip along))
 
   -- ONE EVENT
 
@@ -211,7 +221,7 @@ module _ (starts : Starts) (fresh : IsFreshWorld starts) (ip_medium : starts.a.c
   Brought side x step = Brings places side x step
 
   abbrev Frame : Side → Made → List ℕ → Type 0
-  Frame side x frame = IsFrameOf (pairs side) x frame
+  Frame side x frame = IsFrameOf (pairs side) (own side) (own (other side)) x frame
 
   abbrev pub Fact : Kind → Stations → Stations → Net → List Step → Type 0
   Fact k old new net steps = IsFact Brought Frame (sent_in seats) k old new net steps
@@ -261,18 +271,19 @@ module _ (starts : Starts) (fresh : IsFreshWorld starts) (ip_medium : starts.a.c
     passed_by k s are = none_goes (Gone k) net steps s (Passes e) kept opened happens.may are tt (λ place x makes. makes)
 
     -- a frame that is taken
-    taken : (side : Side) (t : ℤ) (budget : ℕ) → kind_of e.event ≡ OfHost (other side) (Polls t budget) → IsTrue (has_leave (station new (other side)).link)
+    taken : (side : Side) (t : ℤ) (budget : ℕ) → (station old (other side)).host.inner.hardware ≡ own (other side)
+        → kind_of e.event ≡ OfHost (other side) (Polls t budget) → IsTrue (has_leave (station new (other side)).link)
         → (x : Made) (frame : List ℕ) → Frame side x frame → LiesAmong (station old (other side)).link.waiting budget frame
         → BringsAmong Brought Frame (sent_in seats) side x steps
-    taken side t budget is leave x frame f lies =
+    taken side t budget its is leave x frame f lies =
         let o = other side in
-        let mine = ready history old still typed o in
+        let mine = ready history old still typed o its in
         let comes : ComesBy o (places o) t f.ip f.header f.bytes steps =
-        comes_as_read starts so_far steps history old new e o t budget (places o) f.i f.ident f.ip f.header f.bytes Hardware.Ip fresh so_far_runs of happens leads is
+        comes_as_read starts so_far steps history old new e o t budget (places o) f.i f.ident f.ip f.header f.bytes (own o) fresh so_far_runs of happens leads is
         leave f.wide f.written f.readable f.can f.formed
         (subst (LiesAmong (station old o).link.waiting budget) f.frame_is lies)
-        (can_read f.i (station old o).host.inner f.hardware mine.bare f.checksums mine.seals)
-        (for_host history old still typed side f.ip f.along)
+        (can_read f.i (station old o).host.inner (own side) (own o) (own o) (of_one side) f.hardware its f.checksums mine.seals)
+        (for_host history old still typed side f.ip its f.along)
         (tcp_so (slice_index_or (sockets_of (station old o).places) (places o) None) (IsConnected (pairs o)) (IsOfConnection f.ip f.header)
         (λ v is. connected_so (pairs side) (pairs o) f.ip f.header v is (ends.addresses side)
         (ends.addresses o ∙ ap (λ (s : Side). local_of (pairs s).addresses) (back side)) (ends.ports side)
@@ -291,17 +302,18 @@ module _ (starts : Starts) (fresh : IsFreshWorld starts) (ip_medium : starts.a.c
 
     -- a poll
     polled : (host : Side) (t : ℤ) (budget : ℕ) → kind_of e.event ≡ OfHost host (Polls t budget) → AreOfEvent e (OfHost host (Polls t budget)) (shown_in starts history) steps
-        → AreGone (OfHost host (Polls t budget)) old new steps
-        → IsTrue (has_leave (station new host).link) → Fact (OfHost host (Polls t budget)) old new net steps
-    polled host t budget is all gone leave =
+        → AreGone (OfHost host (Polls t budget)) old new steps → IsTrue (has_leave (station new host).link)
+        → KnowsOther own pairs (OfHost host (Polls t budget)) old new → Fact (OfHost host (Polls t budget)) old new net steps
+    polled host t budget is all gone leave known =
         let i0 : InnerValue = (station old host).host.inner in
         let start = at_net net old history host (places host) (IsConnected (pairs host)) of (connected host) in
         let end = at_net (run net steps) new (e ∷ history) host (places host) (IsConnected (pairs host)) happens.of (then_connected host) in
-        let went = Hears.went ports pls refl seats pairs e t host i0 ((station new host).host.inner.paths ≡ []) gone.0 (ready history old still typed host) (ends.named host) (remote_named host) end.0 end.2.0 steps net start.0 kept opened all happens.may gone.2
+        let went = Hears.went ports pls refl seats pairs own e t host i0 ((station new host).host.inner.paths ≡ []) (KnowsThroughout t (station old host) (station new host))
+        gone.0 known.1 (ready history old still typed host known.0) (ends.named host) (remote_named host) end.0 end.2.0 steps net start.0 kept opened all happens.may gone.2
         (gone.3 leave) start.1 (late_at start.0.block.state start.2.0) (inr start.2.1) end.1 in
         record {
           takes = λ side x frame f taking.
-              taken side t budget (is ∙ ap (λ (s : Side). OfHost s (Polls t budget)) taking.0)
+              taken side t budget (subst (λ (s : Side). (station old s).host.inner.hardware ≡ own s) taking.0 known.0) (is ∙ ap (λ (s : Side). OfHost s (Polls t budget)) taking.0)
               (subst (λ (s : Side). IsTrue (has_leave (station new s).link)) taking.0 leave) x frame f taking.1;
           goes = went_so (λ s frame. (s ≡ host) × ((n : ℕ) × (slice_get gone.0 n ≡ Some frame)))
               (Gone (OfHost host (Polls t budget))) net steps
@@ -314,28 +326,28 @@ module _ (starts : Starts) (fresh : IsFreshWorld starts) (ip_medium : starts.a.c
 
     -- an event that is none
     by_kind : (k : Kind) → kind_of e.event ≡ k → AreOfEvent e k (shown_in starts history) steps → AreGone k old new steps
-        → GivesLeave k new → Fact k old new net steps
-    by_kind (OfHost host (Polls t budget)) is all gone leave = polled host t budget is all gone leave
-    by_kind (OfHost host (Calls at call)) is (move, are, its) gone leave =
+        → GivesLeave k new → KnowsOther own pairs k old new → Fact k old new net steps
+    by_kind (OfHost host (Polls t budget)) is all gone leave known = polled host t budget is all gone leave known
+    by_kind (OfHost host (Calls at call)) is (move, are, its) gone leave known =
         let none = call_none e at call (shown_in starts history host) move its in
         record {
           takes = λ side x frame f taking. absurd taking;
           goes = none_goes (Gone (OfHost host (Calls at call))) net steps host
               move kept opened happens.may are none.0 none.1;
         }
-    by_kind (OfHost host (Sets setting)) is (s, are) gone leave = record {
+    by_kind (OfHost host (Sets setting)) is (s, are) gone leave known = record {
       takes = λ side x frame f taking. absurd taking;
       goes = passed_by (OfHost host (Sets setting)) s are;
     }
-    by_kind (OfHost host (Opens n)) is (s, are) gone leave = record {
+    by_kind (OfHost host (Opens n)) is (s, are) gone leave known = record {
       takes = λ side x frame f taking. absurd taking;
       goes = passed_by (OfHost host (Opens n)) s are;
     }
-    by_kind (OfHost host (Asks t)) is (s, are) gone leave = record {
+    by_kind (OfHost host (Asks t)) is (s, are) gone leave known = record {
       takes = λ side x frame f taking. absurd taking;
       goes = passed_by (OfHost host (Asks t)) s are;
     }
-    by_kind (OfLink act) is (s, are) gone leave = record {
+    by_kind (OfLink act) is (s, are) gone leave known = record {
       takes = λ side x frame f taking. absurd taking;
       goes = passed_by (OfLink act) s are;
     }
@@ -355,10 +367,10 @@ module _ (starts : Starts) (fresh : IsFreshWorld starts) (ip_medium : starts.a.c
 
     pub facts : (more : List Entry) (hosts : Stations) (still : StillRun starts (more ++ past) hosts) (moves : List (ℤ × Step))
         (by : MoveBy starts from past more hosts still moves) → AreTyped (more ++ past) → GiveLeave starts past more hosts still
-        → AreConnected starts places pairs past more hosts still
+        → AreConnected starts places pairs past more hosts still → KnowEachOther own pairs starts past more hosts still
         → AreFacts Brought Frame (sent_in seats) starts from past more hosts still moves by
-    facts [] hosts still moves by typed leave connected = tt
-    facts (e ∷ more) hosts still moves by typed leave connected =
+    facts [] hosts still moves by typed leave connected known = tt
+    facts (e ∷ more) hosts still moves by typed leave connected known =
         let before : List (ℤ × Step) = by.0 in
         let these : List Step = by.1 in
         let then_far : List Step = so_far ++ untimed before in
@@ -366,12 +378,12 @@ module _ (starts : Starts) (fresh : IsFreshWorld starts) (ip_medium : starts.a.c
         let runs : IsRun names (first_net starts) then_far =
         IsRun-append names (first_net starts) so_far (untimed before) so_far_runs (moves_run starts from past more still.0 still.1 before by.3) in
         let of : IsNetOf (run from (untimed before)) still.0 (more ++ past) = net_at starts from past more still.0 still.1 before by.3 in (
-          facts more still.0 still.1 before by.3 typed.1 leave.0 connected.0,
+          facts more still.0 still.1 before by.3 typed.1 leave.0 connected.0 known.0,
           subst (λ (n : Net). Fact (kind_of e.event) still.0 hosts n these) same
               (by_kind then_far runs (more ++ past) e still.0 hosts still.1 still.2 typed.1 these
               (subst (λ (n : Net). IsNetOf n still.0 (more ++ past)) (sym same) of)
               (subst (λ (n : Net). HappensBy starts (more ++ past) e still.0 hosts n these) (sym same) by.4)
               (both_now (λ side. IsConnected (pairs side)) starts places past more still.0 still.1 connected.0) connected.1
               (opened_at more (run (first_net starts) then_far) (ap (λ (n : Net). n.history) same ∙ of.history)) (kind_of e.event) refl by.4.are by.4.went
-              leave.1),
+              leave.1 known.1),
         )

@@ -21,7 +21,7 @@ use Rattle.interface_egress.specs.declared.plan.Plan.TheVariants as Way
 use Rattle.interface_ingress.specs.Packet.{Segment, packet_of}
 use Rattle.interface_ingress.specs.Sent.{AreSealed, CanBeRead}
 use Rattle.interface_ingress.specs.WellFormed.{IsWellFormed}
-use Rattle.interface_tables.specs.Inner.{InnerValue, link_address, link_on, may_come_from, mtu_to}
+use Rattle.interface_tables.specs.Inner.{InnerValue, link_address, may_come_from, mtu_to}
 use Rattle.interface_tables.specs.PathMtu.{least_mtu, mtu_by, mtu_towards, narrowed, path_to}
 use Rattle.interface_tables.specs.declared.link.LinkAddress.{LinkAddress}
 use Rattle.interface_tables.specs.declared.link.LinkAddress.TheVariants as Link
@@ -31,7 +31,7 @@ use Rattle.interface.specs.Ingress.{is_question}
 use Rattle.interface.specs.Taken.{CanRead, HasWidths}
 use Rattle.lan.specs.Worlds.Link.Made.{sealed}
 use Rattle.lan.proofs.Worlds.Moves.Held.{IsSeenAs}
-use Rattle.stack_laws.specs.Progress.Delivered.{reader_of}
+use Rattle.stack_laws.specs.Progress.Delivered.{hears, reader_of}
 use Rattle.stack_laws.specs.Progress.Ends.{GoesAlong}
 use Rattle.stack_laws.specs.Progress.Queued.{frame_under, with_ident}
 use Rattle.stack_laws.specs.Progress.Segments.{CanLeave}
@@ -83,9 +83,9 @@ module _ (i i' : InnerValue) (same : HasSettingsOf i i') where
   never_same ip k =
       is_unspecified (destination_of ip) || (foreign i i' same (destination_of ip) k || not (may_come (source_of ip) (destination_of ip) k))
 
-  pub for_host_same : (ip : IpRepr) → IsForHost i Hardware.Ip ip → IsForHost i' Hardware.Ip ip
-  for_host_same ip is = record {
-    heard = refl;
+  pub for_host_same : (to : HardwareAddress) (ip : IpRepr) → hears i' to ≡ true → IsForHost i Hardware.Ip ip → IsForHost i' to ip
+  for_host_same to ip heard is = record {
+    heard = heard;
     sender = sender i i' same (source_of ip) ∙ is.sender;
     here = astray i i' same (source_of ip) (destination_of ip) ∙ is.here;
     ours = for_us i i' same (destination_of ip) ∙ is.ours;
@@ -96,15 +96,14 @@ module _ (i i' : InnerValue) (same : HasSettingsOf i i') where
 all_sealed : AreSealed sealed sealed
 all_sealed = record { ipv4 = λ is. refl; icmpv4 = λ is. refl; icmpv6 = λ is. refl; udp = λ is. refl; tcp = λ is. refl }
 
-pub can_read : (i j : InnerValue) → i.hardware ≡ Hardware.Ip → j.hardware ≡ Hardware.Ip → i.checksums ≡ sealed → j.checksums ≡ sealed →
-    CanRead i Hardware.Ip (reader_of j)
-can_read i j from here seals tests = record {
-  medium = subst (λ (own : HardwareAddress). AreOfOneMedium own Hardware.Ip j.hardware) (sym from)
-      (subst (λ (own : HardwareAddress). AreOfOneMedium Hardware.Ip Hardware.Ip own) (sym here) (record { from = tt; receiver = tt }));
+pub can_read : (i j : InnerValue) (own to other : HardwareAddress) → AreOfOneMedium own to other → i.hardware ≡ own → j.hardware ≡ other → i.checksums ≡ sealed
+    → j.checksums ≡ sealed → CanRead i to (reader_of j)
+can_read i j own to other of_one from here seals tests = record {
+  medium = subst (λ (h : HardwareAddress). AreOfOneMedium h to j.hardware) (sym from) (subst (λ (h : HardwareAddress). AreOfOneMedium own to h) (sym here) of_one);
   sealed = subst (λ c. AreSealed c j.checksums) (sym seals) (subst (λ c. AreSealed sealed c) (sym tests) all_sealed);
 }
 
--- NO NEIGHBOUR IS ASKED FOR on a medium that has no hardware addresses
+-- NO NEIGHBOR IS ASKED FOR where the next hop is known
 
 asks_none : (to : HardwareAddress) (fits can busy : Bool) →
     is_question (if fits then Way.Go to else if can then (if busy then Way.Busy else Way.Cut to) else Way.Drop) ≡ false
@@ -113,36 +112,32 @@ asks_none to false true true = refl
 asks_none to false true false = refl
 asks_none to false false busy = refl
 
-pub never_asks : (i0 i : InnerValue) → HasSettingsOf i0 i → i0.hardware ≡ Hardware.Ip → (ip : IpRepr) (busy : Bool) → is_question (plan_of i busy ip) ≡ false
-never_asks i0 i settings ip_only ip busy = by (stays i (comes_from_here i ip) (destination_of ip)) where
-  known_so : plan_by (link_address i (destination_of ip)) i busy ip ≡ plan_by (Link.Known Hardware.Ip) i busy ip
-  known_so =
-      ap (λ (a : LinkAddress). plan_by a i busy ip)
-      (ap (λ (own : HardwareAddress). link_on own i (destination_of ip)) (settings.hardware ∙ ip_only))
-
+pub never_asks : (i : InnerValue) (ip : IpRepr) (busy : Bool) (to : HardwareAddress) → link_address i (destination_of ip) ≡ Link.Known to →
+    is_question (plan_of i busy ip) ≡ false
+never_asks i ip busy to known = by (stays i (comes_from_here i ip) (destination_of ip)) where
   by : (out : Bool) → is_question (if out then Way.Drop else plan_by (link_address i (destination_of ip)) i busy ip) ≡ false
   by true = refl
   by false =
-      ap is_question known_so
-      ∙ asks_none Hardware.Ip (nat_le (total_len ip) (mtu_to i (destination_of ip))) (can_be_cut ip) busy
+      ap (λ (a : LinkAddress). is_question (plan_by a i busy ip)) known
+      ∙ asks_none to (nat_le (total_len ip) (mtu_to i (destination_of ip))) (can_be_cut ip) busy
 
 -- A FRAME OF A SEGMENT
 
--- It is the frame of a packet of this connection that went from a host of the medium, and carries the segment.
-pub record IsFrameOf (pair : EndpointPair) (x : Made) (frame : List ℕ) : Type 0 where
+-- It is the frame of a packet of this connection that went from a host with the one hardware address to the other one, and carries the segment.
+pub record IsFrameOf (pair : EndpointPair) (own to : HardwareAddress) (x : Made) (frame : List ℕ) : Type 0 where
   pub i : InnerValue
-  pub hardware : i.hardware ≡ Hardware.Ip
+  pub hardware : i.hardware ≡ own
   pub checksums : i.checksums ≡ sealed
   pub ident : ℕ
   pub ip : IpRepr
   pub header : TcpHeader
   pub bytes : List ℕ
   pub is : x ≡ made_of (source_of ip) (destination_of ip) header bytes
-  pub frame_is : frame ≡ frame_under i ident Hardware.Ip (packet_of ip (Segment header bytes))
+  pub frame_is : frame ≡ frame_under i ident to (packet_of ip (Segment header bytes))
   pub wide : HasWidths (with_ident i ident)
   pub written : normal header ≡ header
   pub readable : CanBeRead ip (Segment header bytes)
-  pub can : CanLeave i Hardware.Ip (packet_of ip (Segment header bytes))
+  pub can : CanLeave i to (packet_of ip (Segment header bytes))
   pub formed : IsWellFormed (packet_of ip (Segment header bytes))
   pub along : GoesAlong pair ip
   pub source_port : header.src_port ≡ pair.local_port
@@ -150,36 +145,31 @@ pub record IsFrameOf (pair : EndpointPair) (x : Made) (frame : List ℕ) : Type 
 
 -- ITS HOST, in a poll
 
-module _ (i0 i : InnerValue) (settings : HasSettingsOf i0 i) (ip_only : i0.hardware ≡ Hardware.Ip) (ip : IpRepr) (never : never_leaves i0 ip ≡ false) where
-  here : i.hardware ≡ Hardware.Ip
-  here = settings.hardware ∙ ip_only
-
-  known : link_address i (destination_of ip) ≡ Link.Known Hardware.Ip
-  known = ap (λ (own : HardwareAddress). link_on own i (destination_of ip)) here
-
+module _ (i0 i : InnerValue) (settings : HasSettingsOf i0 i) (own to : HardwareAddress) (hardware : i0.hardware ≡ own) (ip : IpRepr)
+    (known : link_address i (destination_of ip) ≡ Link.Known to) (never : never_leaves i0 ip ≡ false) where
   goes_out : never_leaves i ip ≡ false
   goes_out = never_same i0 i settings ip ∙ never
 
   module _ (short : total_len ip ≤ mtu_to i (destination_of ip)) where
     -- it goes whole
-    pub goes_whole : (busy : Bool) → plan_of i busy ip ≡ Way.Go Hardware.Ip
+    pub goes_whole : (busy : Bool) → plan_of i busy ip ≡ Way.Go to
     goes_whole busy =
         ap (λ (out : Bool). if out then Way.Drop else plan_by (link_address i (destination_of ip)) i busy ip) goes_out
         ∙ ap (λ (a : LinkAddress). plan_by a i busy ip) known
-        ∙ ap (λ (b : Bool). if b then Way.Go Hardware.Ip else long_plan busy Hardware.Ip ip)
+        ∙ ap (λ (b : Bool). if b then Way.Go to else long_plan busy to ip)
         (le-leb (total_len ip) (mtu_to i (destination_of ip)) short)
 
-    pub can_leave : (header : TcpHeader) (bytes : List ℕ) → CanLeave i Hardware.Ip (packet_of ip (Segment header bytes))
+    pub can_leave : (header : TcpHeader) (bytes : List ℕ) → CanLeave i to (packet_of ip (Segment header bytes))
     can_leave header bytes = record { may = goes_out; known = known; short = short }
 
     module _ (pair : EndpointPair) (header : TcpHeader) (bytes : List ℕ) (x : Made) (is : x ≡ made_of (source_of ip) (destination_of ip) header bytes)
         (seals : i0.checksums ≡ sealed) (wide : HasWidths i0) (ident : i0.ident < 2 ^ 16 → i.ident < 2 ^ 16) (written : normal header ≡ header)
         (readable : CanBeRead ip (Segment header bytes)) (formed : IsWellFormed (packet_of ip (Segment header bytes))) (along : GoesAlong pair ip)
         (source_port : header.src_port ≡ pair.local_port) (destination_port : header.dst_port ≡ pair.remote_port) where
-      pub frame_made : IsFrameOf pair x (frame_of i (Whole Hardware.Ip (numbered i (packet_of ip (Segment header bytes)))))
+      pub frame_made : IsFrameOf pair own to x (frame_of i (Whole to (numbered i (packet_of ip (Segment header bytes)))))
       frame_made = record {
         i = i;
-        hardware = here;
+        hardware = settings.hardware ∙ hardware;
         checksums = settings.checksums ∙ seals;
         ident = i.ident;
         ip = ip;

@@ -1,5 +1,5 @@
--- Over a medium that has no hardware addresses, where the link gives leave behind a poll, each segment that a socket offers in it goes in a frame.
-use Rattle.std.proofs.Common.{◌≡◌, ℕ, ◌≤◌, ◌||◌, ◌&&◌, not, ℤ, Bool, true, false, if◌then◌else◌, IsTrue, List, [], ◌∷◌, ◌++◌, Option, Some, None}
+-- Where the link gives leave behind a poll, each segment that a socket offers in it goes in a frame, if the host knows throughout where.
+use Rattle.std.proofs.Common.{◌≡◌, ℕ, ◌≤◌, ◌||◌, ◌&&◌, not, ℤ, Bool, true, false, if◌then◌else◌, IsTrue, List, [], ◌∷◌, ◌++◌, Option, Some, None, IfSome, inl}
 use Rattle.std.proofs.Common.{arith, le-leb, refl, sym, ap, ◌∙◌, subst}
 use Rattle.std.specs.List.{AllByRecursion}
 use Rattle.ip_packet.specs.declared.ip.repr.IpRepr.{IpRepr}
@@ -19,7 +19,7 @@ use Rattle.interface_egress.specs.Plan.{comes_from_here, long_plan, never_leaves
 use Rattle.interface_egress.specs.declared.plan.Plan.TheVariants as Way
 use Rattle.interface_ingress.specs.Packet.{PacketValue, Segment, packet_of}
 use Rattle.interface_ingress.specs.Socket.TheVariants as Kind
-use Rattle.interface_tables.specs.Inner.{InnerValue, is_foreign_loopback, is_loopback_of, link_address, link_on, may_come_from, mtu_to}
+use Rattle.interface_tables.specs.Inner.{InnerValue, is_foreign_loopback, is_loopback_of, link_address, may_come_from, mtu_to}
 use Rattle.interface_tables.specs.PathMtu.{mtu_towards}
 use Rattle.interface_tables.specs.Settings.{is_mtu}
 use Rattle.interface_tables.specs.Source.{source_for}
@@ -30,14 +30,12 @@ use Rattle.std.specs.List.{list_any}
 use Rattle.lan.specs.declared.at_link.history.event.Side.{Side}
 use Rattle.lan.specs.declared.at_link.history.event.Side.TheVariants.{A, B}
 use Rattle.lan.specs.Worlds.AtLink.Fresh.{IsFreshWorld}
-use Rattle.lan.specs.Worlds.AtLink.Happening.{goes}
 use Rattle.lan.specs.Worlds.AtLink.History.{Entry}
 use Rattle.lan.specs.Worlds.AtLink.Kinds.{Kind, kind_of}
 use Rattle.lan.specs.Worlds.AtLink.Kinds.Act.{Polls}
 use Rattle.lan.specs.Worlds.AtLink.Kinds.Kind.{OfHost}
 use Rattle.lan.specs.Worlds.AtLink.Moves.{Step}
 use Rattle.lan.specs.Worlds.AtLink.Moves.Move.{Offers}
-use Rattle.lan.specs.Worlds.AtLink.Origins.{medium_of}
 use Rattle.lan.specs.Worlds.AtLink.Parties.{Net}
 use Rattle.lan.specs.Worlds.AtLink.Runs.{Starts, start}
 use Rattle.lan.specs.Worlds.AtLink.Station.{Stations, station}
@@ -51,8 +49,9 @@ use Rattle.lan.proofs.Worlds.Runs.{has_come}
 use Rattle.lan.proofs.Worlds.StillOnward.{ran, seen_in_run}
 use Rattle.lan_base.specs.Medium.TheVariants as Medium
 use Rattle.lan_base.specs.Port.{has_leave}
-use Rattle.stack_laws.specs.Progress.Events.{AreGone, AreSentOff, HappensBy, IsSentOff}
+use Rattle.stack_laws.specs.Progress.Events.{AreGone, HappensBy}
 use Rattle.stack_laws.specs.Progress.Gone.{GoesInFrame}
+use Rattle.stack_laws.specs.Progress.KnownHops.{AreSentTo, IsSentTo, KnowsThroughout}
 use Rattle.stack_laws.specs.Progress.Segments.{CanLeave, OffersSegment}
 use Rattle.stack_laws.proofs.EventLeave.{on_ip, same_link}
 use Rattle.stack_laws.proofs.Polls.SegmentSizes.{fits_path}
@@ -63,11 +62,6 @@ use Rattle.stack_laws.proofs.SentOff.{is_ip, mtu_least}
 there_of : (P : Step → Type 0) (before : List Step) (step : Step) (behind : List Step) → AllByRecursion P (before ++ step ∷ behind) → P step
 there_of P [] step behind all = all.0
 there_of P (x ∷ before) step behind all = there_of P before step behind all.1
-
--- an offer of something goes
-was_told : (o : Option OpenOffer) (queue : List ℕ) (sent : Bool) (p : PacketValue) → packet_with o queue ≡ Some p → goes o sent ≡ true → sent ≡ true
-was_told None queue sent p is off = absurd cc
-was_told (Some o) queue sent p is off = off
 
 -- A PACKET THAT MAY LEAVE
 
@@ -85,10 +79,11 @@ module _ (i0 i : InnerValue) (same : i.addresses ≡ i0.addresses) (comes : (sou
 
 -- THE HOST, as it was asked
 
-module _ (i0 : InnerValue) (t : ℤ) (K : Type 0) (gone : List (List ℕ)) (cx : ContextValue) (v : TcpValue) (from : IpAddress) (ip : IpRepr) (header : TcpHeader)
-    (bytes : List ℕ) (none_known : K) (on_ip : i0.hardware ≡ Hardware.Ip) (enough : 80 ≤ i0.mtu) (leaves : never_leaves i0 ip ≡ false)
+module _ (i0 : InnerValue) (t : ℤ) (K : Type 0) (N : IpAddress → HardwareAddress → Type 0) (gone : List (List ℕ)) (cx : ContextValue) (v : TcpValue)
+    (from : IpAddress) (ip : IpRepr) (header : TcpHeader) (bytes : List ℕ) (hop : HardwareAddress) (none_known : K) (knows : N (destination_of ip) hop)
+    (enough : 80 ≤ i0.mtu) (leaves : never_leaves i0 ip ≡ false)
     (offered : offered_packet (offer_of cx v).socket ≡ Some (packet_of ip (Segment header bytes)))
-    (l : LeftFrom i0 t K gone cx (Kind.Tcp v) from (packet_of ip (Segment header bytes))) where
+    (l : LeftFrom i0 t K N gone cx (Kind.Tcp v) from (packet_of ip (Segment header bytes))) where
   abbrev i : InnerValue
   i = l.i
 
@@ -105,11 +100,8 @@ module _ (i0 : InnerValue) (t : ℤ) (K : Type 0) (gone : List (List ℕ)) (cx :
     destination_port = l.wide.fits.1.destination_accepted;
   }
 
-  own : i.hardware ≡ Hardware.Ip
-  own = l.settings.hardware ∙ on_ip
-
-  known : link_address i to ≡ Link.Known Hardware.Ip
-  known = ap (λ (own : HardwareAddress). link_on own i to) own
+  known : link_address i to ≡ Link.Known hop
+  known = l.hops to hop knows
 
   whole : mtu_to i to ≡ i.mtu
   whole = ap (λ (ps : List Path). mtu_towards ps to i.moment i.mtu) (l.paths none_known) ∙ whole_path to i.moment i.mtu
@@ -127,19 +119,19 @@ module _ (i0 : InnerValue) (t : ℤ) (K : Type 0) (gone : List (List ℕ)) (cx :
   keeps : sourced i p ≡ p
   keeps = ap (λ (b : Bool). packet_of (if b then ip else with_source ip (source_for i.addresses to)) (Segment header bytes)) here
 
-  goes_whole : plan_of i l.busy ip ≡ Way.Go Hardware.Ip
+  goes_whole : plan_of i l.busy ip ≡ Way.Go hop
   goes_whole =
       ap (λ (b : Bool). if b then Way.Drop else plan_by (link_address i to) i l.busy ip) may
       ∙ ap (λ (a : LinkAddress). plan_by a i l.busy ip) known
-      ∙ ap (λ (b : Bool). if b then Way.Go Hardware.Ip else long_plan l.busy Hardware.Ip ip) (le-leb (total_len ip) (mtu_to i to) short)
+      ∙ ap (λ (b : Bool). if b then Way.Go hop else long_plan l.busy hop ip) (le-leb (total_len ip) (mtu_to i to) short)
 
-  pub can_leave : CanLeave i Hardware.Ip p
+  pub can_leave : CanLeave i hop p
   can_leave = record { may = may; known = known; short = short }
 
   pub offers_it : OffersSegment i v ip header bytes
   offers_it = offers
 
-  pub in_frame : WentBy gone i p (Way.Go Hardware.Ip)
+  pub in_frame : WentBy gone i p (Way.Go hop)
   in_frame =
       subst (WentBy gone i p) goes_whole (subst (λ (q : PacketValue). WentBy gone i q (plan_of i l.busy q.header)) keeps l.went)
 
@@ -149,6 +141,72 @@ first_enough : (starts : Starts) → IsFreshWorld starts → (s : Side) → is_m
 first_enough starts fresh A = fresh.a.mtu
 first_enough starts fresh B = fresh.b.mtu
 
+-- what was offered to a known hop was told so
+told_to : (o : Option OpenOffer) (queue : List ℕ) (sent : Bool) (ip : IpRepr) (header : TcpHeader) (bytes : List ℕ) (N : IpAddress → HardwareAddress → Type 0)
+    (hop : HardwareAddress) → packet_with o queue ≡ Some (packet_of ip (Segment header bytes)) → N (destination_of ip) hop
+    → IfSome o (λ (x : OpenOffer). (to : HardwareAddress) → N (destination_of x.header) to → sent ≡ true) → sent ≡ true
+told_to None queue sent ip header bytes N hop p knows so = absurd (let never : (let none : Option PacketValue = None in none) ≡ Some (packet_of ip (Segment header bytes)) = p in cc)
+told_to (Some o) queue sent ip header bytes N hop p knows so =
+    so hop (subst (λ (q : Option PacketValue). IfSome q (λ (x : PacketValue). N (destination_of x.header) hop)) (sym p) knows)
+
+pub goes_to_a_hop : (starts : Starts) (past : List Entry) (e : Entry) (hosts : Stations) (net : Net) (before behind : List Step) (side : Side) (t : ℤ)
+    (budget place : ℕ) (cx : ContextValue) (v : TcpValue) (from : IpAddress) (sent : Bool) (ip : IpRepr) (header : TcpHeader) (bytes : List ℕ)
+    (hop : HardwareAddress)
+    → IsFreshWorld starts → AreTyped past → (still : StillRun starts (e ∷ past) hosts)
+    → HappensBy starts past e still.0 hosts net (before ++ step_of side (Offers place cx v from sent) ∷ behind)
+    → kind_of e.event ≡ OfHost side (Polls t budget) → IsTrue (has_leave (station hosts side).link)
+    → KnowsThroughout t (station still.0 side) (station hosts side) (destination_of ip) hop
+    → offered_packet (offer_of cx v).socket ≡ Some (packet_of ip (Segment header bytes)) → never_leaves (station still.0 side).host.inner ip ≡ false
+    → (frame : GoesInFrame (station still.0 side).host.inner (station still.0 side).link (station hosts side).link v ip header bytes) × (frame.to ≡ hop)
+goes_to_a_hop starts past e hosts net before behind side t budget place cx v from sent ip header bytes hop fresh typed still by is given knows offered leaves =
+    let old : Stations = still.0 in
+    let i0 : InnerValue = (station old side).host.inner in
+    let K : Type 0 = (station hosts side).host.inner.paths ≡ [] in
+    let N : IpAddress → HardwareAddress → Type 0 = KnowsThroughout t (station old side) (station hosts side) in
+    let step : Step = step_of side (Offers place cx v from sent) in
+    let steps : List Step = before ++ step ∷ behind in
+    let p : PacketValue = packet_of ip (Segment header bytes) in
+    let off : AreSentTo (OfHost side (Polls t budget)) old hosts steps = subst (λ (k : Kind). AreSentTo k old hosts steps) is by.sent_to in
+    let went : AreGone (OfHost side (Polls t budget)) old hosts steps = subst (λ (k : Kind). AreGone k old hosts steps) is by.went in
+    let one_off : IsSentTo N (Offers place cx v from sent) = there_of (λ s. IsSentTo N s.move) before step behind (off given) in
+    let told : sent ≡ true = told_to (offer_of cx v).socket.offered (offer_of cx v).socket.queued.queue sent ip header bytes N hop offered knows one_off in
+    let left : HasLeft i0 t K N went.0 (Offers place cx v from sent) = there_of (λ s. HasLeft i0 t K N went.0 s.move) before step behind went.2 in
+    let left_true : HasLeft i0 t K N went.0 (Offers place cx v from true) =
+    subst (λ (b : Bool). HasLeft i0 t K N went.0 (Offers place cx v from b)) told left in
+    let l : LeftFrom i0 t K N went.0 cx (Kind.Tcp v) from p =
+    some_so (offered_packet (offer_of cx v).socket) (LeftFrom i0 t K N went.0 cx (Kind.Tcp v) from) p offered left_true in
+    let was_still = still.1 in
+    let well = (has_come starts past old fresh typed (ran starts past old was_still)).joined in
+    let first_mtu = (seen_in_run starts past old was_still side).mtu in
+    let least = mtu_least (start starts side).host.inner.mtu (first_enough starts fresh side) in
+    let enough : 80 ≤ i0.mtu = omega (arith, first_mtu, least) in
+    let widths : HasWidths i0 = (well.joined.sends side).sound.widths in
+    let frame = in_frame i0 t K N went.0 cx v from ip header bytes hop (still.3 side).paths knows enough leaves offered l in (
+      record {
+        i = l.i;
+        settings = l.settings;
+        to = hop;
+        ident = l.i.ident;
+        wide = record { mtu = (let same = l.settings.mtu in let most = widths.mtu in omega (arith, same, most)); ident = l.ident widths.ident };
+        offers = offers_it i0 t K N went.0 cx v from ip header bytes hop (still.3 side).paths knows enough leaves offered l;
+        can = can_leave i0 t K N went.0 cx v from ip header bytes hop (still.3 side).paths knows enough leaves offered l;
+        formed = l.formed;
+        gone = went.0;
+        sent = went.1;
+        place = frame.0;
+        frame = frame.1;
+      },
+      refl,
+    )
+
+-- on a medium that has no hardware addresses each hop is known
+pub bare_knows : (starts : Starts) (past : List Entry) (old : Stations) → IsFreshWorld starts → starts.a.capabilities.medium ≡ Medium.Ip → AreTyped past
+    → StillRun starts past old → (side : Side) → (station old side).host.inner.hardware ≡ Hardware.Ip
+bare_knows starts past old fresh medium typed still side =
+    let well = (has_come starts past old fresh typed (ran starts past old still)).joined in
+    is_ip (station old side).host.inner.hardware
+    (sym (well.joined.device side) ∙ ap (λ c. c.medium) (same_link starts past old still side) ∙ on_ip starts fresh medium side)
+
 pub goes_in_a_frame : (starts : Starts) (past : List Entry) (e : Entry) (hosts : Stations) (net : Net) (before behind : List Step) (side : Side) (t : ℤ)
     (budget place : ℕ) (cx : ContextValue) (v : TcpValue) (from : IpAddress) (sent : Bool) (ip : IpRepr) (header : TcpHeader) (bytes : List ℕ)
     → IsFreshWorld starts → starts.a.capabilities.medium ≡ Medium.Ip → AreTyped past → (still : StillRun starts (e ∷ past) hosts)
@@ -156,45 +214,6 @@ pub goes_in_a_frame : (starts : Starts) (past : List Entry) (e : Entry) (hosts :
     → kind_of e.event ≡ OfHost side (Polls t budget) → IsTrue (has_leave (station hosts side).link)
     → offered_packet (offer_of cx v).socket ≡ Some (packet_of ip (Segment header bytes)) → never_leaves (station still.0 side).host.inner ip ≡ false
     → GoesInFrame (station still.0 side).host.inner (station still.0 side).link (station hosts side).link v ip header bytes
-goes_in_a_frame starts past e hosts net before behind side t budget place cx v from sent ip header bytes fresh medium typed still by is given offered
-    leaves =
-    let old : Stations = still.0 in
-    let i0 : InnerValue = (station old side).host.inner in
-    let K : Type 0 = (station hosts side).host.inner.paths ≡ [] in
-    let step : Step = step_of side (Offers place cx v from sent) in
-    let steps : List Step = before ++ step ∷ behind in
-    let p : PacketValue = packet_of ip (Segment header bytes) in
-    let ip_then = on_ip starts fresh medium side in
-    let ip_now : medium_of (station hosts side) ≡ Medium.Ip = ap (λ c. c.medium) (same_link starts (e ∷ past) hosts still side) ∙ ip_then in
-    let off : AreSentOff (OfHost side (Polls t budget)) hosts steps = subst (λ (k : Kind). AreSentOff k hosts steps) is by.sent_off in
-    let went : AreGone (OfHost side (Polls t budget)) old hosts steps = subst (λ (k : Kind). AreGone k old hosts steps) is by.went in
-    let one_off : IsSentOff (Offers place cx v from sent) = there_of (λ s. IsSentOff s.move) before step behind (off given ip_now) in
-    let told : sent ≡ true = was_told (offer_of cx v).socket.offered (offer_of cx v).socket.queued.queue sent p offered one_off in
-    let left : HasLeft i0 t K went.0 (Offers place cx v from sent) = there_of (λ s. HasLeft i0 t K went.0 s.move) before step behind went.2 in
-    let left_true : HasLeft i0 t K went.0 (Offers place cx v from true) =
-    subst (λ (b : Bool). HasLeft i0 t K went.0 (Offers place cx v from b)) told left in
-    let l : LeftFrom i0 t K went.0 cx (Kind.Tcp v) from p =
-    some_so (offered_packet (offer_of cx v).socket) (LeftFrom i0 t K went.0 cx (Kind.Tcp v) from) p offered left_true in
-    let was_still = still.1 in
-    let well = (has_come starts past old fresh typed (ran starts past old was_still)).joined in
-    let on_bare : i0.hardware ≡ Hardware.Ip =
-    is_ip i0.hardware (sym (well.joined.device side) ∙ ap (λ c. c.medium) (same_link starts past old was_still side) ∙ ip_then) in
-    let first_mtu = (seen_in_run starts past old was_still side).mtu in
-    let least = mtu_least (start starts side).host.inner.mtu (first_enough starts fresh side) in
-    let enough : 80 ≤ i0.mtu = omega (arith, first_mtu, least) in
-    let widths : HasWidths i0 = (well.joined.sends side).sound.widths in
-    let frame = in_frame i0 t K went.0 cx v from ip header bytes (still.3 side).paths on_bare enough leaves offered l in
-    record {
-      i = l.i;
-      settings = l.settings;
-      to = Hardware.Ip;
-      ident = l.i.ident;
-      wide = record { mtu = (let same = l.settings.mtu in let most = widths.mtu in omega (arith, same, most)); ident = l.ident widths.ident };
-      offers = offers_it i0 t K went.0 cx v from ip header bytes (still.3 side).paths on_bare enough leaves offered l;
-      can = can_leave i0 t K went.0 cx v from ip header bytes (still.3 side).paths on_bare enough leaves offered l;
-      formed = l.formed;
-      gone = went.0;
-      sent = went.1;
-      place = frame.0;
-      frame = frame.1;
-    }
+goes_in_a_frame starts past e hosts net before behind side t budget place cx v from sent ip header bytes fresh medium typed still by is given offered leaves =
+    (goes_to_a_hop starts past e hosts net before behind side t budget place cx v from sent ip header bytes Hardware.Ip fresh typed still by is given
+    (λ frames waited. inl (bare_knows starts past still.0 fresh medium typed still.1 side, refl)) offered leaves).0

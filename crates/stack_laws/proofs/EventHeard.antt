@@ -5,10 +5,11 @@ use Rattle.std.specs.Prelude.{slice_get}
 use Rattle.ip_packet.specs.Ip.{destination_of, header_len_in, source_of}
 use Rattle.ip_packet.specs.declared.ip.repr.IpRepr.{IpRepr}
 use Rattle.ip_packet.specs.declared.ip.repr.IpRepr.TheVariants as Ip
-use Rattle.ip_wire.specs.HardwareAddress.TheVariants as Hardware
+use Rattle.ip_wire.specs.HardwareAddress.{HardwareAddress}
 use Rattle.ip_wire.specs.IpAddress.{IpAddress}
 use Rattle.ip_wire.specs.TcpHeader.{TcpHeader}
 use Rattle.sockets.specs.Context.{ContextValue}
+use Rattle.tcp_control.specs.Endpoints.{remote_of}
 use Rattle.tcp_control.specs.States.{is_listening}
 use Rattle.tcp_control.specs.declared.endpoints.EndpointPair.{EndpointPair}
 use Rattle.tcp_control.specs.declared.offer.OpenOffer.{OpenOffer}
@@ -30,7 +31,8 @@ use Rattle.interface_egress.specs.GoesOut.{frame_of, numbered}
 use Rattle.interface_egress.specs.Plan.{comes_from_here, never_leaves, plan_of, total_len}
 use Rattle.interface_ingress.specs.Packet.{PacketValue, Segment, packet_of}
 use Rattle.interface_ingress.specs.Socket.TheVariants as Kind
-use Rattle.interface_tables.specs.Inner.{InnerValue, is_foreign_loopback, mtu_to}
+use Rattle.interface_tables.specs.Inner.{InnerValue, is_foreign_loopback, link_address, mtu_to}
+use Rattle.interface_tables.specs.declared.link.LinkAddress.TheVariants as Link
 use Rattle.ip_wire.specs.AddressTests.{is_unspecified}
 use Rattle.interface_tables.specs.Source.{source_for}
 use Rattle.lan.specs.Worlds.Link.Made.{sealed}
@@ -47,9 +49,9 @@ one_pair x y e = cc
 
 -- A HOST, before a poll
 
--- it is on a medium without hardware addresses, seals all it sends, and lets go what goes along this connection
-pub record IsReadyHost (i0 : InnerValue) (pair : EndpointPair) : Type 0 where
-  pub bare : i0.hardware ≡ Hardware.Ip
+-- it has this hardware address, seals all it sends, and lets go what goes along this connection
+pub record IsReadyHost (i0 : InnerValue) (pair : EndpointPair) (own : HardwareAddress) : Type 0 where
+  pub hardware : i0.hardware ≡ own
   pub seals : i0.checksums ≡ sealed
   pub enough : 576 ≤ i0.mtu
   pub widths : HasWidths i0
@@ -65,11 +67,12 @@ small_header : (ip : IpRepr) → header_len_in ip ≤ 40
 small_header (Ip.Ipv4 v) = omega arith
 small_header (Ip.Ipv6 v) = omega arith
 
-module _ (i0 : InnerValue) (t : ℤ) (K : Type 0) (gone : List (List ℕ)) (pair : EndpointPair) (ready : IsReadyHost i0 pair) (local : pair.local_port ≢ 0)
-    (remote : pair.remote_port ≢ 0) where
+-- the frames for the remote address go to the other one throughout the poll, as N says
+module _ (i0 : InnerValue) (t : ℤ) (K : Type 0) (N : IpAddress → HardwareAddress → Type 0) (gone : List (List ℕ)) (pair : EndpointPair) (own to : HardwareAddress)
+    (knows : N (remote_of pair.addresses) to) (ready : IsReadyHost i0 pair own) (local : pair.local_port ≢ 0) (remote : pair.remote_port ≢ 0) where
   -- the segment goes in one of the frames
   abbrev pub GoesIn : Made → Type 0
-  GoesIn x = (frame : List ℕ) × IsFrameOf pair x frame × ((n : ℕ) × (slice_get gone n ≡ Some frame))
+  GoesIn x = (frame : List ℕ) × IsFrameOf pair own to x frame × ((n : ℕ) × (slice_get gone n ≡ Some frame))
 
   -- WHAT A SOCKET OFFERS
 
@@ -92,7 +95,7 @@ module _ (i0 : InnerValue) (t : ℤ) (K : Type 0) (gone : List (List ℕ)) (pair
     pub packet_is : offered_packet (offer_of cx v).socket ≡ Some p
     packet_is = ap (λ (x : Option OpenOffer). packet_with x (offer_of cx v).socket.queued.queue) offered
 
-    module _ (l : LeftFrom i0 t K gone cx (Kind.Tcp v) from p) where
+    module _ (l : LeftFrom i0 t K N gone cx (Kind.Tcp v) from p) where
       offers : OffersSegment l.i v o.header o.segment text
       offers = record {
         offers = subst (λ (c : ContextValue). offered_packet (offer_of c v).socket ≡ Some p) l.shown packet_is;
@@ -105,6 +108,9 @@ module _ (i0 : InnerValue) (t : ℤ) (K : Type 0) (gone : List (List ℕ)) (pair
 
       short : total_len o.header ≤ mtu_to l.i (destination_of o.header)
       short = fits_path l.i v o.header o.segment text offers (omega (arith, enough))
+
+      known : link_address l.i (destination_of o.header) ≡ Link.Known to
+      known = ap (λ (a : IpAddress). link_address l.i a) along.destination ∙ l.hops (remote_of pair.addresses) to knows
 
       -- its source stays
       keeps : sourced l.i p ≡ p
@@ -119,9 +125,9 @@ module _ (i0 : InnerValue) (t : ℤ) (K : Type 0) (gone : List (List ℕ)) (pair
           let source : from ≡ source_of o.header = l.source ∙ ap (λ (q : PacketValue). source_of q.header) keeps in
           let went : WentBy gone l.i p (plan_of l.i l.busy o.header) =
           subst (λ (q : PacketValue). WentBy gone l.i q (plan_of l.i l.busy q.header)) keeps l.went in
-          let whole = goes_whole i0 l.i l.settings ready.bare o.header (ready.never o.header along) short l.busy in (
-            frame_of l.i (Whole Hardware.Ip (numbered l.i p)),
-            frame_made i0 l.i l.settings ready.bare o.header (ready.never o.header along) short pair o.segment text x
+          let whole = goes_whole i0 l.i l.settings own to ready.hardware o.header known (ready.never o.header along) short l.busy in (
+            frame_of l.i (Whole to (numbered l.i p)),
+            frame_made i0 l.i l.settings own to ready.hardware o.header known (ready.never o.header along) short pair o.segment text x
                 (is ∙ ap (λ (a : IpAddress). made_of a (destination_of o.header) o.segment text) source) ready.seals ready.widths l.ident
                 (as_written l.i v o.header o.segment text offers) (can_be_read l.i v o.header o.segment text offers l.formed) l.formed along
                 between.source_port between.destination_port,
@@ -147,7 +153,7 @@ module _ (i0 : InnerValue) (t : ℤ) (K : Type 0) (gone : List (List ℕ)) (pair
     answer_along : GoesAlong pair reply.header
     answer_along = record { source = back.source ∙ came.destination; destination = back.destination ∙ came.source }
 
-    module _ (l : AnswerLeft i0 gone answer) (w : WentAsPlanned i0 gone l.i answer (plan_of l.i l.busy reply.header)) where
+    module _ (l : AnswerLeft i0 N gone answer) (w : WentAsPlanned i0 N gone l.i answer (plan_of l.i l.busy reply.header)) where
       short_answer : total_len reply.header ≤ mtu_to l.i (destination_of reply.header)
       short_answer =
           let len = w.formed.sendable.len in
@@ -156,18 +162,24 @@ module _ (i0 : InnerValue) (t : ℤ) (K : Type 0) (gone : List (List ℕ)) (pair
           let enough = path_enough l.i.paths (destination_of reply.header) l.i.moment l.i.mtu (subst (λ (n : ℕ). 576 ≤ n) (sym l.settings.mtu) ready.enough) in
           omega (arith, len, small, head, enough)
 
+      known_answer : link_address l.i (destination_of reply.header) ≡ Link.Known to
+      known_answer = ap (λ (a : IpAddress). link_address l.i a) answer_along.destination ∙ l.hops (remote_of pair.addresses) to knows
+
       goes_so : (x : Made) → x ≡ made_by reply → GoesIn x
       goes_so x is =
-          let whole = goes_whole i0 l.i l.settings ready.bare reply.header (ready.never reply.header answer_along) short_answer l.busy in (
-            frame_of l.i (Whole Hardware.Ip (numbered l.i answer)),
-            frame_made i0 l.i l.settings ready.bare reply.header (ready.never reply.header answer_along) short_answer pair reply.segment [] x is ready.seals
+          let whole = goes_whole i0 l.i l.settings own to ready.hardware reply.header known_answer (ready.never reply.header answer_along) short_answer l.busy in (
+            frame_of l.i (Whole to (numbered l.i answer)),
+            frame_made i0 l.i l.settings own to ready.hardware reply.header known_answer (ready.never reply.header answer_along) short_answer pair reply.segment [] x is ready.seals
                 ready.widths l.ident (answers_read cx v ip header bytes reply answers) w.wide.fits w.formed answer_along
                 (back.source_port ∙ came.destination_port) (back.destination_port ∙ came.source_port),
-            w.went Hardware.Ip whole,
+            w.went to whole,
           )
 
-    pub answer_goes : AnswerLeft i0 gone answer → (x : Made) → x ≡ made_by reply → GoesIn x
+    pub answer_goes : AnswerLeft i0 N gone answer → (x : Made) → x ≡ made_by reply → GoesIn x
     answer_goes l x is = by l.what where
-      by : (is_question (plan_of l.i l.busy reply.header) ≡ true) ⊎ WentAsPlanned i0 gone l.i answer (plan_of l.i l.busy reply.header) → GoesIn x
-      by (inl asks) = absurd (let both : true ≡ false = sym asks ∙ never_asks i0 l.i l.settings ready.bare reply.header l.busy in cc)
+      there : link_address l.i (destination_of reply.header) ≡ Link.Known to
+      there = ap (λ (a : IpAddress). link_address l.i a) answer_along.destination ∙ l.hops (remote_of pair.addresses) to knows
+
+      by : (is_question (plan_of l.i l.busy reply.header) ≡ true) ⊎ WentAsPlanned i0 N gone l.i answer (plan_of l.i l.busy reply.header) → GoesIn x
+      by (inl asks) = absurd (let both : true ≡ false = sym asks ∙ never_asks l.i reply.header l.busy to there in cc)
       by (inr went) = goes_so l went x is

@@ -4,7 +4,10 @@ use Rattle.std.proofs.Common.{refl, sym, ap, ◌∙◌, subst}
 use Rattle.std.specs.Prelude.{slice_get}
 use Rattle.std.specs.List.{AllByRecursion}
 use Rattle.ip_packet.specs.Ip.{destination_of, source_of}
-use Rattle.tcp_control.specs.States.{is_closed, is_listening}
+use Rattle.tcp_control.specs.Endpoints.{remote_of}
+use Rattle.tcp_control.specs.States.{is_listening}
+use Rattle.ip_wire.specs.HardwareAddress.{HardwareAddress}
+use Rattle.ip_wire.specs.IpAddress.{IpAddress}
 use Rattle.tcp_control.specs.declared.endpoints.EndpointPair.{EndpointPair}
 use Rattle.tcp_control.specs.declared.state.State.{State as TcpState}
 use Rattle.tcp_control.specs.declared.state.State.TheVariants as In
@@ -38,14 +41,11 @@ use Rattle.stack_laws.proofs.EventCarried.{WentIn}
 use Rattle.stack_laws.proofs.EventFrames.{IsFrameOf}
 use Rattle.stack_laws.proofs.EventHeard.{GoesIn, IsReadyHost, answer, answer_goes, offer_goes, p, packet_is}
 use Rattle.stack_laws.proofs.EventMade.{AreOpened, IsNoReset, Makes, are_opened_then, new_of}
-use Rattle.stack_laws.proofs.EventPlaces.{Later, all_moved, step_moved}
-use Rattle.stack_laws.proofs.Polls.Connected.{StaysLate, not_over}
+use Rattle.stack_laws.proofs.EventNamed.{Its, IsOurs, Stands, named_yet, ours_then, same_tcp}
+use Rattle.stack_laws.proofs.EventPlaces.{Later, step_moved}
 
 clash : {X : Type 0} → true ≡ false → X
 clash {X} e = absurd cc
-
-same_tcp : (v w : TcpValue) → Some (Tcp v) ≡ Some (Tcp w) → v ≡ w
-same_tcp v w e = let one : Tcp v ≡ Tcp w = cc in cc
 
 late_not : (v : TcpValue) → is_early v.block.state ≡ false → is_listening v.block.state ≡ false
 late_not v late = by v.block.state late where
@@ -75,57 +75,40 @@ poll_quiet e t (Changes at old new) of = absurd of
 
 -- A POLL
 
-module _ (ports : Side → ℕ → ℕ) (pls : Places) (of_names : pls.names ≡ names) (seats : Side → Seat) (pairs : Side → EndpointPair) (e : Entry) (t : ℤ) (side : Side)
-    (i0 : InnerValue) (K : Type 0) (gone : List (List ℕ)) (ready : IsReadyHost i0 (pairs side)) (local : (pairs side).local_port ≢ 0)
+module _ (ports : Side → ℕ → ℕ) (pls : Places) (of_names : pls.names ≡ names) (seats : Side → Seat) (pairs : Side → EndpointPair) (own : Side → HardwareAddress)
+    (e : Entry) (t : ℤ) (side : Side) (i0 : InnerValue) (K : Type 0) (N : IpAddress → HardwareAddress → Type 0) (gone : List (List ℕ))
+    (knows : N (remote_of (pairs side).addresses) (own (other side))) (ready : IsReadyHost i0 (pairs side) (own side)) (local : (pairs side).local_port ≢ 0)
     (remote : (pairs side).remote_port ≢ 0) (w : TcpValue) (still : is_synchronized w.block.state ≡ true) where
   abbrev place : ℕ
   place = (seats side).place
 
-  abbrev Its : Step → Type 0
-  Its step = (step.side ≡ side) × IsOfPoll e t step.move
+  abbrev AreIts : List Step → Type 0
+  AreIts steps = AllByRecursion (Its e t side place (pairs side) w still) steps
 
-  abbrev Stands : Net → TcpValue → Type 0
-  Stands net v = socket_at (party net side) place ≡ Some (Tcp v)
+  abbrev StandsAt : Net → TcpValue → Type 0
+  StandsAt net v = Stands e t side place (pairs side) w still net v
 
-  -- the socket has its connection, or that is over
-  abbrev IsOurs : TcpValue → Type 0
-  IsOurs v = (is_closed v.block.state ≡ true) ⊎ (v.block.names.pair ≡ Some (pairs side))
-
-  ours_then : (v new : TcpValue) → StaysLate v new → IsOurs v → IsOurs new
-  ours_then v new stays (inl over) = inl (stays.closed over)
-  ours_then v new stays (inr named) = by stays.pair where
-    by : (is_closed new.block.state ≡ true) ⊎ (new.block.names.pair ≡ v.block.names.pair) → IsOurs new
-    by (inl over) = inl over
-    by (inr same) = inr (same ∙ named)
-
-  -- it isn't over yet
-  named_yet : (net : Net) (steps : List Step) (v : TcpValue) → AllByRecursion Its steps → IsRun names net steps → Stands net v → is_early v.block.state ≡ false
-      → Stands (run net steps) w → IsOurs v → v.block.names.pair ≡ Some (pairs side)
-  named_yet net steps v all may stands late ends (inr named) = named
-  named_yet net steps v all may stands late ends (inl over) =
-      let on : Later e t side place (party (run net steps) side) v = all_moved e t side place steps net v all may stands late in
-      let same : on.new ≡ w = same_tcp on.new w (sym on.stands ∙ ends) in
-      let then_over : is_closed w.block.state ≡ true = subst (λ (x : TcpValue). is_closed x.block.state ≡ true) same (on.stays.closed over) in
-      clash (sym then_over ∙ not_over w.block.state still)
+  abbrev IsOur : TcpValue → Type 0
+  IsOur v = IsOurs e t side place (pairs side) w still v
 
   -- what the socket makes goes
-  made_goes : (net : Net) (move : Move) (v : TcpValue) → Stands net v → v.block.names.pair ≡ Some (pairs side) → is_early v.block.state ≡ false
-      → May names net side move → HasLeft i0 t K gone move → HasAnswered i0 gone move → (x : Made) → Makes place x move
-      → GoesIn i0 t K gone (pairs side) ready local remote x
+  made_goes : (net : Net) (move : Move) (v : TcpValue) → StandsAt net v → v.block.names.pair ≡ Some (pairs side) → is_early v.block.state ≡ false
+      → May names net side move → HasLeft i0 t K N gone move → HasAnswered i0 N gone move → (x : Made) → Makes place x move
+      → GoesIn i0 t K N gone (pairs side) (own side) (own (other side)) knows ready local remote x
   made_goes net (Offers at cx u from true) v stands named late may left answered x (here, o, offered, is) =
       let same : v ≡ u = same_tcp v u (sym stands ∙ subst (λ (n : ℕ). socket_at (party net side) n ≡ Some (Tcp u)) here may.0) in
       let its : u.block.names.pair ≡ Some (pairs side) = subst (λ (y : TcpValue). y.block.names.pair ≡ Some (pairs side)) same named in
-      offer_goes i0 t K gone (pairs side) ready local remote cx u from o offered its
-      (some_so (offered_packet (offer_of cx u).socket) (LeftFrom i0 t K gone cx (Kind.Tcp u) from)
-      (p i0 t K gone (pairs side) ready local remote cx u from o offered its)
-      (packet_is i0 t K gone (pairs side) ready local remote cx u from o offered its) left) x is
+      offer_goes i0 t K N gone (pairs side) (own side) (own (other side)) knows ready local remote cx u from o offered its
+      (some_so (offered_packet (offer_of cx u).socket) (LeftFrom i0 t K N gone cx (Kind.Tcp u) from)
+      (p i0 t K N gone (pairs side) (own side) (own (other side)) knows ready local remote cx u from o offered its)
+      (packet_is i0 t K N gone (pairs side) (own side) (own (other side)) knows ready local remote cx u from o offered its) left) x is
   made_goes net (Takes at cx u ip header bytes) v stands named late may left answered x (here, reply, answers, is) =
       let same : v ≡ u = same_tcp v u (sym stands ∙ subst (λ (n : ℕ). socket_at (party net side) n ≡ Some (Tcp u)) here may.0) in
       let its : u.block.names.pair ≡ Some (pairs side) = subst (λ (y : TcpValue). y.block.names.pair ≡ Some (pairs side)) same named in
       let late_u : is_early u.block.state ≡ false = subst (λ (y : TcpValue). is_early y.block.state ≡ false) same late in
-      answer_goes i0 t K gone (pairs side) ready local remote cx u ip header bytes reply answers its (late_not u late_u) may.1
-      (some_so (packet_by (arrives cx u ip header bytes).answer) (AnswerLeft i0 gone)
-      (answer i0 t K gone (pairs side) ready local remote cx u ip header bytes reply answers its (late_not u late_u) may.1)
+      answer_goes i0 t K N gone (pairs side) (own side) (own (other side)) knows ready local remote cx u ip header bytes reply answers its (late_not u late_u) may.1
+      (some_so (packet_by (arrives cx u ip header bytes).answer) (AnswerLeft i0 N gone)
+      (answer i0 t K N gone (pairs side) (own side) (own (other side)) knows ready local remote cx u ip header bytes reply answers its (late_not u late_u) may.1)
       (ap (λ (a : Option Reply). packet_by a) answers) answered) x is
   made_goes net (Offers at cx u from false) v stands named late may left answered x makes = absurd makes
   made_goes net (Invokes at cx old entry call new) v stands named late may left answered x makes = absurd makes
@@ -140,18 +123,18 @@ module _ (ports : Side → ℕ → ℕ) (pls : Places) (of_names : pls.names ≡
   Goes s frame = (s ≡ side) × ((n : ℕ) × (slice_get gone n ≡ Some frame))
 
   abbrev Went : Net → List Step → Type 0
-  Went net steps = WentIn (λ s x step. Brings (λ y. (seats y).place) s x step) (λ s x frame. IsFrameOf (pairs s) x frame) (sent_in seats) Goes net steps
+  Went net steps = WentIn (λ s x step. Brings (λ y. (seats y).place) s x step) (λ s x frame. IsFrameOf (pairs s) (own s) (own (other s)) x frame) (sent_in seats) Goes net steps
 
-  pub went : (steps : List Step) (net : Net) (v : TcpValue) → Kept ports pls net → AreOpened ports pls seats net → AllByRecursion Its steps → IsRun names net steps
-      → AllByRecursion (λ step. HasLeft i0 t K gone step.move) steps → AllByRecursion (λ step. HasAnswered i0 gone step.move) steps
-      → Stands net v → is_early v.block.state ≡ false → IsOurs v → Stands (run net steps) w → Went net steps
+  pub went : (steps : List Step) (net : Net) (v : TcpValue) → Kept ports pls net → AreOpened ports pls seats net → AreIts steps → IsRun names net steps
+      → AllByRecursion (λ step. HasLeft i0 t K N gone step.move) steps → AllByRecursion (λ step. HasAnswered i0 N gone step.move) steps
+      → StandsAt net v → is_early v.block.state ≡ false → IsOur v → StandsAt (run net steps) w → Went net steps
   went [] net v kept opened all may left answered stands late ours ends = tt
   went (step ∷ steps) net v kept opened all may left answered stands late ours ends =
       let mays : May pls.names net step.side step.move = subst (λ (ns : List ℕ → Bool). May ns net step.side step.move) (sym of_names) may.0 in
       let quiet : IsNoReset step.move = poll_quiet e t step.move all.0.1 in
       let one : Later e t side place (party (after net step) side) v =
       step_moved e t side place net step.side step.move all.0.0 all.0.1 may.0 v stands late in
-      let named = named_yet net (step ∷ steps) v all may stands late ends ours in (
+      let named = named_yet e t side place (pairs side) w still net (step ∷ steps) v all may stands late ends ours in (
         λ s k new. (
             let (its, x, is, makes) = new_of ports pls seats net kept opened step.side step.move mays quiet s k new.0 new.1 in
             let here : s ≡ side = its ∙ all.0.0 in
@@ -161,10 +144,10 @@ module _ (ports : Side → ℕ → ℕ) (pls : Places) (of_names : pls.names ≡
               x,
               goes.0,
               is,
-              subst (λ (y : Side). IsFrameOf (pairs y) x goes.0) (sym here) goes.1,
+              subst (λ (y : Side). IsFrameOf (pairs y) (own y) (own (other y)) x goes.0) (sym here) goes.1,
               (here, goes.2),
             )),
         went steps (after net step) one.new (step_by ports pls net step.side step.move kept mays)
             (are_opened_then ports pls seats net kept opened step.side step.move mays quiet) all.1 may.1 left.1 answered.1 one.stands one.stays.late
-            (ours_then v one.new one.stays ours) ends,
+            (ours_then e t side place (pairs side) w still v one.new one.stays ours) ends,
       )

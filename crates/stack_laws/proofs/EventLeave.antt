@@ -58,7 +58,7 @@ lets_go place (Resets x) off = tt
 lets_go place (Changes at old new) off = tt
 
 -- that of a call offers nothing
-call_lets_go : (e : Entry) (at : ℕ) (call : SocketCall) (shown : ℤ) (place : ℕ) (move : Move) → IsOfCall e at call shown move → IsLetGo place move
+pub call_lets_go : (e : Entry) (at : ℕ) (call : SocketCall) (shown : ℤ) (place : ℕ) (move : Move) → IsOfCall e at call shown move → IsLetGo place move
 call_lets_go e at call shown place (Invokes here cx old entry this new) is = tt
 call_lets_go e at call shown place (Passes entry) is = absurd is
 call_lets_go e at call shown place (Offers here cx v from sent) is = absurd is
@@ -69,13 +69,13 @@ call_lets_go e at call shown place (Resets x) is = absurd is
 call_lets_go e at call shown place (Changes here old new) is = absurd is
 
 module _ (seats : Side → Seat) where
-  abbrev LetGo : Step → Type 0
+  abbrev pub LetGo : Step → Type 0
   LetGo step = IsLetGo (seats step.side).place step.move
 
-  abbrev All : List Step → Type 0
+  abbrev pub All : List Step → Type 0
   All steps = AllByRecursion LetGo steps
 
-  all_append : (xs ys : List Step) → All xs → All ys → All (xs ++ ys)
+  pub all_append : (xs ys : List Step) → All xs → All ys → All (xs ++ ys)
   all_append [] ys first then_ = then_
   all_append (x ∷ xs) ys first then_ = (first.0, all_append xs ys first.1 then_)
 
@@ -83,7 +83,7 @@ module _ (seats : Side → Seat) where
   all_off [] off = tt
   all_off (step ∷ steps) off = (lets_go (seats step.side).place step.move off.0, all_off steps off.1)
 
-  one_passes : (e : Entry) (steps : List Step) (side : Side) → steps ≡ record { side = side; move = Passes e } ∷ [] → All steps
+  pub one_passes : (e : Entry) (steps : List Step) (side : Side) → steps ≡ record { side = side; move = Passes e } ∷ [] → All steps
   one_passes e steps side is = subst All (sym is) (tt, tt)
 
   -- ONE EVENT
@@ -112,7 +112,7 @@ module _ (seats : Side → Seat) where
         (kind_lets_go e (kind_of e.event) (shown_in starts (more ++ past)) hosts these media happens.are happens.sent_off leave.1) in
         subst All (sym (ap untimed is ∙ untimed_append before (clock_in (e ∷ more ++ past)) these)) all
 
-  numbered_so : (moves : List (ℤ × Happening)) → All (untimed (timed moves)) → AreLetGo seats moves
+  pub numbered_so : (moves : List (ℤ × Happening)) → All (untimed (timed moves)) → AreLetGo seats moves
   numbered_so [] all = tt
   numbered_so (x ∷ moves) all = (all.0, numbered_so moves all.1)
 

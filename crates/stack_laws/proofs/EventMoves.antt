@@ -1,5 +1,5 @@
 -- Each event of a world whose hosts stay is plain moves of its host.
-use Rattle.std.proofs.Common.{◌≡◌, ℕ, suc, ◌^◌, ◌<◌, ◌≤◌, ℤ, ◌≤ℤ◌, Bool, ◌==◌, if◌then◌else◌, true, false, List, [], ◌∷◌, ◌++◌, length, Option, Some, None}
+use Rattle.std.proofs.Common.{◌≡◌, inl, ℕ, suc, ◌^◌, ◌<◌, ◌≤◌, ℤ, ◌≤ℤ◌, Bool, ◌==◌, if◌then◌else◌, true, false, List, [], ◌∷◌, ◌++◌, length, Option, Some, None}
 use Rattle.std.proofs.Common.{refl, sym, ap, ◌∙◌, subst, arith}
 use Rattle.std.specs.Prelude.{pos}
 use Rattle.std.specs.List.{AllByRecursion, list_any}
@@ -7,7 +7,9 @@ use Rattle.std.proofs.lemmas.Int.{ints}
 use Rattle.net_base.specs.Time.{IsMoment}
 use Rattle.ip_wire.specs.Block.{block_address}
 use Rattle.interface_ingress.specs.AddressTests.{is_loopback}
+use Rattle.ip_wire.specs.HardwareAddress.{HardwareAddress}
 use Rattle.ip_wire.specs.HardwareAddress.TheVariants as Hardware
+use Rattle.ip_wire.specs.IpAddress.{IpAddress}
 use Rattle.lan_base.specs.DeviceCapabilities.{DeviceCapabilities}
 use Rattle.lan_base.specs.Medium.TheVariants as Medium
 use Rattle.interface_tables.specs.Inner.{InnerValue}
@@ -54,9 +56,11 @@ use Rattle.lan.proofs.Worlds.Link.Sufficient.{numbers_grow, polled_few}
 use Rattle.lan.proofs.Worlds.Moves.Calls.{IsCalled, names}
 use Rattle.lan.proofs.Worlds.Moves.Events.{call_comes, call_steps, still_comes, still_steps}
 use Rattle.lan.proofs.Worlds.Moves.Fits.{worlds_fit}
-use Rattle.lan.proofs.Worlds.Moves.Frames.{left_narrowed}
+use Rattle.lan.proofs.Worlds.Moves.Frames.{answered_narrowed, left_narrowed}
 use Rattle.lan.proofs.Worlds.Moves.Held.{AreHeld, IsHeld, IsSeenAs, IsShownAt, Stays, all_so, hosts_same}
+use Rattle.lan.proofs.Worlds.Moves.Leave.{let_narrowed}
 use Rattle.lan.proofs.Worlds.Moves.Nets.{either_side, step_of}
+use Rattle.lan.specs.Worlds.Moves.Hops.{KnowsHop}
 use Rattle.lan.proofs.Worlds.Moves.Worlds.{fresh_net}
 use Rattle.lan.proofs.Worlds.PolledJoins as Polled
 use Rattle.lan.proofs.Worlds.Runs.{AreWell, has_come, held_run, numbered_by}
@@ -66,7 +70,8 @@ use Rattle.lan.proofs.Worlds.StillPlain.{plain_run}
 use Rattle.lan.proofs.Worlds.StillSources.{PairKeeps}
 use Rattle.lan.proofs.Worlds.StillSteps.{AreAllHeld, all-append, all-at, one-held, raised}
 use Rattle.lan.specs.Worlds.Still.{host_in}
-use Rattle.stack_laws.proofs.SentOff.{all_sent_off, is_ip, mtu_least}
+use Rattle.stack_laws.proofs.SentOff.{all_sent_off, all_sent_to, is_ip, mtu_least}
+use Rattle.stack_laws.specs.Progress.KnownHops.{AreSentTo, KnowsThroughout}
 use Rattle.stack_laws.specs.Progress.Events.{AreGone, AreOfEvent, AreSentOff, AreTaken, IsOfPoll, MoveBy, MoveByEvents, all_at, clock_in, shown_by, shown_in, untimed}
 
 -- WHAT CLOCKS SHOW
@@ -261,6 +266,7 @@ record Goes (starts : Starts) (past : List Entry) (old : Stations) (e : Entry) (
   pub held : AreAllHeld (first starts) (moments starts old) net comes.steps (moments starts new)
   pub are : AreOfEvent e (kind_of e.event) (shown_in starts past) comes.steps
   pub sent_off : AreSentOff (kind_of e.event) new comes.steps
+  pub sent_to : AreSentTo (kind_of e.event) old new comes.steps
   pub taken : AreTaken (kind_of e.event) old new net comes.steps
   pub went : AreGone (kind_of e.event) old new comes.steps
 
@@ -309,9 +315,9 @@ module _ (starts : Starts) (fresh : IsFreshWorld starts) (past : List Entry) (ol
 
   -- that moves no socket
   passes : (k : Kind) → kind_of e.event ≡ k → IsNoCall k → ((steps : List Step) → (side : Side) × (steps ≡ step_of side (Passes e) ∷ []) →
-      AreOfEvent e k (shown_in starts past) steps) → ((steps : List Step) → AreSentOff k new steps) → ((steps : List Step) → AreTaken k old new net steps) → ((steps : List Step) → AreGone k old new steps)
+      AreOfEvent e k (shown_in starts past) steps) → ((steps : List Step) → AreSentOff k new steps) → ((steps : List Step) → AreSentTo k old new steps) → ((steps : List Step) → AreTaken k old new net steps) → ((steps : List Step) → AreGone k old new steps)
       → ((s : Side) → sockets_of (station new s).places ≡ sockets_of (station old s).places) → AreJoined (firsts starts) w.most new net → Goes starts past old e new net
-  passes k is none as_its no_poll none_taken none_gone same joined =
+  passes k is none as_its no_poll none_to none_taken none_gone same joined =
       let i0 = (station old A).host.inner in
       let none_there = subst IsNoCall (sym is) none in
       let c = still_comes i0 (pos 0) net old new past e of none_there same in
@@ -322,6 +328,7 @@ module _ (starts : Starts) (fresh : IsFreshWorld starts) (past : List Entry) (ol
         held = subst Held (sym steps) (one-held (first starts) before net (step_of A (Passes e)) behind (behind A) (all A).moment (up A) (no_earlier (behind A)) up tt);
         are = subst (λ (x : Kind). AreOfEvent e x (shown_in starts past) c.steps) (sym is) (as_its c.steps (A, steps));
         sent_off = subst (λ (x : Kind). AreSentOff x new c.steps) (sym is) (no_poll c.steps);
+        sent_to = subst (λ (x : Kind). AreSentTo x old new c.steps) (sym is) (none_to c.steps);
         taken = subst (λ (x : Kind). AreTaken x old new net c.steps) (sym is) (none_taken c.steps);
         went = subst (λ (x : Kind). AreGone x old new c.steps) (sym is) (none_gone c.steps);
       }
@@ -359,6 +366,7 @@ module _ (starts : Starts) (fresh : IsFreshWorld starts) (past : List Entry) (ol
               (no_earlier (before side)) (up side) up (shown_so called));
           are = subst (λ (x : Kind). AreOfEvent e x (shown_in starts past) c.steps) (sym is) its;
           sent_off = subst (λ (x : Kind). AreSentOff x new c.steps) (sym is) tt;
+          sent_to = subst (λ (x : Kind). AreSentTo x old new c.steps) (sym is) tt;
           taken = subst (λ (x : Kind). AreTaken x old new net c.steps) (sym is) tt;
           went = subst (λ (x : Kind). AreGone x old new c.steps) (sym is) tt;
         }
@@ -398,12 +406,18 @@ module _ (starts : Starts) (fresh : IsFreshWorld starts) (past : List Entry) (ol
         let held : AreHeld (station old side).host.inner t side net c.steps = pol.held ((all side).paths, (all side).errors ∙ sym (was side).errors) in
         let kept : (run net c.steps).history ≡ e ∷ net.history =
         ap (λ (n : Net). n.history) c.ends ∙ c.of.history ∙ ap (λ (h : List Entry). e ∷ h) (sym of.history) in
-        let on_ip : medium_of (station new side) ≡ Medium.Ip → (station old side).host.inner.hardware ≡ Hardware.Ip =
-        λ ip. is_ip (station old side).host.inner.hardware (sym (w.joined.device side) ∙ sym (ap (λ (c : DeviceCapabilities). c.medium)
+        let i0 : InnerValue = (station old side).host.inner in
+        let Knows : IpAddress → HardwareAddress → Type 0 = KnowsThroughout t (station old side) (station new side) in
+        let Knew : IpAddress → HardwareAddress → Type 0 = KnowsHop i0 t pol.frames.taken (station new side).host.inner in
+        let knew : (remote : IpAddress) (to : HardwareAddress) → Knows remote to → Knew remote to = λ remote to knows. knows pol.frames.taken pol.waited in
+        let goes_to : AreSentTo (OfHost side (Polls t budget)) old new c.steps =
+        λ leave. all_sent_to i0 t Knows (enough side) side net c.steps held
+        (let_narrowed i0 t Knew Knows knew c.steps (pol.went ((all side).paths, (all side).errors ∙ sym (was side).errors) leave)) in
+        let on_ip : medium_of (station new side) ≡ Medium.Ip → i0.hardware ≡ Hardware.Ip =
+        λ ip. is_ip i0.hardware (sym (w.joined.device side) ∙ sym (ap (λ (c : DeviceCapabilities). c.medium)
         (happens_stays old new (OfHost side (Polls t budget)) e.answer e.found side acts).link.capabilities) ∙ ip) in
         let goes_off : AreSentOff (OfHost side (Polls t budget)) new c.steps =
-        λ leave ip. all_sent_off (station old side).host.inner t side net c.steps (on_ip ip) (enough side) held
-        (pol.went ((all side).paths, (all side).errors ∙ sym (was side).errors) leave) in
+        λ leave ip. all_sent_off Knows Hardware.Ip (λ remote frames waited. inl (on_ip ip, refl)) c.steps (goes_to leave) in
         let its : AreOfEvent e (OfHost side (Polls t budget)) (shown_in starts past) c.steps =
         one_kept (station old side).host.inner t side e budget is net c.steps c.may held kept in
         record {
@@ -420,31 +434,32 @@ module _ (starts : Starts) (fresh : IsFreshWorld starts) (past : List Entry) (ol
               (all_so (first starts side) (station old side).host.inner (seen side) t side net c.steps held);
           are = subst (λ (x : Kind). AreOfEvent e x (shown_in starts past) c.steps) (sym is) its;
           sent_off = subst (λ (x : Kind). AreSentOff x new c.steps) (sym is) goes_off;
+          sent_to = subst (λ (x : Kind). AreSentTo x old new c.steps) (sym is) goes_to;
           taken = subst (λ (x : Kind). AreTaken x old new net c.steps) (sym is) (pol.frames.taken, pol.waited, pol.took);
           went = subst (λ (x : Kind). AreGone x old new c.steps) (sym is) (
             pol.frames.gone,
             pol.are_sent,
-            left_narrowed (station old side).host.inner t (Stays (station old side).host.inner (station new side).host.inner)
-                ((station new side).host.inner.paths ≡ []) pol.frames.gone (λ none. (none, (all side).errors ∙ sym (was side).errors)) c.steps pol.left,
-            pol.answered,
+            left_narrowed i0 t (Stays i0 (station new side).host.inner) ((station new side).host.inner.paths ≡ []) Knew Knows pol.frames.gone
+                (λ none. (none, (all side).errors ∙ sym (was side).errors)) knew c.steps pol.left,
+            λ leave. answered_narrowed i0 Knew Knows pol.frames.gone knew c.steps (pol.answered leave),
           );
         }
 
   by_kind : (k : Kind) → kind_of e.event ≡ k → IsTyped k → Happens old k e.answer e.found new → Goes starts past old e new net
   by_kind (OfHost side (Calls i call)) is so acts = invokes side i call is acts
   by_kind (OfHost side (Sets setting)) is so acts =
-      passes (OfHost side (Sets setting)) is tt (λ steps its. its) (λ steps. tt) (λ steps. tt) (λ steps. tt)
+      passes (OfHost side (Sets setting)) is tt (λ steps its. its) (λ steps. tt) (λ steps. tt) (λ steps. tt) (λ steps. tt)
       (same_sockets side acts.rests (ap (λ (x : StationValue). sockets_of x.places) acts.acts.0.3))
       (setting_joins (firsts starts) w.most old new net side setting e.answer w.joined so acts.acts.0 acts.rests)
   by_kind (OfHost side (Opens n)) is so acts =
-      passes (OfHost side (Opens n)) is tt (λ steps its. its) (λ steps. tt) (λ steps. tt) (λ steps. tt)
+      passes (OfHost side (Opens n)) is tt (λ steps its. its) (λ steps. tt) (λ steps. tt) (λ steps. tt) (λ steps. tt)
       (same_sockets side acts.rests (ap (λ (x : StationValue). sockets_of x.places) acts.acts.2)) (plain (subst IsPlain (sym is) tt))
   by_kind (OfHost side (Asks t)) is so acts =
-      passes (OfHost side (Asks t)) is tt (λ steps its. its) (λ steps. tt) (λ steps. tt) (λ steps. tt)
+      passes (OfHost side (Asks t)) is tt (λ steps its. its) (λ steps. tt) (λ steps. tt) (λ steps. tt) (λ steps. tt)
       (same_sockets side acts.rests (ap (λ (x : StationValue). sockets_of x.places) acts.acts.2)) (plain (subst IsPlain (sym is) tt))
   by_kind (OfHost side (Polls t budget)) is so acts = polls side t budget is acts
   by_kind (OfLink act) is so acts =
-      passes (OfLink act) is tt (λ steps its. its) (λ steps. tt) (λ steps. tt) (λ steps. tt)
+      passes (OfLink act) is tt (λ steps its. its) (λ steps. tt) (λ steps. tt) (λ steps. tt) (λ steps. tt)
       (λ s. ap (λ (h : Stations). sockets_of (station h s).places) acts.2 ∙ link_places old act s) (plain (subst IsPlain (sym is) tt))
 
   goes : Goes starts past old e new net
@@ -504,7 +519,7 @@ module _ (starts : Starts) (fresh : IsFreshWorld starts) where
             these,
             refl,
             so_far.by_events,
-            record { are = one.are; sent_off = one.sent_off; taken = one.taken; went = one.went; may = one.comes.may; of = subst (λ (n : Net). IsNetOf n new (e ∷ more ++ past)) ends one.comes.of },
+            record { are = one.are; sent_off = one.sent_off; sent_to = one.sent_to; taken = one.taken; went = one.went; may = one.comes.may; of = subst (λ (n : Net). IsNetOf n new (e ∷ more ++ past)) ends one.comes.of },
           );
         }
 

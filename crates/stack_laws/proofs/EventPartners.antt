@@ -29,7 +29,9 @@ use Rattle.lan.proofs.Worlds.Moves.Calls.{names}
 use Rattle.lan.proofs.Worlds.Moves.Worlds.{fresh_net}
 use Rattle.stack_laws.proofs.EventAtOnce.{are_asked_within}
 use Rattle.stack_laws.proofs.EventClocks.{at_moments}
-use Rattle.stack_laws.proofs.EventComes.{brought_over}
+use Rattle.stack_laws.proofs.EventComes.{brought_over, brought_there}
+use Rattle.stack_laws.proofs.EventHops.{are_let_go_there}
+use Rattle.stack_laws.specs.Progress.Acquainted.{AreAcquainted}
 use Rattle.stack_laws.proofs.EventConnected.{begins, of_one_net}
 use Rattle.stack_laws.proofs.EventLeave.{are_let_go}
 use Rattle.stack_laws.proofs.EventMoves.{events_move}
@@ -136,6 +138,14 @@ go_on_by_events starts past more hosts places news fresh typed still new keys te
     λ moves is read wait delay so streams linked fit.
     anywhere moves is read wait delay so streams (are_let_go starts fresh linked.medium seats at past more hosts still moves (by moves is) linked.leave)
     (brought moves is delay linked IsFreshFor fit) in
+    let where_known : (moves : List (ℤ × Happening)) → timed moves ≡ them.moves → (read wait delay : ℕ)
+    → ((s : Side) → AreEventsInTime starts places read wait s past between more hosts still) → ((s : Side) → KeepsStreamBy (places s) s past more)
+    → AreAcquainted starts places delay past more hosts still → AreSo IsFreshFor seats moves
+    → ComeInTime read wait delay (clock_in past) seats at_clocks at moves =
+    λ moves is read wait delay so streams they fit.
+    anywhere moves is read wait delay so streams
+    (are_let_go_there starts places they.own they.pairs at past more hosts still moves (by moves is) they.leave they.connected they.known)
+    (brought_there starts ways.before past more hosts still places moves delay IsFreshFor fresh typed ways.may partners (by moves is) they fit) in
     let in_reach : (delay : ℕ) → AreBoth (λ s v. IsOpen v.block) places between → AreBoth (λ s v. is_synchronized v.block.state ≡ true) places hosts
     → AreInReach starts delay past more hosts still → AreLinked starts places delay past more hosts still =
     λ delay opened stay reach.
@@ -173,6 +183,7 @@ go_on_by_events starts past more hosts places news fresh typed still new keys te
         heard_over_links = λ moves is delay linked fit. brought moves is delay linked IsHeardBy fit;
         fresh_without_timestamps = λ moves is unstamped. fresh_unstamped starts at past more hosts still places moves (by moves is) unstamped;
         in_time_over_links = over_links;
+        in_time_where_known = where_known;
         linked_in_reach = in_reach;
         in_time_in_reach = λ moves is read wait delay so streams reach fit.
             over_links moves is read wait delay so streams (in_reach delay (so A).opened (so A).stay reach) fit;

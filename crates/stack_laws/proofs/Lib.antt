@@ -32,7 +32,10 @@ pub mod EventCarried
 pub mod EventMade
 pub mod EventFrames
 pub mod EventHeard
+pub mod EventNamed
 pub mod EventHears
+pub mod EventHops
+pub mod EventTold
 pub mod EventFacts
 pub mod EventComes
 pub mod EventStamps

@@ -22,6 +22,7 @@ pub mod SettledNumerals
 pub mod OnEthernet
 pub mod Partners
 pub mod Moving
+pub mod KnownHops
 pub mod Events
 pub mod Gone
 pub mod Takings
@@ -33,6 +34,7 @@ pub mod Carried
 pub mod Ends
 pub mod Hearing
 pub mod Linked
+pub mod Acquainted
 pub mod Reach
 pub mod ByEvents
 pub mod Edges

@@ -9,6 +9,7 @@ pub mod events;
 pub mod excluded;
 pub mod heard;
 pub mod inboxes;
+pub mod known_hops;
 pub mod met;
 pub mod neighbors;
 pub mod partners;

@@ -8,6 +8,7 @@ pub mod Leave
 pub mod Following
 pub mod Held
 pub mod Later
+pub mod Hops
 pub mod Coming
 pub mod MadeReplies
 pub mod Places

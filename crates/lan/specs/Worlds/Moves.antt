@@ -1,5 +1,6 @@
 -- A host's moves over packets.
 pub mod Made
+pub mod Hops
 pub mod Link
 pub mod Follows
 pub mod Joined

@@ -25,6 +25,7 @@ use Rattle.lan.specs.Worlds.Still.{MovePlainly, StillRun, seats_of}
 use Rattle.lan_base.specs.Carried.{names_tcp_or_udp}
 use Rattle.lan_base.specs.Medium.TheVariants as Medium
 use Rattle.lan_base.specs.Port.{has_leave}
+use Rattle.stack_laws.specs.Progress.KnownHops.{AreSentTo, KnowsThroughout}
 
 -- MOMENTS. Two events have one: a poll, and the question when a host wants to be polled.
 
@@ -98,14 +99,17 @@ AreTaken kind old new net steps = Unit {0}
 abbrev pub AreGone : Kind → Stations → Stations → List Step → Type 0
 AreGone (OfHost side (Polls moment budget)) old new steps =
     (gone : List (List ℕ)) × ((station new side).link.sent ≡ (station old side).link.sent ++ gone)
-    × AllByRecursion (λ step. HasLeft (station old side).host.inner moment ((station new side).host.inner.paths ≡ []) gone step.move) steps
-    × (IsTrue (has_leave (station new side).link) → AllByRecursion (λ step. HasAnswered (station old side).host.inner gone step.move) steps)
+    × AllByRecursion (λ step. HasLeft (station old side).host.inner moment ((station new side).host.inner.paths ≡ [])
+    (KnowsThroughout moment (station old side) (station new side)) gone step.move) steps
+    × (IsTrue (has_leave (station new side).link)
+    → AllByRecursion (λ step. HasAnswered (station old side).host.inner (KnowsThroughout moment (station old side) (station new side)) gone step.move) steps)
 AreGone kind old new steps = Unit {0}
 
 -- These moves are an event's own, and lead on from a net of the hosts before it to one of those behind it.
 pub record HappensBy (starts : Starts) (past : List Entry) (e : Entry) (old new : Stations) (net : Net) (steps : List Step) : Type 0 where
   pub are : AreOfEvent e (kind_of e.event) (shown_in starts past) steps
   pub sent_off : AreSentOff (kind_of e.event) new steps
+  pub sent_to : AreSentTo (kind_of e.event) old new steps
   pub taken : AreTaken (kind_of e.event) old new net steps
   pub went : AreGone (kind_of e.event) old new steps
   pub may : IsRun (names_tcp_or_udp Medium.Ip) net steps

@@ -18,8 +18,10 @@ use Rattle.interface_ingress.specs.ArpRepr.{ArpRepr}
 use Rattle.interface_ingress.specs.Arrives as Replies
 use Rattle.interface_ingress.specs.Arrives.{ReplyValue}
 use Rattle.interface_ingress.specs.HardwareAddress.{HardwareAddress}
+use Rattle.interface_ingress.specs.IpAddress.{IpAddress}
 use Rattle.interface_ingress.specs.Kept.{HasSameSettings}
-use Rattle.interface_tables.specs.Inner.{InnerValue}
+use Rattle.interface_tables.specs.Inner.{InnerValue, link_address}
+use Rattle.interface_tables.specs.declared.link.LinkAddress.TheVariants as Link
 use Rattle.lan_base.specs.Device.{Move, Denied}
 use Rattle.sockets.specs.Packet.{PacketValue}
 use Rattle.sockets.specs.WellFormed.{IsWellFormed}
@@ -45,11 +47,15 @@ settings_on i0 i i' has same = record {
 }
 
 module _ {D : Type 0} (moves : D → Move → D → Type 0) (Taken : Frames → D → Type 0) (taking : IsTaking moves Taken) (F : Frames) (i0 : InnerValue)
-    (Begun Gives : D → Type 0) (giving : IsGiving moves Begun Gives) where
+    (N : IpAddress → HardwareAddress → Type 0) (Begun Gives : D → Type 0) (giving : IsGiving moves Begun Gives) where
+  -- the host knows where the frames go
+  abbrev Known : InnerValue → Type 0
+  Known i = (remote : IpAddress) (to : HardwareAddress) → N remote to → link_address i remote ≡ Link.Known to
+
   -- so many frames more were sent, and the answer is among them
   pub record Answers (reply : Option ReplyValue) (d : D) : Type 0 where
     pub out : Frames.Sent Taken F d
-    pub left : (p : PacketValue) → reply ≡ Some (Replies.Answers p) → Gives d → AnswerLeft i0 (F.gone ++ out.more) p
+    pub left : (p : PacketValue) → reply ≡ Some (Replies.Answers p) → Gives d → AnswerLeft i0 N (F.gone ++ out.more) p
 
   -- a whole packet isn't refused
   went_so : (d d' : D) (i i' : InnerValue) (p : PacketValue) (to : HardwareAddress) (sent : Sent) → Went moves d i p.header (Whole to (numbered i p)) sent d' i'
@@ -69,19 +75,19 @@ module _ {D : Type 0} (moves : D → Move → D → Type 0) (Taken : Frames → 
   none_left : (reply : Option ReplyValue) (d : D) → ((p : PacketValue) → reply ≡ Some (Replies.Answers p) → ⊥) → Frames.Sent Taken F d → Answers reply d
   none_left reply d none out = record { out = out; left = λ p is gives. absurd (none p is) }
 
-  packet_left : (x : Sender D) (d : D) (p : PacketValue) (more : List (List ℕ)) → HasSettingsOf i0 x.inner → (i0.ident < 2 ^ 16 → x.inner.ident < 2 ^ 16)
+  packet_left : (x : Sender D) (d : D) (p : PacketValue) (more : List (List ℕ)) → HasSettingsOf i0 x.inner → (i0.ident < 2 ^ 16 → x.inner.ident < 2 ^ 16) → Known x.inner
       → (is_question (plan_of x.inner (is_some x.left) p.header) ≡ true)
-      ⊎ WentAsPlanned i0 (F.gone ++ more) x.inner p (plan_of x.inner (is_some x.left) p.header)
-      → (q : PacketValue) → Some (Replies.Answers p) ≡ Some (Replies.Answers q) → AnswerLeft i0 (F.gone ++ more) q
-  packet_left x d p more settings small what q is =
+      ⊎ WentAsPlanned i0 N (F.gone ++ more) x.inner p (plan_of x.inner (is_some x.left) p.header)
+      → (q : PacketValue) → Some (Replies.Answers p) ≡ Some (Replies.Answers q) → AnswerLeft i0 N (F.gone ++ more) q
+  packet_left x d p more settings small hops what q is =
       let one : Replies.Answers p ≡ Replies.Answers q = cc in
       let same : p ≡ q = cc in
-      subst (λ (y : PacketValue). AnswerLeft i0 (F.gone ++ more) y) same
-      (record { i = x.inner; settings = settings; ident = small; busy = is_some x.left; what = what })
+      subst (λ (y : PacketValue). AnswerLeft i0 N (F.gone ++ more) y) same
+      (record { i = x.inner; settings = settings; ident = small; hops = hops; busy = is_some x.left; what = what })
 
   planned : (d d' : D) (i i' : InnerValue) (l l' : Option LeftValue) (p : PacketValue) (plan : Plan) (sent : Sent) → GoesOut moves d i l p plan sent d' i' l'
       → (left : Left moves Taken taking F i p plan sent d') → Begun d → Gives d' → IsWellFormed p → IsWide p
-      → WentAsPlanned i0 (F.gone ++ left.out.more) i p plan
+      → WentAsPlanned i0 N (F.gone ++ left.out.more) i p plan
   planned d d' i i' l l' p plan sent goes left begins gives formed wide = record {
     formed = formed;
     wide = wide;
@@ -93,22 +99,22 @@ module _ {D : Type 0} (moves : D → Move → D → Type 0) (Taken : Frames → 
         subst (λ (w : Plan). WentBy (F.gone ++ left.out.more) i p w) is (left.went (went_so d d' i i' p to sent out.0 begins gives))
 
   pub replied_left : (awaited : Bool) (reply : Option ReplyValue) (x x' : Sender D) → Replied moves awaited reply x x' → Taken F x.device → Begun x.device
-      → HasSettingsOf i0 x.inner → (i0.ident < 2 ^ 16 → x.inner.ident < 2 ^ 16) → IfSome reply CanBeWide → Answers reply x'.device
-  replied_left awaited None x x' is taken begins settings small wide =
+      → HasSettingsOf i0 x.inner → (i0.ident < 2 ^ 16 → x.inner.ident < 2 ^ 16) → Known x.inner → IfSome reply CanBeWide → Answers reply x'.device
+  replied_left awaited None x x' is taken begins settings small hops wide =
       none_left None x'.device (λ p none. absurd (cc))
       (none_sent moves Taken taking F x'.device (subst (λ (y : Sender D). Taken F y.device) (sym is) taken))
-  replied_left awaited (Some (Replies.Tells packet)) x x' is taken begins settings small wide =
+  replied_left awaited (Some (Replies.Tells packet)) x x' is taken begins settings small hops wide =
       none_left (Some (Replies.Tells packet)) x'.device (λ p none. absurd (let one : Replies.Tells packet ≡ Replies.Answers p = cc in cc))
       (told x.device x'.device x.inner packet is.0 is.1 taken)
-  replied_left awaited (Some (Replies.Answers p)) x x' (inl held) taken begins settings small wide =
+  replied_left awaited (Some (Replies.Answers p)) x x' (inl held) taken begins settings small hops wide =
       let out = none_sent moves Taken taking F x'.device (subst (λ (y : Sender D). Taken F y.device) (sym held.0) taken) in
-      record { out = out; left = λ q is gives. packet_left x x'.device p out.more settings small (inl (and_parts awaited (would_ask x p) held.1).1) q is }
-  replied_left awaited (Some (Replies.Answers p)) x x' (inr (sent, goes, formed, free)) taken begins settings small wide =
+      record { out = out; left = λ q is gives. packet_left x x'.device p out.more settings small hops (inl (and_parts awaited (would_ask x p) held.1).1) q is }
+  replied_left awaited (Some (Replies.Answers p)) x x' (inr (sent, goes, formed, free)) taken begins settings small hops wide =
       let plan : Plan = plan_of x.inner (is_some x.left) p.header in
       let left = out_by moves Taken taking F x.device x'.device x.inner x'.inner x.left x'.left p plan sent goes taken in
       record {
         out = left.out;
         left = λ q is gives.
-            packet_left x x'.device p left.out.more settings small
+            packet_left x x'.device p left.out.more settings small hops
             (inr (planned x.device x'.device x.inner x'.inner x.left x'.left p plan sent goes left begins gives formed (wide formed))) q is;
       }

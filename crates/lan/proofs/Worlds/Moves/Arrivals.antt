@@ -5,6 +5,8 @@ use Rattle.std.proofs.Common.{subst, append-nil}
 use Rattle.std.specs.Prelude.{slice_get, slice_set, slice_index_or}
 use Rattle.std.proofs.lemmas.List.Quantifiers.{position-Some}
 use Rattle.std.proofs.lemmas.Option.{slice_get-get_or}
+use Rattle.interface_ingress.specs.HardwareAddress.{HardwareAddress}
+use Rattle.interface_ingress.specs.IpAddress.{IpAddress}
 use Rattle.interface_ingress.specs.Icmpv4Header.{Icmpv4Header}
 use Rattle.interface_ingress.specs.Icmpv6.{MessageValue}
 use Rattle.interface_ingress.specs.IpAddress.TheVariants as Address
@@ -116,8 +118,8 @@ free : SocketStorage Socket
 free = record { inner = None }
 
 -- moves lead to these sockets, and a packet that answers was made
-pub record Answered (names : List ℕ → Bool) (side : Side) (C G : Type 0) (F : Frames) (i0 : InnerValue) (t : ℤ) (net now : Net) (sockets : List (Option Parties.Socket)) (reply : Option PacketValue) : Type 0 where
-  pub moved : Moved names side C G F i0 t net now sockets
+pub record Answered (names : List ℕ → Bool) (side : Side) (C G : Type 0) (N : IpAddress → HardwareAddress → Type 0) (F : Frames) (i0 : InnerValue) (t : ℤ) (net now : Net) (sockets : List (Option Parties.Socket)) (reply : Option PacketValue) : Type 0 where
+  pub moved : Moved names side C G N F i0 t net now sockets
   pub made : IfSome reply (IsMade (party moved.next side))
 
 reply_made : (p : Party) (before : List Made) (a : Option Reply) → p.segments ≡ and_answer before a → IfSome (packet_by a) (IsMade p)
@@ -126,10 +128,10 @@ reply_made p before (Some reply) is =
     let last = get_last before (made_by reply) [] in
     record { written = reply.segment; among = (last.0, ap (λ (xs : List Made). slice_get xs last.0) is ∙ last.1); read = refl }
 
-module _ (names : List ℕ → Bool) (side : Side) (C G : Type 0) (F : Frames) (i0 : InnerValue) (t : ℤ) (net now : Net) (r : Reaches names side C G F i0 t net now) (places : Places) (has : (party now side).sockets ≡
+module _ (names : List ℕ → Bool) (side : Side) (C G : Type 0) (N : IpAddress → HardwareAddress → Type 0) (F : Frames) (i0 : InnerValue) (t : ℤ) (net now : Net) (r : Reaches names side C G N F i0 t net now) (places : Places) (has : (party now side).sockets ≡
     sockets_of places) where
   abbrev Ends : List (Option Parties.Socket) → Option PacketValue → Type 0
-  Ends sockets reply = Answered names side C G F i0 t net now sockets reply
+  Ends sockets reply = Answered names side C G N F i0 t net now sockets reply
 
   abbrev holds_at : ℕ → Option (Item Socket) → Type 0
   holds_at at o = (at < length places) × (get_or places at free ≡ record { inner = o })
@@ -142,13 +144,13 @@ module _ (names : List ℕ → Bool) (side : Side) (C G : Type 0) (F : Frames) (
   set_there at place = ap (λ (xs : List (Option Parties.Socket)). slice_set xs at (seen_place place)) has ∙ sym (seen_set places at place)
 
   pub nothing : Ends (sockets_of places) None
-  nothing = record { moved = stays names side C G F i0 t net now r (sockets_of places) has; made = tt }
+  nothing = record { moved = stays names side C G N F i0 t net now r (sockets_of places) has; made = tt }
 
   -- A DATAGRAM
 
   module _ (cx : ContextValue) (ip : IpRepr) (udp : UdpRepr) (bytes : List ℕ) (made : WasMade (party now (other side)) (datagram_of udp bytes)) where
     abbrev Given : Places → Type 0
-    Given qs = Moved names side C G F i0 t net now (sockets_of qs)
+    Given qs = Moved names side C G N F i0 t net now (sockets_of qs)
 
     -- of a client nothing is looked at
     unseen : (at : ℕ) (item : Item Socket) (s s' : Socket) → seen s ≡ None → seen s' ≡ None → holds_at at (Some (record item { socket = s })) →
@@ -157,14 +159,14 @@ module _ (names : List ℕ → Bool) (side : Side) (C G : Type 0) (F : Frames) (
         let next : SocketStorage Socket = record { inner = Some (record item { socket = s' }) } in
         let none : slice_index_or (sockets_of places) at None ≡ None = seen_at places at free here.0 ∙ ap seen_place here.1 ∙ was in
         let same : slice_set (sockets_of places) at None ≡ sockets_of places = set_none (sockets_of places) at none in
-        stays names side C G F i0 t net now r (sockets_of (slice_set places at next))
+        stays names side C G N F i0 t net now r (sockets_of (slice_set places at next))
         (has ∙ sym same ∙ ap (λ (o : Option Parties.Socket). slice_set (sockets_of places) at o) (sym becomes) ∙ sym (seen_set places at next))
 
     socket_given : (at : ℕ) (item : Item Socket) (s s' : Socket) → TakesDatagram cx ip udp bytes s s' → holds_at at (Some (record item { socket = s })) →
         accepts_datagram cx s ip udp ≡ true → Given (slice_set places at (record { inner = Some (record item { socket = s' }) }))
     socket_given at item (Is.Udp v) s' takes here accepts =
         subst (λ (x : Socket). Given (slice_set places at (record { inner = Some (record item { socket = x }) }))) (sym takes)
-        (moves_by names side C G F i0 t net now r move _ (found at (record item { socket = Is.Udp v }) here, accepts, made) refl
+        (moves_by names side C G N F i0 t net now r move _ (found at (record item { socket = Is.Udp v }) here, accepts, made) refl
         (set_there at (record { inner = Some (record item { socket = Is.Udp (Udps.process_after v ip udp bytes) }) }))
         (grows_to (party now side) (Moves.party_after (party now side) move) refl refl) (λ c. tt) (λ c g. tt) tt (λ g. tt))
       where
@@ -184,7 +186,7 @@ module _ (names : List ℕ → Bool) (side : Side) (C G : Type 0) (F : Frames) (
         (socket_given at item item.socket takes.0 takes.1 here passing)
 
     first_given : (o : Option ℕ) → datagram_place cx ip udp places ≡ o → (qs : Places) → GivenAt cx ip udp bytes o places qs → Given qs
-    first_given None is qs given = subst Given (sym given) (stays names side C G F i0 t net now r (sockets_of places) has)
+    first_given None is qs given = subst Given (sym given) (stays names side C G N F i0 t net now r (sockets_of places) has)
     first_given (Some at) is qs given =
         let first = position-Some (passes (λ s. accepts_datagram cx s ip udp)) places at free is in
         let place = get_or places at free in
@@ -208,7 +210,7 @@ module _ (names : List ℕ → Bool) (side : Side) (C G : Type 0) (F : Frames) (
 
     -- what answers it goes, where the device gives leave
     abbrev pub IsLeft : Option PacketValue → Type 0
-    IsLeft reply = G → IfSome reply (AnswerLeft i0 F.gone)
+    IsLeft reply = G → IfSome reply (AnswerLeft i0 N F.gone)
 
     abbrev Taken : ℕ → SocketStorage Socket → Type 0
     Taken at place = CameBy at (sockets_of (slice_set places at (with_change (with_segment cx ip header bytes) place)))
@@ -228,7 +230,7 @@ module _ (names : List ℕ → Bool) (side : Side) (C G : Type 0) (F : Frames) (
     socket_takes at item (Is.Tcp v) here accepts left = record {
       ends = record {
         moved =
-            moves_by names side C G F i0 t net now r move _ (found at (record item { socket = Is.Tcp v }) here, accepts, came) refl
+            moves_by names side C G N F i0 t net now r move _ (found at (record item { socket = Is.Tcp v }) here, accepts, came) refl
             (set_there at (with_change (with_segment cx ip header bytes) (record { inner = Some (record item { socket = Is.Tcp v }) })))
             (grown (Moves.party_after (party now side) move) (arrives cx v ip header bytes).answer refl refl) (λ c. (shown, made, between)) (λ c g. tt) tt left;
         made = there now side move (λ (y : Party). IfSome (packet_by (arrives cx v ip header bytes).answer) (IsMade y))
@@ -254,7 +256,7 @@ module _ (names : List ℕ → Bool) (side : Side) (C G : Type 0) (F : Frames) (
     pub reset : (C → ⊥) → Ends (sockets_of places) (packet_by (Some (rst_reply ip header (length bytes))))
     reset none = record {
       moved =
-          moves_by names side C G F i0 t net now r move (sockets_of places) refl refl has
+          moves_by names side C G N F i0 t net now r move (sockets_of places) refl refl has
           (grows_by (party now side) (Moves.party_after (party now side) move) (x ∷ []) [] refl (sym (append-nil (party now side).datagrams))) none (λ c g. tt) tt (λ g. tt);
       made = there now side move (λ (y : Party). IfSome (packet_by (Some (rst_reply ip header (length bytes)))) (IsMade y))
           (reply_made (Moves.party_after (party now side) move) (party now side).segments (Some (rst_reply ip header (length bytes))) refl);

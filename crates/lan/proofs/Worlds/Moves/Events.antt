@@ -14,6 +14,8 @@ use Rattle.lan.specs.Worlds.AtLink.Runs.{refusal_in}
 use Rattle.lan.specs.Worlds.AtLink.Station.{StationValue, Stations, station}
 use Rattle.lan.specs.Worlds.AtLink.Steps.{ActsAt}
 use Rattle.lan.specs.Worlds.Moves.Follows.{sockets_of, IsNetOf, Comes}
+use Rattle.interface_ingress.specs.HardwareAddress.{HardwareAddress}
+use Rattle.interface_ingress.specs.IpAddress.{IpAddress}
 use Rattle.interface_tables.specs.Inner.{InnerValue}
 use Rattle.lan.proofs.Worlds.Moves.Following.{Reaches}
 use Rattle.lan.proofs.Worlds.Moves.Frames.{Frames, no_frames}
@@ -70,10 +72,10 @@ passed net B e A = refl
 passed net B e B = refl
 
 -- moves of a host, and then an event that is no call
-abbrev pub reached_comes : (C G : Type 0) (F : Frames) (i0 : InnerValue) (t : ℤ) (net now : Net) (new : Stations) (past : List Entry) (e : Entry) (side : Side) → Reaches names side C G F i0 t net now → net.history ≡ past →
+abbrev pub reached_comes : (C G : Type 0) (N : IpAddress → HardwareAddress → Type 0) (F : Frames) (i0 : InnerValue) (t : ℤ) (net now : Net) (new : Stations) (past : List Entry) (e : Entry) (side : Side) → Reaches names side C G N F i0 t net now → net.history ≡ past →
     IsNoCall (kind_of e.event)
     → ((s : Side) → (party now s).sockets ≡ sockets_of (station new s).places) → Comes names net new (e ∷ past)
-reached_comes C G F i0 t net now new past e side r was none sockets = record {
+reached_comes C G N F i0 t net now new past e side r was none sockets = record {
   next = after now passes;
   steps = r.steps ++ passes ∷ [];
   may = IsRun-append names net r.steps (passes ∷ []) r.may (subst (λ n. IsRun names n (passes ∷ [])) (sym r.ends) (none, tt));
@@ -89,14 +91,14 @@ reached_comes C G F i0 t net now new past e side r was none sockets = record {
   passes = step_of side (Moves.Passes e)
 
 -- no move
-abbrev at_rest : (i0 : InnerValue) (t : ℤ) (net : Net) → Reaches names A (Unit {0}) (Unit {0}) no_frames i0 t net net
-at_rest i0 t net = here names A (Unit {0}) (Unit {0}) i0 t net
+abbrev at_rest : (i0 : InnerValue) (t : ℤ) (net : Net) → Reaches names A (Unit {0}) (Unit {0}) (λ remote to. Unit {0}) no_frames i0 t net net
+at_rest i0 t net = here names A (Unit {0}) (Unit {0}) (λ remote to. Unit {0}) i0 t net
 
 -- an event that leaves every socket as it was
 pub still_comes : (i0 : InnerValue) (t : ℤ) (net : Net) (old new : Stations) (past : List Entry) (e : Entry) → IsNetOf net old past → IsNoCall (kind_of e.event)
     → ((s : Side) → sockets_of (station new s).places ≡ sockets_of (station old s).places) → Comes names net new (e ∷ past)
 still_comes i0 t net old new past e of none same =
-    reached_comes (Unit {0}) (Unit {0}) no_frames i0 t net net new past e A (at_rest i0 t net) of.history none (λ s. of.sockets s ∙ sym (same s))
+    reached_comes (Unit {0}) (Unit {0}) (λ remote to. Unit {0}) no_frames i0 t net net new past e A (at_rest i0 t net) of.history none (λ s. of.sockets s ∙ sym (same s))
 
 pub still_steps : (i0 : InnerValue) (t : ℤ) (net : Net) (old new : Stations) (past : List Entry) (e : Entry) (of : IsNetOf net old past)
     (none : IsNoCall (kind_of e.event)) (same : (s : Side) → sockets_of (station new s).places ≡ sockets_of (station old s).places)

@@ -19,6 +19,7 @@ use Rattle.interface_egress.specs.GoesOut.{cut_of, frame_of, numbered}
 use Rattle.interface_egress.specs.Plan.{plan_of}
 use Rattle.interface_egress.specs.declared.plan.Plan.{Plan}
 use Rattle.interface_egress.specs.declared.plan.Plan.TheVariants as Way
+use Rattle.interface_ingress.specs.HardwareAddress.{HardwareAddress}
 use Rattle.interface_ingress.specs.IpAddress.{IpAddress}
 use Rattle.interface_ingress.specs.Arrives.{whole_after}
 use Rattle.interface_ingress.specs.Delivered.{packet_by}
@@ -156,15 +157,17 @@ module _ (side : Side) (i0 : InnerValue) (t : ℤ) (net : Net) where
 
 module _ (i0 : InnerValue) (t : ℤ) where
   -- as each of these moves says
-  abbrev pub HaveLeft : Type 0 → List (List ℕ) → List Step → Type 0
-  HaveLeft C gone steps = AllByRecursion (λ step. HasLeft i0 t C gone step.move) steps
+  abbrev pub HaveLeft : Type 0 → (IpAddress → HardwareAddress → Type 0) → List (List ℕ) → List Step → Type 0
+  HaveLeft C N gone steps = AllByRecursion (λ step. HasLeft i0 t C N gone step.move) steps
 
-  pub left-append : (C : Type 0) (gone : List (List ℕ)) (steps more : List Step) → HaveLeft C gone steps → HaveLeft C gone more → HaveLeft C gone (steps ++ more)
-  left-append C gone [] more first second = second
-  left-append C gone (step ∷ steps) more first second = (first.0, left-append C gone steps more first.1 second)
+  pub left-append : (C : Type 0) (N : IpAddress → HardwareAddress → Type 0) (gone : List (List ℕ)) (steps more : List Step) → HaveLeft C N gone steps → HaveLeft C N gone more
+      → HaveLeft C N gone (steps ++ more)
+  left-append C N gone [] more first second = second
+  left-append C N gone (step ∷ steps) more first second = (first.0, left-append C N gone steps more first.1 second)
 
   -- under a narrower condition, as these frames are among those
-  module _ (C C' : Type 0) (gone gone' : List (List ℕ)) (back : C' → C) (among : (frame : List ℕ) → IsGone gone frame → IsGone gone' frame) where
+  module _ (C C' : Type 0) (N N' : IpAddress → HardwareAddress → Type 0) (gone gone' : List (List ℕ)) (back : C' → C)
+      (knew : (remote : IpAddress) (to : HardwareAddress) → N' remote to → N remote to) (among : (frame : List ℕ) → IsGone gone frame → IsGone gone' frame) where
     still_went : (i : InnerValue) (p : PacketValue) (plan : Plan) → WentBy gone i p plan → WentBy gone' i p plan
     still_went i p (Way.Go to) went = among (frame_of i (Whole to (numbered i p))) went
     still_went i p (Way.Cut to) went = among (frame_of i (departure_from i (cut_of i to p))) went
@@ -174,13 +177,14 @@ module _ (i0 : InnerValue) (t : ℤ) where
     still_went i p Way.Busy went = went
     still_went i p (Way.Ask question) went = went
 
-    still_from : (cx : ContextValue) (s : Socket) (from : IpAddress) (p : PacketValue) → LeftFrom i0 t C gone cx s from p → LeftFrom i0 t C' gone' cx s from p
+    still_from : (cx : ContextValue) (s : Socket) (from : IpAddress) (p : PacketValue) → LeftFrom i0 t C N gone cx s from p → LeftFrom i0 t C' N' gone' cx s from p
     still_from cx s from p l = record {
       i = l.i;
       settings = l.settings;
       moment = l.moment;
       ident = l.ident;
       paths = λ c. l.paths (back c);
+      hops = λ remote to n. l.hops remote to (knew remote to n);
       shown = l.shown;
       formed = l.formed;
       wide = l.wide;
@@ -190,12 +194,12 @@ module _ (i0 : InnerValue) (t : ℤ) where
       went = still_went l.i (sourced l.i p) (plan_of l.i l.busy (sourced l.i p).header) l.went;
     }
 
-    still_offered : (cx : ContextValue) (s : Socket) (from : IpAddress) (o : Option PacketValue) → IfSome o (λ p. LeftFrom i0 t C gone cx s from p) →
-        IfSome o (λ p. LeftFrom i0 t C' gone' cx s from p)
+    still_offered : (cx : ContextValue) (s : Socket) (from : IpAddress) (o : Option PacketValue) → IfSome o (λ p. LeftFrom i0 t C N gone cx s from p) →
+        IfSome o (λ p. LeftFrom i0 t C' N' gone' cx s from p)
     still_offered cx s from None left = tt
     still_offered cx s from (Some p) left = still_from cx s from p left
 
-    still_left : (move : Moves.Move) → HasLeft i0 t C gone move → HasLeft i0 t C' gone' move
+    still_left : (move : Moves.Move) → HasLeft i0 t C N gone move → HasLeft i0 t C' N' gone' move
     still_left (Offers at cx v from true) left = still_offered cx (Is.Tcp v) from (offered_packet (offer_of cx v).socket) left
     still_left (Offers at cx v from false) left = tt
     still_left (Invokes at cx old entry call new) left = tt
@@ -206,52 +210,57 @@ module _ (i0 : InnerValue) (t : ℤ) where
     still_left (Resets x) left = tt
     still_left (Changes at old new) left = tt
 
-    all_left : (steps : List Step) → HaveLeft C gone steps → HaveLeft C' gone' steps
+    all_left : (steps : List Step) → HaveLeft C N gone steps → HaveLeft C' N' gone' steps
     all_left [] left = tt
     all_left (step ∷ steps) left = (still_left step.move left.0, all_left steps left.1)
 
-  pub left_narrowed : (C C' : Type 0) (gone : List (List ℕ)) → (C' → C) → (steps : List Step) → HaveLeft C gone steps → HaveLeft C' gone steps
-  left_narrowed C C' gone back steps left = all_left C C' gone gone back (λ frame is. is) steps left
+  pub left_narrowed : (C C' : Type 0) (N N' : IpAddress → HardwareAddress → Type 0) (gone : List (List ℕ)) → (C' → C)
+      → ((remote : IpAddress) (to : HardwareAddress) → N' remote to → N remote to) → (steps : List Step) → HaveLeft C N gone steps → HaveLeft C' N' gone steps
+  left_narrowed C C' N N' gone back knew steps left = all_left C C' N N' gone gone back knew (λ frame is. is) steps left
 
   -- as more frames went
-  pub left_more : (C : Type 0) (gone more : List (List ℕ)) (steps : List Step) → HaveLeft C gone steps → HaveLeft C (gone ++ more) steps
-  left_more C gone more steps left =
-      all_left C C gone (gone ++ more) (λ c. c) (λ frame is. (is.0, get_more gone more is.0 frame is.1)) steps left
+  pub left_more : (C : Type 0) (N : IpAddress → HardwareAddress → Type 0) (gone more : List (List ℕ)) (steps : List Step) → HaveLeft C N gone steps →
+      HaveLeft C N (gone ++ more) steps
+  left_more C N gone more steps left =
+      all_left C C N N gone (gone ++ more) (λ c. c) (λ remote to n. n) (λ frame is. (is.0, get_more gone more is.0 frame is.1)) steps left
 
 -- WHAT WAS ANSWERED
 
 module _ (i0 : InnerValue) where
-  abbrev pub HaveAnswered : List (List ℕ) → List Step → Type 0
-  HaveAnswered gone steps = AllByRecursion (λ step. HasAnswered i0 gone step.move) steps
+  abbrev pub HaveAnswered : (IpAddress → HardwareAddress → Type 0) → List (List ℕ) → List Step → Type 0
+  HaveAnswered N gone steps = AllByRecursion (λ step. HasAnswered i0 N gone step.move) steps
 
-  pub answered-append : (gone : List (List ℕ)) (steps more : List Step) → HaveAnswered gone steps → HaveAnswered gone more → HaveAnswered gone (steps ++ more)
-  answered-append gone [] more first second = second
-  answered-append gone (step ∷ steps) more first second = (first.0, answered-append gone steps more first.1 second)
+  pub answered-append : (N : IpAddress → HardwareAddress → Type 0) (gone : List (List ℕ)) (steps more : List Step) → HaveAnswered N gone steps
+      → HaveAnswered N gone more → HaveAnswered N gone (steps ++ more)
+  answered-append N gone [] more first second = second
+  answered-append N gone (step ∷ steps) more first second = (first.0, answered-append N gone steps more first.1 second)
 
-  module _ (gone more : List (List ℕ)) where
-    still_as_planned : (i : InnerValue) (p : PacketValue) (plan : Plan) → WentAsPlanned i0 gone i p plan → WentAsPlanned i0 (gone ++ more) i p plan
+  module _ (N N' : IpAddress → HardwareAddress → Type 0) (knew : (remote : IpAddress) (to : HardwareAddress) → N' remote to → N remote to)
+      (gone gone' : List (List ℕ)) (among : (frame : List ℕ) → IsGone gone frame → IsGone gone' frame) where
+    still_as_planned : (i : InnerValue) (p : PacketValue) (plan : Plan) → WentAsPlanned i0 N gone i p plan → WentAsPlanned i0 N' gone' i p plan
     still_as_planned i p plan w = record {
       formed = w.formed;
       wide = w.wide;
-      went = λ to is. (let n = w.went to is in (n.0, get_more gone more n.0 (frame_of i (Whole to (numbered i p))) n.1));
+      went = λ to is. among (frame_of i (Whole to (numbered i p))) (w.went to is);
     }
 
-    still_what : (i : InnerValue) (p : PacketValue) (plan : Plan) → (is_question plan ≡ true) ⊎ WentAsPlanned i0 gone i p plan →
-        (is_question plan ≡ true) ⊎ WentAsPlanned i0 (gone ++ more) i p plan
+    still_what : (i : InnerValue) (p : PacketValue) (plan : Plan) → (is_question plan ≡ true) ⊎ WentAsPlanned i0 N gone i p plan →
+        (is_question plan ≡ true) ⊎ WentAsPlanned i0 N' gone' i p plan
     still_what i p plan (inl asks) = inl asks
     still_what i p plan (inr went) = inr (still_as_planned i p plan went)
 
-    still_answered : (o : Option PacketValue) → IfSome o (AnswerLeft i0 gone) → IfSome o (AnswerLeft i0 (gone ++ more))
+    still_answered : (o : Option PacketValue) → IfSome o (AnswerLeft i0 N gone) → IfSome o (AnswerLeft i0 N' gone')
     still_answered None left = tt
     still_answered (Some p) left = record {
       i = left.i;
       settings = left.settings;
       ident = left.ident;
+      hops = λ remote to n. left.hops remote to (knew remote to n);
       busy = left.busy;
       what = still_what left.i p (plan_of left.i left.busy p.header) left.what;
     }
 
-    still_so : (move : Moves.Move) → HasAnswered i0 gone move → HasAnswered i0 (gone ++ more) move
+    still_so : (move : Moves.Move) → HasAnswered i0 N gone move → HasAnswered i0 N' gone' move
     still_so (Takes at cx v ip header bytes) left = still_answered (packet_by (arrives cx v ip header bytes).answer) left
     still_so (Offers at cx v from sent) left = tt
     still_so (Invokes at cx old entry call new) left = tt
@@ -261,7 +270,17 @@ module _ (i0 : InnerValue) where
     still_so (Resets x) left = tt
     still_so (Changes at old new) left = tt
 
-    -- as more frames went
-    pub all_answered : (steps : List Step) → HaveAnswered gone steps → HaveAnswered (gone ++ more) steps
+    all_answered : (steps : List Step) → HaveAnswered N gone steps → HaveAnswered N' gone' steps
     all_answered [] left = tt
     all_answered (step ∷ steps) left = (still_so step.move left.0, all_answered steps left.1)
+
+  -- under a narrower condition
+  pub answered_narrowed : (N N' : IpAddress → HardwareAddress → Type 0) (gone : List (List ℕ))
+      → ((remote : IpAddress) (to : HardwareAddress) → N' remote to → N remote to) → (steps : List Step) → HaveAnswered N gone steps → HaveAnswered N' gone steps
+  answered_narrowed N N' gone knew steps answered = all_answered N N' knew gone gone (λ frame is. is) steps answered
+
+  -- as more frames went
+  pub answered_more : (N : IpAddress → HardwareAddress → Type 0) (gone more : List (List ℕ)) (steps : List Step) → HaveAnswered N gone steps →
+      HaveAnswered N (gone ++ more) steps
+  answered_more N gone more steps answered =
+      all_answered N N (λ remote to n. n) gone (gone ++ more) (λ frame is. (is.0, get_more gone more is.0 frame is.1)) steps answered

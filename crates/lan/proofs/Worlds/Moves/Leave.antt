@@ -4,6 +4,7 @@ use Rattle.interface.specs.Host.{Sender}
 use Rattle.interface.specs.Ip.{source_of, destination_of}
 use Rattle.interface.specs.IpRepr.{IpRepr}
 use Rattle.interface.specs.Turn.{Leaves, is_done, is_given_up, is_out_of_turn, plan_at, with_source}
+use Rattle.interface_ingress.specs.HardwareAddress.{HardwareAddress}
 use Rattle.interface_ingress.specs.IpAddress.{IpAddress}
 use Rattle.interface_egress.specs.Fragments.{LeftValue}
 use Rattle.interface_egress.specs.GoesOut.{GoesOut, WasCut, Went, cut_of, numbered}
@@ -14,14 +15,16 @@ use Rattle.interface_egress.specs.declared.plan.Plan.TheVariants as Way
 use Rattle.interface_egress.specs.declared.socket_meta.Meta.{Meta}
 use Rattle.interface_egress.specs.declared.way_out.Sent.{Sent}
 use Rattle.interface_egress.specs.declared.way_out.Sent.TheVariants as Outcome
-use Rattle.interface_tables.specs.Inner.{InnerValue, may_come_from}
+use Rattle.interface_tables.specs.Inner.{InnerValue, link_address, may_come_from}
 use Rattle.interface_tables.specs.Source.{source_for}
+use Rattle.interface_tables.specs.declared.link.LinkAddress.TheVariants as Link
 use Rattle.lan_base.specs.Device.{Move, Allowed, Denied}
 use Rattle.sockets.specs.Packet.{PacketValue}
+use Rattle.tcp_control.specs.declared.offer.OpenOffer.{OpenOffer}
 use Rattle.tcp_model.specs.Offers.{offer_of}
 use Rattle.lan.specs.Worlds.AtLink.Moves as Moves
 use Rattle.lan.specs.Worlds.AtLink.Moves.{Step}
-use Rattle.lan.specs.Worlds.AtLink.Moves.Move.{Offers}
+use Rattle.lan.specs.Worlds.AtLink.Moves.Move.{Invokes, Passes, Offers, Gives, Takes, Receives, Resets, Changes}
 use Rattle.lan.proofs.Worlds.Moves.Held.{IsAsAt}
 
 -- DEVICES: what holds of one since a poll began, and of one that gave leave and refused nothing up to now
@@ -46,26 +49,63 @@ IsHindrance plan = ⊥
 abbrev pub leaving_by : InnerValue → IpRepr → IpRepr
 leaving_by i h = if may_come_from i (source_of h) (destination_of h) then h else with_source h (source_for i.addresses (destination_of h))
 
--- So was the host in the poll when a packet that left it with this header had to stay.
-pub record IsHindered (i0 : InnerValue) (t : ℤ) (leaving : InnerValue → IpRepr) : Type 0 where
+-- So was the host in the poll when a packet that left it with this header had to stay, though it knew, as N says, where frames for a destination go.
+pub record IsHindered (i0 : InnerValue) (t : ℤ) (N : IpAddress → HardwareAddress → Type 0) (leaving : InnerValue → IpRepr) : Type 0 where
   pub i : InnerValue
   pub like : IsAsAt i0 t i
   pub paths : i.paths ≡ []
+  pub hops : (remote : IpAddress) (to : HardwareAddress) → N remote to → link_address i remote ≡ Link.Known to
   pub busy : Bool
   pub plan : IsHindrance (plan_of i busy (leaving i))
 
 -- what a TCP socket offers goes, or has to stay
-abbrev pub IsLet : InnerValue → ℤ → Moves.Move → Type 0
-IsLet i0 t (Offers at cx v from sent) = IfSome (offer_of cx v).socket.offered (λ o. (sent ≡ true) ⊎ IsHindered i0 t (λ i. leaving_by i o.header))
-IsLet i0 t move = Unit {0}
+abbrev pub IsLet : InnerValue → ℤ → (IpAddress → HardwareAddress → Type 0) → Moves.Move → Type 0
+IsLet i0 t N (Offers at cx v from sent) = IfSome (offer_of cx v).socket.offered (λ o. (sent ≡ true) ⊎ IsHindered i0 t N (λ i. leaving_by i o.header))
+IsLet i0 t N move = Unit {0}
 
-abbrev pub AreLet : InnerValue → ℤ → List Step → Type 0
-AreLet i0 t [] = Unit {0}
-AreLet i0 t (step ∷ steps) = IsLet i0 t step.move × AreLet i0 t steps
+abbrev pub AreLet : InnerValue → ℤ → (IpAddress → HardwareAddress → Type 0) → List Step → Type 0
+AreLet i0 t N [] = Unit {0}
+AreLet i0 t N (step ∷ steps) = IsLet i0 t N step.move × AreLet i0 t N steps
 
-pub let-append : (i0 : InnerValue) (t : ℤ) (steps more : List Step) → AreLet i0 t steps → AreLet i0 t more → AreLet i0 t (steps ++ more)
-let-append i0 t [] more first second = second
-let-append i0 t (step ∷ steps) more first second = (first.0, let-append i0 t steps more first.1 second)
+pub let-append : (i0 : InnerValue) (t : ℤ) (N : IpAddress → HardwareAddress → Type 0) (steps more : List Step) → AreLet i0 t N steps → AreLet i0 t N more →
+    AreLet i0 t N (steps ++ more)
+let-append i0 t N [] more first second = second
+let-append i0 t N (step ∷ steps) more first second = (first.0, let-append i0 t N steps more first.1 second)
+
+-- under a narrower condition
+module _ (i0 : InnerValue) (t : ℤ) (N N' : IpAddress → HardwareAddress → Type 0) (knew : (remote : IpAddress) (to : HardwareAddress) → N' remote to → N remote to) where
+  still_hindered : (leaving : InnerValue → IpRepr) → IsHindered i0 t N leaving → IsHindered i0 t N' leaving
+  still_hindered leaving h = record {
+    i = h.i;
+    like = h.like;
+    paths = h.paths;
+    hops = λ remote to n. h.hops remote to (knew remote to n);
+    busy = h.busy;
+    plan = h.plan;
+  }
+
+  still_or : (leaving : InnerValue → IpRepr) (sent : Bool) → (sent ≡ true) ⊎ IsHindered i0 t N leaving → (sent ≡ true) ⊎ IsHindered i0 t N' leaving
+  still_or leaving sent (inl gone) = inl gone
+  still_or leaving sent (inr h) = inr (still_hindered leaving h)
+
+  still_offer : (o : Option OpenOffer) (sent : Bool) → IfSome o (λ o. (sent ≡ true) ⊎ IsHindered i0 t N (λ i. leaving_by i o.header))
+      → IfSome o (λ o. (sent ≡ true) ⊎ IsHindered i0 t N' (λ i. leaving_by i o.header))
+  still_offer None sent so = tt
+  still_offer (Some o) sent so = still_or (λ i. leaving_by i o.header) sent so
+
+  still_let : (move : Moves.Move) → IsLet i0 t N move → IsLet i0 t N' move
+  still_let (Offers at cx v from sent) so = still_offer (offer_of cx v).socket.offered sent so
+  still_let (Invokes at cx old entry call new) so = tt
+  still_let (Passes entry) so = tt
+  still_let (Gives at cx v answer new sent) so = tt
+  still_let (Takes at cx v ip header bytes) so = tt
+  still_let (Receives at cx v ip udp bytes) so = tt
+  still_let (Resets x) so = tt
+  still_let (Changes at old new) so = tt
+
+  pub let_narrowed : (steps : List Step) → AreLet i0 t N steps → AreLet i0 t N' steps
+  let_narrowed [] so = tt
+  let_narrowed (step ∷ steps) so = (still_let step.move so.0, let_narrowed steps so.1)
 
 -- A PACKET'S TURN
 

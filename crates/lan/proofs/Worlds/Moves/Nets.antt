@@ -8,6 +8,8 @@ use Rattle.lan.specs.Worlds.AtLink.Moves.{Move, party_after, history_after, May,
 use Rattle.lan.specs.Worlds.AtLink.Parties.{Socket, Datagram, Party, Net, party}
 use Rattle.tcp_tie.specs.Host.{Made}
 use Rattle.lan.proofs.Worlds.AtLink.Extended.{run-append, IsRun-append}
+use Rattle.interface_ingress.specs.HardwareAddress.{HardwareAddress}
+use Rattle.interface_ingress.specs.IpAddress.{IpAddress}
 use Rattle.interface_tables.specs.Inner.{InnerValue}
 use Rattle.lan.proofs.Worlds.Moves.Following.{Reaches}
 use Rattle.lan.proofs.Worlds.Moves.Frames.{Frames, all_moved_on, answered-append, left-append, no_frames}
@@ -65,8 +67,8 @@ grows_by p p' segments datagrams s d = record {
   datagrams = λ x is. (is.0, ap (λ (xs : List Datagram). slice_get xs is.0) d ∙ get_more p.datagrams datagrams is.0 x is.1);
 }
 
-module _ (names : List ℕ → Bool) (side : Side) (C G : Type 0) (i0 : InnerValue) (t : ℤ) where
-  abbrev pub here : (net : Net) → Reaches names side C G no_frames i0 t net net
+module _ (names : List ℕ → Bool) (side : Side) (C G : Type 0) (N : IpAddress → HardwareAddress → Type 0) (i0 : InnerValue) (t : ℤ) where
+  abbrev pub here : (net : Net) → Reaches names side C G N no_frames i0 t net net
   here net = record {
     steps = [];
     may = tt;
@@ -81,10 +83,10 @@ module _ (names : List ℕ → Bool) (side : Side) (C G : Type 0) (i0 : InnerVal
     answered = λ g. tt;
   }
 
-module _ (names : List ℕ → Bool) (side : Side) (C G : Type 0) (F : Frames) (i0 : InnerValue) (t : ℤ) where
-  abbrev pub goes_on : (net now : Net) (move : Move) → Reaches names side C G F i0 t net now → May names now side move → history_after now.history move ≡ now.history
-      → Grows (party now side) (party_after (party now side) move) → (C → IsHeld i0 t now side move) → (C → G → IsLet i0 t move) →
-      HasLeft i0 t C F.gone move → (G → HasAnswered i0 F.gone move) → Reaches names side C G F i0 t net (after now (step_of side move))
+module _ (names : List ℕ → Bool) (side : Side) (C G : Type 0) (N : IpAddress → HardwareAddress → Type 0) (F : Frames) (i0 : InnerValue) (t : ℤ) where
+  abbrev pub goes_on : (net now : Net) (move : Move) → Reaches names side C G N F i0 t net now → May names now side move → history_after now.history move ≡ now.history
+      → Grows (party now side) (party_after (party now side) move) → (C → IsHeld i0 t now side move) → (C → G → IsLet i0 t N move) →
+      HasLeft i0 t C N F.gone move → (G → HasAnswered i0 N F.gone move) → Reaches names side C G N F i0 t net (after now (step_of side move))
   goes_on net now move r may same grows held goes left answered = record {
     steps = r.steps ++ step_of side move ∷ [];
     may = IsRun-append names net r.steps (step_of side move ∷ []) r.may (subst (λ n. IsRun names n (step_of side move ∷ [])) (sym r.ends) (may, tt));
@@ -95,32 +97,32 @@ module _ (names : List ℕ → Bool) (side : Side) (C G : Type 0) (F : Frames) (
         (there now side move (Grows (party now side)) grows);
     held = λ c. held-append i0 t side net r.steps (step_of side move ∷ []) (r.held c)
         (subst (λ n. AreHeld i0 t side n (step_of side move ∷ [])) (sym r.ends) ((refl, held c), tt));
-    went = λ c g. let-append i0 t r.steps (step_of side move ∷ []) (r.went c g) (goes c g, tt);
+    went = λ c g. let-append i0 t N r.steps (step_of side move ∷ []) (r.went c g) (goes c g, tt);
     took = all_moved_on side i0 t net F.taken r.steps (step_of side move ∷ []) r.took;
-    left = left-append i0 t C F.gone r.steps (step_of side move ∷ []) r.left (left, tt);
-    answered = λ g. answered-append i0 F.gone r.steps (step_of side move ∷ []) (r.answered g) (answered g, tt);
+    left = left-append i0 t C N F.gone r.steps (step_of side move ∷ []) r.left (left, tt);
+    answered = λ g. answered-append i0 N F.gone r.steps (step_of side move ∷ []) (r.answered g) (answered g, tt);
   }
 
 -- ONE MOVE
 
 -- moves of this host lead on, to a net with these sockets
-pub record Moved (names : List ℕ → Bool) (side : Side) (C G : Type 0) (F : Frames) (i0 : InnerValue) (t : ℤ) (net now : Net) (sockets : List (Option Socket)) : Type 0 where
+pub record Moved (names : List ℕ → Bool) (side : Side) (C G : Type 0) (N : IpAddress → HardwareAddress → Type 0) (F : Frames) (i0 : InnerValue) (t : ℤ) (net now : Net) (sockets : List (Option Socket)) : Type 0 where
   pub next : Net
-  pub reaches : Reaches names side C G F i0 t net next
+  pub reaches : Reaches names side C G N F i0 t net next
   pub sockets_are : (party next side).sockets ≡ sockets
   pub grows : Grows (party now side) (party next side)
 
-module _ (names : List ℕ → Bool) (side : Side) (C G : Type 0) (F : Frames) (i0 : InnerValue) (t : ℤ) (net now : Net) (r : Reaches names side C G F i0 t net now) where
-  abbrev pub stays : (sockets : List (Option Socket)) → (party now side).sockets ≡ sockets → Moved names side C G F i0 t net now sockets
+module _ (names : List ℕ → Bool) (side : Side) (C G : Type 0) (N : IpAddress → HardwareAddress → Type 0) (F : Frames) (i0 : InnerValue) (t : ℤ) (net now : Net) (r : Reaches names side C G N F i0 t net now) where
+  abbrev pub stays : (sockets : List (Option Socket)) → (party now side).sockets ≡ sockets → Moved names side C G N F i0 t net now sockets
   stays sockets same = record { next = now; reaches = r; sockets_are = same; grows = grows_not (party now side) }
 
   abbrev pub moves_by : (move : Move) (sockets : List (Option Socket)) → May names now side move → history_after now.history move ≡ now.history
       → (party_after (party now side) move).sockets ≡ sockets → Grows (party now side) (party_after (party now side) move) →
-      (C → IsHeld i0 t now side move) → (C → G → IsLet i0 t move) → HasLeft i0 t C F.gone move → (G → HasAnswered i0 F.gone move) →
-      Moved names side C G F i0 t net now sockets
+      (C → IsHeld i0 t now side move) → (C → G → IsLet i0 t N move) → HasLeft i0 t C N F.gone move → (G → HasAnswered i0 N F.gone move) →
+      Moved names side C G N F i0 t net now sockets
   moves_by move sockets may same sockets_are grows held goes left answered = record {
     next = after now (step_of side move);
-    reaches = goes_on names side C G F i0 t net now move r may same grows held goes left answered;
+    reaches = goes_on names side C G N F i0 t net now move r may same grows held goes left answered;
     sockets_are = ap (λ (p : Party). p.sockets) (mine now side move) ∙ sockets_are;
     grows = there now side move (Grows (party now side)) grows;
   }

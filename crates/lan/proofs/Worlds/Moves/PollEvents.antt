@@ -19,10 +19,12 @@ use Rattle.lan.specs.Worlds.AtLink.Moves as Moves
 use Rattle.lan.proofs.Worlds.Moves.Following.{Follows}
 use Rattle.lan.proofs.Worlds.Moves.Frames.{Frames, HaveAnswered, HaveLeft, all_moved_on, answered-append, left-append, no_frames}
 use Rattle.lan.proofs.Worlds.Moves.Held.{AreHeld, Stays, held-append}
+use Rattle.lan.proofs.Worlds.Moves.Hops.{hops_first}
 use Rattle.lan.proofs.Worlds.Moves.Later.{since_itself}
 use Rattle.lan.proofs.Worlds.Moves.Leave.{AreLet, let-append}
 use Rattle.lan.proofs.Worlds.PortMoves.{GivesLeave, TookOf, giving_ports, taking_ports}
 use Rattle.lan.specs.Worlds.Moves.Fit.{IsFit}
+use Rattle.lan.specs.Worlds.Moves.Hops.{KnowsHop}
 use Rattle.lan.specs.Worlds.Moves.Link.{IsLink}
 use Rattle.lan.specs.Worlds.Moves.Raws.{OfEach}
 use Rattle.lan.specs.Worlds.Moves.Taken.{AreMoved}
@@ -48,9 +50,11 @@ pub record Polled (i0 : InnerValue) (waits sent : List (List ℕ)) (t : ℤ) (ne
   pub waited : waits ≡ frames.taken ++ (station new side).link.waiting
   pub took : AreMoved side i0 t net frames.taken comes.steps
   pub are_sent : (station new side).link.sent ≡ sent ++ frames.gone
-  pub left : HaveLeft i0 t (Stays i0 (station new side).host.inner) frames.gone comes.steps
-  pub answered : IsTrue (has_leave (station new side).link) → HaveAnswered i0 frames.gone comes.steps
-  pub went : Stays i0 (station new side).host.inner → IsTrue (has_leave (station new side).link) → AreLet i0 t comes.steps
+  pub left : HaveLeft i0 t (Stays i0 (station new side).host.inner) (KnowsHop i0 t frames.taken (station new side).host.inner) frames.gone comes.steps
+  pub answered : IsTrue (has_leave (station new side).link)
+      → HaveAnswered i0 (KnowsHop i0 t frames.taken (station new side).host.inner) frames.gone comes.steps
+  pub went : Stays i0 (station new side).host.inner → IsTrue (has_leave (station new side).link)
+      → AreLet i0 t (KnowsHop i0 t frames.taken (station new side).host.inner) comes.steps
 
 module _ (net : Net) (old new : Stations) (past : List Entry) (e : Entry) (side : Side) (t : ℤ) (budget n : ℕ) (L : ℕ → State PortValue → Party →
     Type 0) (link : IsLink PortMove (party net (other side)) L) (of : IsNetOf net old past) (is : kind_of e.event ≡ OfHost side (Polls t budget)) where
@@ -81,7 +85,7 @@ module _ (net : Net) (old new : Stations) (past : List Entry) (e : Entry) (side 
   ended : (p : PortValue) → p.link ≡ (station new side).link → (station new side).link.refusals ≡ refused → station new (other side) ≡ station old (other side)
       → Follows names side (GivesLeave refused) (TookOf waits sent) i0 t (L most) net (at_port p (station new side)) → Polled i0 waits sent t net new (e ∷ past) side (L most)
   ended p end none rests f = record {
-    comes = reached_comes (Stays i0 (station new side).host.inner) (GivesLeave refused p) f.frames i0 t net f.now new past e side f.reaches of.history (subst IsNoCall (sym is) tt)
+    comes = reached_comes (Stays i0 (station new side).host.inner) (GivesLeave refused p) (KnowsHop i0 t f.frames.taken (station new side).host.inner) f.frames i0 t net f.now new past e side f.reaches of.history (subst IsNoCall (sym is) tt)
         (either_side side (λ s. (party f.now s).sockets ≡ sockets_of (station new s).places) f.sockets
         (ap (λ (x : Party). x.sockets) f.reaches.rests ∙ of.sockets (other side) ∙ ap (λ (x : StationValue). sockets_of x.places) (sym rests)));
     port = p;
@@ -93,9 +97,9 @@ module _ (net : Net) (old new : Stations) (past : List Entry) (e : Entry) (side 
     waited = f.taken.0 ∙ ap (λ (l : LinkEnd). f.frames.taken ++ l.waiting) end;
     took = all_moved_on side i0 t net f.frames.taken f.reaches.steps (step_of side (Moves.Passes e) ∷ []) f.reaches.took;
     are_sent = sym (ap (λ (l : LinkEnd). l.sent) end) ∙ f.taken.1;
-    left = left-append i0 t (Stays i0 (station new side).host.inner) f.frames.gone f.reaches.steps (step_of side (Moves.Passes e) ∷ []) f.reaches.left (tt, tt);
-    answered = λ given. answered-append i0 f.frames.gone f.reaches.steps (step_of side (Moves.Passes e) ∷ []) (f.reaches.answered (gave p end none given)) (tt, tt);
-    went = λ c given. let-append i0 t f.reaches.steps (step_of side (Moves.Passes e) ∷ []) (f.reaches.went c (gave p end none given)) (tt, tt);
+    left = left-append i0 t (Stays i0 (station new side).host.inner) (KnowsHop i0 t f.frames.taken (station new side).host.inner) f.frames.gone f.reaches.steps (step_of side (Moves.Passes e) ∷ []) f.reaches.left (tt, tt);
+    answered = λ given. answered-append i0 (KnowsHop i0 t f.frames.taken (station new side).host.inner) f.frames.gone f.reaches.steps (step_of side (Moves.Passes e) ∷ []) (f.reaches.answered (gave p end none given)) (tt, tt);
+    went = λ c given. let-append i0 t (KnowsHop i0 t f.frames.taken (station new side).host.inner) f.reaches.steps (step_of side (Moves.Passes e) ∷ []) (f.reaches.went c (gave p end none given)) (tt, tt);
   }
 
   pub poll_comes : ActsAt old side (Polls t budget) e.answer e.found new → AtPorts (λ s. L n s (party net side)) (station old side) →
@@ -103,7 +107,7 @@ module _ (net : Net) (old new : Stations) (past : List Entry) (e : Entry) (side 
   poll_comes acts holds fit =
       let polls = acts.acts.1 in
       let start : Follows names side (GivesLeave refused) (TookOf waits sent) i0 t (L n) net (at_port polls.port (station old side)) =
-      record { now = net; frames = no_frames; taken = (ap (λ (l : LinkEnd). l.waiting) (sym polls.before), ap (λ (l : LinkEnd). l.sent) polls.before ∙ sym (append-nil sent)); reaches = here names side (Stays i0 i0) (GivesLeave refused polls.port) i0 t net; sockets = of.sockets side; link = holds polls.port polls.before } in
+      record { now = net; frames = no_frames; taken = (ap (λ (l : LinkEnd). l.waiting) (sym polls.before), ap (λ (l : LinkEnd). l.sent) polls.before ∙ sym (append-nil sent)); reaches = here names side (Stays i0 i0) (GivesLeave refused polls.port) (KnowsHop i0 t [] i0) i0 t net; hops = hops_first i0 t; sockets = of.sockets side; link = holds polls.port polls.before } in
       let none_before : refused ≤ polls.port.link.refusals = (let same = ap (λ (l : LinkEnd). l.refusals) polls.before in omega (arith, same)) in
       ended polls.port_after polls.after polls.none_denied acts.rests
       (polls_follow PortMove t names side i0 net L link (λ p. refused ≤ p.link.refusals) (GivesLeave refused) (giving_ports refused) (TookOf waits sent) (taking_ports waits sent) budget n (at_port polls.port (station old side)) (at_port polls.port_after (station new side)) acts.acts.0

@@ -1,10 +1,12 @@
 -- A poll of a host is a run of moves.
-use Rattle.std.proofs.Common.{◌≡◌, ◌<◌, ◌≤◌, ◌+◌, ◌*◌, ◌^◌, arith, ℕ, Bool, true, false, inl, inr, List, Option, Some, None, IfSome, refl, sym, ap, ◌∙◌, subst}
+use Rattle.std.proofs.Common.{◌≡◌, ◌<◌, ◌≤◌, ◌+◌, ◌*◌, ◌^◌, arith, ℕ, Bool, true, false, inl, inr, List, [], ◌∷◌, Option, Some, None, IfSome, refl, sym, ap, ◌∙◌, subst}
 use Rattle.std.specs.Prelude.{ℤ}
 use Rattle.std.proofs.Math.Nat.{mul-le-mul_left}
 use Rattle.lan_base.specs.Device.{Move, Empty, Took}
 use Rattle.interface_egress.specs.Fragments.{LeftValue}
 use Rattle.interface_ingress.specs.ArpRepr.{ArpRepr}
+use Rattle.interface_ingress.specs.HardwareAddress.{HardwareAddress}
+use Rattle.interface_ingress.specs.IpAddress.{IpAddress}
 use Rattle.interface_egress.specs.Departure as Departures
 use Rattle.interface_egress.specs.GoesOut.{Departs}
 use Rattle.lan.proofs.Worlds.Moves.Nets.{grows_not}
@@ -34,9 +36,11 @@ use Rattle.lan.proofs.Worlds.Moves.Frames.{Frames, IsTaking, Sent, and_gone, and
 use Rattle.lan.proofs.Worlds.Moves.Held.{IsAsAt, Stays, stays_before}
 use Rattle.lan.proofs.Worlds.Moves.AnswersGone.{replied_left, settings_on}
 use Rattle.lan.proofs.Worlds.Moves.Idents.{StaysSmall, small_counted}
+use Rattle.lan.proofs.Worlds.Moves.Hops.{Hops, hop_now, hops_arrival, hops_out, hops_skip, knew, knew_before, knew_out}
 use Rattle.lan.proofs.Worlds.Moves.Later.{IsSince, as_since, brings_later, brought_home, since_arrival, since_begun, since_out, stayed}
 use Rattle.lan.proofs.Worlds.Moves.Leave.{IsGiving}
 use Rattle.lan.specs.Worlds.Moves.Fit.{IsFit}
+use Rattle.lan.specs.Worlds.Moves.Hops.{KnowsHop}
 use Rattle.lan.specs.Worlds.Moves.Link.{IsLink, brought}
 use Rattle.lan.proofs.Worlds.Moves.MadeReplies.{IsMadeReply}
 use Rattle.lan.specs.Worlds.Moves.Raws.{OfEach}
@@ -53,6 +57,10 @@ module _ {D : Type 0} (moves : D → Move → D → Type 0) (t : ℤ) (names : L
   abbrev At : ℕ → State D → Type 0
   At n s = Follows names side Gives Taken i0 t (L n) net s
 
+  -- where its frames go, it knew
+  abbrev Knows : Frames → InnerValue → IpAddress → HardwareAddress → Type 0
+  Knows F i = KnowsHop i0 t F.taken i
+
   -- a device that gives leave gave it at this one
   abbrev GaveAt : D → D → Type 0
   GaveAt before d = Gives d → Gives before
@@ -61,12 +69,12 @@ module _ {D : Type 0} (moves : D → Move → D → Type 0) (t : ℤ) (names : L
   gave_back before d d' m moved gave given = gave (giving.had d d' m moved given)
 
   more : (n m : ℕ) (s : State D) → n ≤ m → At n s → At m s
-  more n m s up f = record { now = f.now; frames = f.frames; taken = f.taken; reaches = f.reaches; sockets = f.sockets; link = link.more n m s (party f.now side) up f.link }
+  more n m s up f = record { now = f.now; frames = f.frames; taken = f.taken; reaches = f.reaches; hops = f.hops; sockets = f.sockets; link = link.more n m s (party f.now side) up f.link }
 
   -- MAINTENANCE
 
   maintenance : (n : ℕ) (s : State D) → At n s → At n (begun t s)
-  maintenance n s f = record { now = f.now; frames = f.frames; taken = f.taken; reaches = f.reaches; sockets = f.sockets; link = link.maintenance n t s (party f.now side) f.link }
+  maintenance n s f = record { now = f.now; frames = f.frames; taken = f.taken; reaches = f.reaches; hops = f.hops; sockets = f.sockets; link = link.maintenance n t s (party f.now side) f.link }
 
   -- THE PIECE THAT WAITS
 
@@ -94,9 +102,12 @@ module _ {D : Type 0} (moves : D → Move → D → Type 0) (t : ℤ) (names : L
         now = f.now;
         frames = frames;
         taken = out.taken;
-        reaches = narrowed names side (Stays i0 x.inner) (Stays i0 x'.inner) (Gives x.device) (Gives x'.device) frames i0 t net f.now (subst (Stays i0) same)
+        reaches = narrowed names side (Stays i0 x.inner) (Stays i0 x'.inner) (Gives x.device) (Gives x'.device) (Knows f.frames x.inner) (Knows f.frames x'.inner)
+            frames i0 t net f.now (subst (Stays i0) same)
             (piece_leaves moves (GaveAt x.device) (λ d d' m none. gave_back x.device d d' m) l x x' gone leaves (λ g. g))
-            (sent_more names side (Stays i0 x.inner) (Gives x.device) f.frames i0 t net f.now out.more f.reaches);
+            (λ remote to knows. subst (λ (i : InnerValue). Knows f.frames i remote to) same knows)
+            (sent_more names side (Stays i0 x.inner) (Gives x.device) (Knows f.frames x.inner) f.frames i0 t net f.now out.more f.reaches);
+        hops = subst (Hops i0 t f.frames.taken) (sym same) f.hops;
         sockets = f.sockets;
         link = left_link n h ps x x' l gone (party f.now side) is leaves same f.link;
       }
@@ -133,21 +144,30 @@ module _ {D : Type 0} (moves : D → Move → D → Type 0) (t : ℤ) (names : L
       let gave = takes moves (GaveAt s.device) (gave_back s.device) s s' (Some true) (frame, mid, took, reads, (content, is, receives)) (λ g. g) in
       let same = (receives_same moves content (at_device s mid) s' receives).0 in
       let with_it : Frames = and_taken f.frames frame in
-      let answers = replied_left moves Taken taking with_it i0 Begun Gives giving (is_awaited a) a.reply (sender mid a.inner s.host.left) (sender_of moves s')
+      let later : IpAddress → HardwareAddress → Type 0 = Knows with_it s'.host.inner in
+      let knew_it : (remote : IpAddress) (to : HardwareAddress) → later remote to → Knows with_it a.inner remote to =
+      knew_out i0 t with_it.taken a.inner s'.host.inner (receives_same moves content (at_device s mid) s' receives).1 in
+      let then_hops : Hops i0 t with_it.taken a.inner =
+      hops_arrival i0 s.host.inner t frame s.host.timeout s.host.slots s.places content a like.settings like.moment same is receives.1.1 f.frames.taken f.hops in
+      let answers = replied_left moves Taken taking with_it i0 later Begun Gives giving (is_awaited a) a.reply (sender mid a.inner s.host.left) (sender_of moves s')
       receives.3 (taking.takes s.device mid s.host.inner.moment frame f.frames took f.taken) (giving.since s.device mid (Took s.host.inner.moment frame) took begins)
       (settings_on i0 s.host.inner a.inner like.settings same)
       (λ small. subst (λ (k : ℕ). k < 2 ^ 16) (sym same.ident) (like.ident small))
+      (λ remote to knows. hop_now a.inner t remote to (same.moment ∙ like.moment) (then_hops remote to (knew_it remote to knows)))
       (brings_wide s.host.inner s.places (brought s content) a receives.1.1) in
       let out : Sent Taken with_it s'.device = answers.out in
       let F : Frames = and_gone f.frames out.more in
-      let so_far = sent_more names side (Stays i0 s'.host.inner) (Gives s'.device) f.frames i0 t net f.now out.more
-      (narrowed names side (Stays i0 s.host.inner) (Stays i0 s'.host.inner) (Gives s.device) (Gives s'.device) f.frames i0 t net f.now
-      (λ c. stayed i0 s.host.inner a.inner like.low (brings_later s.host.inner s.places (brought s content) a receives.1.1) (back c)) gave f.reaches) in
+      let so_far = sent_more names side (Stays i0 s'.host.inner) (Gives s'.device) later f.frames i0 t net f.now out.more
+      (narrowed names side (Stays i0 s.host.inner) (Stays i0 s'.host.inner) (Gives s.device) (Gives s'.device) (Knows f.frames s.host.inner) later f.frames i0 t net
+      f.now
+      (λ c. stayed i0 s.host.inner a.inner like.low (brings_later s.host.inner s.places (brought s content) a receives.1.1) (back c)) gave
+      (λ remote to knows. knew_before i0 s.host.inner t frame s.host.timeout s.host.slots s.places content a like.settings like.moment same is receives.1.1
+      f.frames.taken remote to (knew_it remote to knows)) f.reaches) in
       let p = party f.now side in
       let g : HostValue = record s.host { slots = s'.host.slots } in
       let x = sender mid a.inner s.host.left in
       let made = link.brings n s p frame mid content took reads is f.link in
-      let end = brings_moves names side (Stays i0 s'.host.inner) (Gives s'.device) F i0 t net f.now so_far s.host.inner s.places f.sockets like (brought s content) a
+      let end = brings_moves names side (Stays i0 s'.host.inner) (Gives s'.device) later F i0 t net f.now so_far s.host.inner s.places f.sockets like (brought s content) a
       (brought_home s.host.inner s.host.timeout s.host.slots content) (λ c. (back c).1) receives.1.1 made answers.left in
       let p' = party end.moved.next side in
       let taken : L n (sending_as g x s.places) p = link.takes n s p frame mid content s'.host.slots a took reads is receives.1 f.link in
@@ -165,7 +185,7 @@ module _ {D : Type 0} (moves : D → Move → D → Type 0) (t : ℤ) (names : L
         now = end.moved.next;
         frames = and_gone with_it out.more;
         taken = out.taken;
-        reaches = took_one names side (Stays i0 s'.host.inner) (Gives s'.device) F i0 t net end.moved.next frame end.moved.reaches (λ read. record {
+        reaches = took_one names side (Stays i0 s'.host.inner) (Gives s'.device) later F i0 t net end.moved.next frame end.moved.reaches (λ read. record {
           i = s.host.inner;
           settings = like.settings;
           moment = like.moment;
@@ -175,17 +195,18 @@ module _ {D : Type 0} (moves : D → Move → D → Type 0) (t : ℤ) (names : L
           is = is;
           brings = end.brings;
         });
+        hops = hops_out i0 t with_it.taken a.inner s'.host.inner (receives_same moves content (at_device s mid) s' receives).1 then_hops;
         sockets = end.moved.sockets_are ∙ ap (λ (ps : Places). sockets_of ps) (sym receives.2);
         link = subst (λ (u : State D). L (n + 1) u p') there placed;
       }
 
   -- a move of the device alone
   looked : (frames : Frames) (s s' : State D) (m : Move) → moves s.device m s'.device → (now : Net) →
-      Reaches names side (Stays i0 s.host.inner) (Gives s.device) frames i0 t net now →
-      Reaches names side (Stays i0 s.host.inner) (Gives s'.device) frames i0 t net now
+      Reaches names side (Stays i0 s.host.inner) (Gives s.device) (Knows frames s.host.inner) frames i0 t net now →
+      Reaches names side (Stays i0 s.host.inner) (Gives s'.device) (Knows frames s.host.inner) frames i0 t net now
   looked frames s s' m moved now r =
-      narrowed names side (Stays i0 s.host.inner) (Stays i0 s.host.inner) (Gives s.device) (Gives s'.device) frames i0 t net now (λ c. c)
-      (giving.had s.device s'.device m moved) r
+      narrowed names side (Stays i0 s.host.inner) (Stays i0 s.host.inner) (Gives s.device) (Gives s'.device) (Knows frames s.host.inner)
+      (Knows frames s.host.inner) frames i0 t net now (λ c. c) (giving.had s.device s'.device m moved) (λ remote to knows. knows) r
 
   unread : (frame : List ℕ) (P : Type 0) → is_read frame ≡ false → is_read frame ≡ true → P
   unread frame P none some = let both : true ≡ false = sym some ∙ none in absurd (cc)
@@ -196,6 +217,7 @@ module _ {D : Type 0} (moves : D → Move → D → Type 0) (t : ℤ) (names : L
     frames = f.frames;
     taken = taking.rests s.device s'.device (Empty s.host.inner.moment) f.frames tt took.0 f.taken;
     reaches = looked f.frames s s' (Empty s.host.inner.moment) took.0 f.now f.reaches;
+    hops = f.hops;
     sockets = f.sockets;
     link = link.looks n s (party f.now side) s'.device took.0 f.link;
   }))
@@ -203,8 +225,12 @@ module _ {D : Type 0} (moves : D → Move → D → Type 0) (t : ℤ) (names : L
     now = f.now;
     frames = and_taken f.frames took.0;
     taken = taking.takes s.device s'.device s.host.inner.moment took.0 f.frames took.1 f.taken;
-    reaches = took_one names side (Stays i0 s.host.inner) (Gives s'.device) f.frames i0 t net f.now took.0
-        (looked f.frames s s' (Took s.host.inner.moment took.0) took.1 f.now f.reaches) (unread took.0 _ took.2);
+    reaches = took_one names side (Stays i0 s.host.inner) (Gives s'.device) (Knows (and_taken f.frames took.0) s.host.inner) f.frames i0 t net f.now took.0
+        (narrowed names side (Stays i0 s.host.inner) (Stays i0 s.host.inner) (Gives s'.device) (Gives s'.device) (Knows f.frames s.host.inner)
+        (Knows (and_taken f.frames took.0) s.host.inner) f.frames i0 t net f.now (λ c. c) (λ g. g)
+        (λ remote to knows. knew i0 t f.frames.taken (took.0 ∷ []) s.host.inner s.host.inner remote to (λ room. room) knows)
+        (looked f.frames s s' (Took s.host.inner.moment took.0) took.1 f.now f.reaches)) (unread took.0 _ took.2);
+    hops = hops_skip i0 t f.frames.taken (took.0 ∷ []) s.host.inner f.hops;
     sockets = f.sockets;
     link = link.skips n s (party f.now side) took.0 s'.device took.1 took.2 f.link;
   }))

@@ -2,6 +2,7 @@
 use Rattle.std.proofs.Common.{◌≡◌, ℕ, ℤ, ◌≤ℤ◌, Bool, not, ◌&&◌, length, true, false, if◌then◌else◌, List, [], ◌∷◌, append-nil, Option, Some, None, IfSome, refl, sym, ap, ◌∙◌, subst}
 use Rattle.std.specs.Prelude.{◌||◌, is_some}
 use Rattle.lan_base.specs.ChecksumCapabilities.{ChecksumCapabilities}
+use Rattle.interface_ingress.specs.HardwareAddress.{HardwareAddress}
 use Rattle.interface_ingress.specs.IpAddress.{IpAddress}
 use Rattle.interface_ingress.specs.IpAddress.TheVariants as Address
 use Rattle.interface.specs.Ip.{source_of, destination_of}
@@ -52,9 +53,9 @@ use Rattle.lan.proofs.Worlds.Moves.Places.{Places}
 use Rattle.lan.proofs.Worlds.Moves.Replies.{control_v4_made, control_v6_made, port_error_made, unread_made, answered_made, told_made}
 
 -- moves lead to these sockets, what answers was made, and the moves bring what K says
-pub record Ended (names : List ℕ → Bool) (side : Side) (C G : Type 0) (F : Frames) (i0 : InnerValue) (t : ℤ) (net now : Net) (places : Places) (reply : Option ReplyValue)
+pub record Ended (names : List ℕ → Bool) (side : Side) (C G : Type 0) (N : IpAddress → HardwareAddress → Type 0) (F : Frames) (i0 : InnerValue) (t : ℤ) (net now : Net) (places : Places) (reply : Option ReplyValue)
     (K : List Step → Type 0) : Type 0 where
-  pub moved : Moved names side C G F i0 t net now (sockets_of places)
+  pub moved : Moved names side C G N F i0 t net now (sockets_of places)
   pub made : IfSome reply (IsMadeReply (party moved.next side))
   pub brings : K moved.reaches.steps
 
@@ -90,14 +91,14 @@ module _ (i0 i : InnerValue) (t : ℤ) (like : IsAsAt i0 t i) where
     one = λ named. sym (many i0 i (seen_at i0 i t like) source) ∙ home.one named;
   }
 
-module _ (names : List ℕ → Bool) (side : Side) (C G : Type 0) (F : Frames) (i0 : InnerValue) (t : ℤ) (net now : Net) (r : Reaches names side C G F i0 t net now) where
+module _ (names : List ℕ → Bool) (side : Side) (C G : Type 0) (N : IpAddress → HardwareAddress → Type 0) (F : Frames) (i0 : InnerValue) (t : ℤ) (net now : Net) (r : Reaches names side C G N F i0 t net now) where
   -- WHAT ANSWERS goes, where the device gives leave
 
   abbrev IsLeft : Option PacketValue → Type 0
-  IsLeft reply = G → IfSome reply (AnswerLeft i0 F.gone)
+  IsLeft reply = G → IfSome reply (AnswerLeft i0 N F.gone)
 
   abbrev pub AreLeft : Arrived → Type 0
-  AreLeft a = (p : PacketValue) → a.reply ≡ Some (Replies.Answers p) → G → AnswerLeft i0 F.gone p
+  AreLeft a = (p : PacketValue) → a.reply ≡ Some (Replies.Answers p) → G → AnswerLeft i0 N F.gone p
 
   left_of : (a : Arrived) → AreLeft a → (o : Option PacketValue) → a.reply ≡ answered o → IsLeft o
   left_of a answers None is = λ g. tt
@@ -108,7 +109,7 @@ module _ (names : List ℕ → Bool) (side : Side) (C G : Type 0) (F : Frames) (
   module _ (i : InnerValue) (places : Places) (ip : IpRepr) (payload : List ℕ) (taken : Bool) (has : (party now side).sockets ≡ sockets_of places)
       (like : IsAsAt i0 t i) (home : IsFromOne i0 (source_of ip) (destination_of ip)) (ours : is_for_us i0 (destination_of ip) ≡ true) where
     abbrev Ends : Places → Option PacketValue → Type 0
-    Ends qs reply = Answered names side C G F i0 t net now (sockets_of qs) reply
+    Ends qs reply = Answered names side C G N F i0 t net now (sockets_of qs) reply
 
     -- and a segment that is carried comes to the socket that accepts it
     pub record Handed (carried : Option PayloadValue) (qs : Places) (reply : Option PacketValue) : Type 0 where
@@ -116,7 +117,7 @@ module _ (names : List ℕ → Bool) (side : Side) (C G : Type 0) (F : Frames) (
       pub comes : IfSegment side i0 t net ip carried ends.moved.reaches.steps
 
     same_with : (qs : Places) (reply : Option PacketValue) → sockets_of qs ≡ sockets_of places → ((p : Party) → IfSome reply (IsMade p)) → Ends qs reply
-    same_with qs reply same free = record { moved = stays names side C G F i0 t net now r (sockets_of qs) (has ∙ sym same); made = free (party now side) }
+    same_with qs reply same free = record { moved = stays names side C G N F i0 t net now r (sockets_of qs) (has ∙ sym same); made = free (party now side) }
 
     control_v4 : (ip : IpRepr) (message : Icmpv4Header) (bytes : List ℕ) → sockets_of (control_v4_places ip message bytes places) ≡ sockets_of places
     control_v4 (Ip.Ipv4 header) message bytes = icmpv4_delivered_same header message bytes places
@@ -152,10 +153,10 @@ module _ (names : List ℕ → Bool) (side : Side) (C G : Type 0) (F : Frames) (
 
       reset_if : (quiet goes : Bool) → names_nobody i ip ≡ false → (quiet ≡ false → goes ≡ true → C → ⊥)
           → Ends places (let r : Option PacketValue = if_goes goes (if quiet then None else packet_by (Some (rst_reply ip header (length bytes)))) in r)
-      reset_if true goes somebody none = nothing names side C G F i0 t net now r places has
+      reset_if true goes somebody none = nothing names side C G N F i0 t net now r places has
       reset_if false true somebody none =
-          reset names side C G F i0 t net now r places has cx ip header bytes made (shows i0 i t like) (between somebody) (none refl refl)
-      reset_if false false somebody none = nothing names side C G F i0 t net now r places has
+          reset names side C G N F i0 t net now r places has cx ip header bytes made (shows i0 i t like) (between somebody) (none refl refl)
+      reset_if false false somebody none = nothing names side C G N F i0 t net now r places has
 
       abbrev Came : Places → Option PacketValue → Type 0
       Came qs reply = Handed (Some (Segment header bytes)) qs reply
@@ -179,7 +180,7 @@ module _ (names : List ℕ → Bool) (side : Side) (C G : Type 0) (F : Frames) (
       heard : (at : ℕ) → names_nobody i ip ≡ false → segment_place ip header places ≡ Some at → IsLeft (segment_answer_at (Some at) cx ip header bytes taken places) →
           Came (changed_at (with_segment cx ip header bytes) (Some at) places) (segment_answer_at (Some at) cx ip header bytes taken places)
       heard at named there left =
-          let came = segment_taken names side C G F i0 t net now r places has cx ip header bytes made (shows i0 i t like) (between named) taken at there left in
+          let came = segment_taken names side C G N F i0 t net now r places has cx ip header bytes made (shows i0 i t like) (between named) taken at there left in
           record {
             ends = came.ends;
             comes = record {
@@ -202,7 +203,7 @@ module _ (names : List ℕ → Bool) (side : Side) (C G : Type 0) (F : Frames) (
           → Came (if nobody then places else changed_at (with_segment cx ip header bytes) o places)
           (let_go (not nobody && not (is_some o)) i (if nobody then None else segment_answer_at o cx ip header bytes taken places))
       segment_by true o named there none left =
-          unheard None (nothing names side C G F i0 t net now r places has)
+          unheard None (nothing names side C G N F i0 t net now r places has)
           (λ at somebody there'. (let both : true ≡ false = sym named ∙ nobodies i0 i (seen_at i0 i t like) ip ∙ somebody in absurd (cc)))
       segment_by false (Some at) named there none left = heard at named there left
       segment_by false None named there none left =
@@ -250,11 +251,11 @@ module _ (names : List ℕ → Bool) (side : Side) (C G : Type 0) (F : Frames) (
         unsegmented (Some (ControlV6 message bytes)) a.places (λ steps. tt)
         (same_with a.places _ (ap (λ (ps : Places). sockets_of ps) to ∙ control_v6 ip message bytes) (λ p. control_v6_made p i ip message bytes))
     handed (Some (Bytes bytes)) is made a c inner to left =
-        unsegmented (Some (Bytes bytes)) a.places (λ steps. tt) (subst (λ (ps : Places). Ends ps None) (sym to) (nothing names side C G F i0 t net now r places has))
+        unsegmented (Some (Bytes bytes)) a.places (λ steps. tt) (subst (λ (ps : Places). Ends ps None) (sym to) (nothing names side C G N F i0 t net now r places has))
     handed (Some (Datagram udp bytes)) is made a c inner to left =
         let was : WasMade (party now (other side)) (datagram_of udp bytes) =
         subst (λ (p : Party). WasMade p (datagram_of udp bytes)) (sym r.rests) (made.datagrams udp bytes is) in
-        let moved = datagram_given names side C G F i0 t net now r places has (context_of i) ip udp bytes was a.places to in
+        let moved = datagram_given names side C G N F i0 t net now r places has (context_of i) ip udp bytes was a.places to in
         unsegmented (Some (Datagram udp bytes)) a.places (λ steps. tt) (record {
           moved = moved;
           made = port_error_made (party moved.next side) (is_some (datagram_place (context_of i) ip udp places) || taken) i ip payload;
@@ -269,27 +270,27 @@ module _ (names : List ℕ → Bool) (side : Side) (C G : Type 0) (F : Frames) (
     ItHands steps = HandsIn side i0 t net ip payload steps
 
     hands : (caps : ChecksumCapabilities) (a : Arrived) → i.checksums ≡ caps → (C → a.inner.errors_until ≡ i0.errors_until) → Hands i places ip payload taken a →
-        HandsMade (party net (other side)) caps ip payload → AreLeft a → Ended names side C G F i0 t net now a.places a.reply ItHands
+        HandsMade (party net (other side)) caps ip payload → AreLeft a → Ended names side C G N F i0 t net now a.places a.reply ItHands
     hands caps a same c (carried, is, so) made answers =
         let end = handed carried is (subst (λ (c : ChecksumCapabilities). HandsMade (party net (other side)) c ip payload) (sym same) made) a c so.inner
         so.places_are (left_of a answers (limited_reply i places ip payload taken carried) so.reply) in
-        let given : Ended names side C G F i0 t net now a.places (answered (limited_reply i places ip payload taken carried)) ItHands =
+        let given : Ended names side C G N F i0 t net now a.places (answered (limited_reply i places ip payload taken carried)) ItHands =
         record {
           moved = end.ends.moved;
           made = answered_made (party end.ends.moved.next side) (limited_reply i places ip payload taken carried) end.ends.made;
           brings = (carried, subst (λ (c : ChecksumCapabilities). IsBrought c ip payload carried) like.settings.checksums is, end.comes);
         } in
-        subst (λ (o : Option ReplyValue). Ended names side C G F i0 t net now a.places o ItHands) (sym so.reply) given
+        subst (λ (o : Option ReplyValue). Ended names side C G N F i0 t net now a.places o ItHands) (sym so.reply) given
 
   -- A CONTENT
 
   silent : (i : InnerValue) (places qs : Places) (a : Arrived) (K : List Step → Type 0) → ((steps : List Step) → K steps) →
-      (party now side).sockets ≡ sockets_of places → sockets_of qs ≡ sockets_of places → IsSilent i qs a → Ended names side C G F i0 t net now a.places a.reply K
+      (party now side).sockets ≡ sockets_of places → sockets_of qs ≡ sockets_of places → IsSilent i qs a → Ended names side C G N F i0 t net now a.places a.reply K
   silent i places qs a K brings has same is =
-      let quiet : Ended names side C G F i0 t net now qs None K =
-      record { moved = stays names side C G F i0 t net now r (sockets_of qs) (has ∙ sym same); made = tt; brings = brings r.steps } in
-      subst (λ (ps : Places). Ended names side C G F i0 t net now ps a.reply K) (sym is.places_are)
-      (subst (λ (o : Option ReplyValue). Ended names side C G F i0 t net now qs o K) (sym is.reply) quiet)
+      let quiet : Ended names side C G N F i0 t net now qs None K =
+      record { moved = stays names side C G N F i0 t net now r (sockets_of qs) (has ∙ sym same); made = tt; brings = brings r.steps } in
+      subst (λ (ps : Places). Ended names side C G N F i0 t net now ps a.reply K) (sym is.places_are)
+      (subst (λ (o : Option ReplyValue). Ended names side C G N F i0 t net now qs o K) (sym is.reply) quiet)
 
   by_renewal : (i : InnerValue) (link : Option EthernetRepr) (sender : IpAddress) → IsAsAt i0 t i → IsAsAt i0 t (renewed_by i link sender)
   by_renewal i None sender like = like
@@ -324,7 +325,7 @@ module _ (names : List ℕ → Bool) (side : Side) (C G : Type 0) (F : Frames) (
     here : (link : Option EthernetRepr) (ip : IpRepr) (payload : List ℕ) (a : Arrived) → is_for_us i (destination_of ip) ≡ true →
         IsFromOne i (source_of ip) (destination_of ip) →
         (C → a.inner.errors_until ≡ i0.errors_until) → Hands (renewed i link ip) (packet_delivered ip payload places) ip payload (is_taken_raw ip places) a
-        → HandsMade (party net (other side)) i.checksums ip payload → AreLeft a → Ended names side C G F i0 t net now a.places a.reply (IfOurs ip payload)
+        → HandsMade (party net (other side)) i.checksums ip payload → AreLeft a → Ended names side C G N F i0 t net now a.places a.reply (IfOurs ip payload)
     here link ip payload a ours home c is made answers =
         let later = renewed_as i link ip like in
         let end = hands (renewed i link ip) (packet_delivered ip payload places) ip payload (is_taken_raw ip places) (has ∙
@@ -338,29 +339,29 @@ module _ (names : List ℕ → Bool) (side : Side) (C G : Type 0) (F : Frames) (
 
     v4 : (ours : Bool) (link : Option EthernetRepr) (ip : IpRepr) (payload : List ℕ) (a : Arrived) → is_for_us i (destination_of ip) ≡ ours →
         IsFromOne i (source_of ip) (destination_of ip) → (C → a.inner.errors_until ≡ i0.errors_until) → ArrivesV4 ours i places link ip payload a →
-        HandsMade (party net (other side)) i.checksums ip payload → AreLeft a → Ended names side C G F i0 t net now a.places a.reply (IfOurs ip payload)
+        HandsMade (party net (other side)) i.checksums ip payload → AreLeft a → Ended names side C G N F i0 t net now a.places a.reply (IfOurs ip payload)
     v4 true link ip payload a so home c is made answers = here link ip payload a so home c is made answers
     v4 false link ip payload a so home c is made answers =
         silent i places (packet_delivered ip payload places) a (IfOurs ip payload) (theirs false ip payload so refl) has (packet_delivered_same ip payload places) is
 
     v6 : (ours : Bool) (link : Option EthernetRepr) (ip : IpRepr) (payload : List ℕ) (a : Arrived) → is_for_us i (destination_of ip) ≡ ours →
         IsFromOne i (source_of ip) (destination_of ip) → (C → a.inner.errors_until ≡ i0.errors_until) → ArrivesV6 ours i places link ip payload a →
-        HandsMade (party net (other side)) i.checksums ip payload → AreLeft a → Ended names side C G F i0 t net now a.places a.reply (IfOurs ip payload)
+        HandsMade (party net (other side)) i.checksums ip payload → AreLeft a → Ended names side C G N F i0 t net now a.places a.reply (IfOurs ip payload)
     v6 true link ip payload a so home c is made answers = here link ip payload a so home c is made answers
     v6 false link ip payload a so home c is made answers = silent i places places a (IfOurs ip payload) (theirs false ip payload so refl) has refl is
 
     pub brings_moves : (content : Option IncomingValue) (a : Arrived) → IsHome i content → (C → a.inner.errors_until ≡ i0.errors_until) →
         Brings i places content a → BringsMade (party net (other side)) i.checksums content → AreLeft a →
-        Ended names side C G F i0 t net now a.places a.reply (BringsIn side i0 t net i content)
+        Ended names side C G N F i0 t net now a.places a.reply (BringsIn side i0 t net i content)
     brings_moves None a home c is made answers = silent i places places a (λ steps. Unit {0}) (λ steps. tt) has refl is
     brings_moves (Some (Arp link packet)) a home c is made answers =
-        let told : Ended names side C G F i0 t net now places (Replies.told (arp_answer i packet)) (λ steps. Unit {0}) = record {
-          moved = stays names side C G F i0 t net now r (sockets_of places) has;
+        let told : Ended names side C G N F i0 t net now places (Replies.told (arp_answer i packet)) (λ steps. Unit {0}) = record {
+          moved = stays names side C G N F i0 t net now r (sockets_of places) has;
           made = told_made (party now side) (arp_answer i packet);
           brings = tt;
         } in
-        subst (λ (ps : Places). Ended names side C G F i0 t net now ps a.reply (λ steps. Unit {0})) (sym is.places_are)
-        (subst (λ (o : Option ReplyValue). Ended names side C G F i0 t net now places o (λ steps. Unit {0})) (sym is.reply) told)
+        subst (λ (ps : Places). Ended names side C G N F i0 t net now ps a.reply (λ steps. Unit {0})) (sym is.places_are)
+        (subst (λ (o : Option ReplyValue). Ended names side C G N F i0 t net now places o (λ steps. Unit {0})) (sym is.reply) told)
     brings_moves (Some (Ip4 link header piece payload)) a home c is made answers =
         v4 (is_for_us i (Address.Ipv4 header.dst_addr)) link (Ip.Ipv4 header) payload a refl home c is made answers
     brings_moves (Some (Ip6 link header payload)) a home c is made answers =

@@ -3,6 +3,7 @@ use Rattle.std.proofs.Common.{◌≡◌, ◌⊎◌, is_some, ℕ, ℤ, Bool, tru
 use Rattle.std.proofs.Common.{append-nil, ◌+◌}
 use Rattle.std.specs.Prelude.{slice_set, slice_index_or}
 use Rattle.interface.specs.Ip.{source_of, destination_of}
+use Rattle.interface_ingress.specs.HardwareAddress.{HardwareAddress}
 use Rattle.interface_ingress.specs.IpAddress.{IpAddress}
 use Rattle.interface_ingress.specs.IpAddress.TheVariants as Address
 use Rattle.interface_ingress.specs.Sent.{normal_payload}
@@ -57,10 +58,12 @@ use Rattle.interface_tables.specs.Inner.{InnerValue}
 use Rattle.lan.proofs.Worlds.Moves.Devices.{leaves as device_leaves}
 use Rattle.lan.proofs.Worlds.Moves.Following.{Reaches, Follows, narrowed, sent_more}
 use Rattle.lan.proofs.Worlds.Moves.Frames.{Frames, IsTaking, and_gone}
+use Rattle.lan.proofs.Worlds.Moves.Hops.{Hops, hop_now, hops_out, knew_out}
 use Rattle.lan.proofs.Worlds.Moves.Leaving.{Left, left_by}
 use Rattle.lan.proofs.Worlds.Moves.Held.{IsAsAt, IsShownAt, Stays, seen_at, shows_towards, source_by, sources, stays_before}
 use Rattle.lan.proofs.Worlds.Moves.Leave.{IsGiving, IsHindered, IsHindrance, leaves_so, leaving_by}
 use Rattle.lan.specs.Worlds.Moves.Fit.{IsFit}
+use Rattle.lan.specs.Worlds.Moves.Hops.{KnowsHop}
 use Rattle.lan.specs.Worlds.Moves.Link.{IsLink}
 use Rattle.lan.specs.Worlds.Moves.Made.{Grows, MadeBy, IsMade, IsWide}
 use Rattle.lan.specs.Worlds.Moves.Raws.{OfItem}
@@ -83,17 +86,17 @@ CanBeWide x = IsWellFormed x → IsWide x
 
 -- moves lead to these sockets, and a packet that is done with was made, as it leaves from this address
 pub record Gives (names : List ℕ →
-    Bool) (side : Side) (C G : Type 0) (F : Frames) (i0 : InnerValue) (t : ℤ) (net now : Net) (sockets : List (Option Parties.Socket)) (from : IpAddress) (sent : Bool) (packet : Option PacketValue) : Type 0 where
-  pub moved : Moved names side C G F i0 t net now sockets
+    Bool) (side : Side) (C G : Type 0) (N : IpAddress → HardwareAddress → Type 0) (F : Frames) (i0 : InnerValue) (t : ℤ) (net now : Net) (sockets : List (Option Parties.Socket)) (from : IpAddress) (sent : Bool) (packet : Option PacketValue) : Type 0 where
+  pub moved : Moved names side C G N F i0 t net now sockets
   pub made : sent ≡ true → IfSome packet (IsMadeFrom (party moved.next side) from)
 
-module _ (names : List ℕ → Bool) (side : Side) (C G : Type 0) (F : Frames) (i0 : InnerValue) (t : ℤ) (net now : Net) (r : Reaches names side C G F i0 t net now) (before after : Places) (from : IpAddress) where
+module _ (names : List ℕ → Bool) (side : Side) (C G : Type 0) (N : IpAddress → HardwareAddress → Type 0) (F : Frames) (i0 : InnerValue) (t : ℤ) (net now : Net) (r : Reaches names side C G N F i0 t net now) (before after : Places) (from : IpAddress) where
   -- the party has the sockets of the places, of which one holds this socket
   abbrev Has : Meta → Socket → Type 0
   Has m s = (party now side).sockets ≡ sockets_of (before ++ holding m s ∷ after)
 
   abbrev To : Meta → Socket → Bool → Option PacketValue → Type 0
-  To m s sent packet = Gives names side C G F i0 t net now (sockets_of (before ++ holding m s ∷ after)) from sent packet
+  To m s sent packet = Gives names side C G N F i0 t net now (sockets_of (before ++ holding m s ∷ after)) from sent packet
 
   found : (m : Meta) (s : Socket) → Has m s → Parties.socket_at (party now side) (length before) ≡ seen s
   found m s has =
@@ -105,9 +108,9 @@ module _ (names : List ℕ → Bool) (side : Side) (C G : Type 0) (F : Frames) (
       ap (λ (xs : List (Option Parties.Socket)). slice_set xs (length before) (seen s')) has ∙
       set-middle seen_place before (holding m s) (holding m' s') after
 
-  abbrev looks_same : (m m' : Meta) (s s' : Socket) → seen s' ≡ seen s → Has m s → Moved names side C G F i0 t net now (sockets_of (before ++ holding m' s' ∷ after))
+  abbrev looks_same : (m m' : Meta) (s s' : Socket) → seen s' ≡ seen s → Has m s → Moved names side C G N F i0 t net now (sockets_of (before ++ holding m' s' ∷ after))
   looks_same m m' s s' same has =
-      stays names side C G F i0 t net now r (sockets_of (before ++ holding m' s' ∷ after)) (has ∙
+      stays names side C G N F i0 t net now r (sockets_of (before ++ holding m' s' ∷ after)) (has ∙
       sym (same-middle seen_place before (holding m s) (holding m' s') after same))
 
   -- a raw packet and a control message are neither segments nor datagrams
@@ -134,7 +137,7 @@ module _ (names : List ℕ → Bool) (side : Side) (C G : Type 0) (F : Frames) (
       To m' (settled sent (Is.Udp v')) sent v'.offered
   udp_gives m m' cx v v' answer sent offers has = record {
     moved =
-        moves_by names side C G F i0 t net now r move (sockets_of (before ++ holding m' (settled sent (Is.Udp v')) ∷ after)) (found m (Is.Udp v) has, offers) refl
+        moves_by names side C G N F i0 t net now r move (sockets_of (before ++ holding m' (settled sent (Is.Udp v')) ∷ after)) (found m (Is.Udp v) has, offers) refl
         (changed m m' (Is.Udp v) (settled sent (Is.Udp v')) has)
         (grows_by (party now side) (Moves.party_after (party now side) move) [] (datagrams_of v'.offered) (sym (append-nil (party now side).segments)) refl)
         (λ c. tt) (λ c g. tt) tt (λ g. tt);
@@ -157,12 +160,12 @@ module _ (names : List ℕ → Bool) (side : Side) (C G : Type 0) (F : Frames) (
   tcp_gives : (m m' : Meta) (cx : ContextValue) (v : TcpValue) (sent : Bool)
       → IfSome (offer_of cx v).socket.offered (λ o. LeavesFrom cx from o.header)
       → (C → IsShownAt i0 t cx × IfSome (offer_of cx v).socket.offered (λ o. from ≡ source_by i0 o.header))
-      → (C → G → IfSome (offer_of cx v).socket.offered (λ o. (sent ≡ true) ⊎ IsHindered i0 t (λ i. leaving_by i o.header)))
-      → (sent ≡ true → IfSome (offered_packet (offer_of cx v).socket) (λ x. LeftFrom i0 t C F.gone cx (Is.Tcp v) from x)) → Has m (Is.Tcp v) →
+      → (C → G → IfSome (offer_of cx v).socket.offered (λ o. (sent ≡ true) ⊎ IsHindered i0 t N (λ i. leaving_by i o.header)))
+      → (sent ≡ true → IfSome (offered_packet (offer_of cx v).socket) (λ x. LeftFrom i0 t C N F.gone cx (Is.Tcp v) from x)) → Has m (Is.Tcp v) →
       To m' (settled sent (Is.Tcp (offer_of cx v).socket)) sent (offered_packet (offer_of cx v).socket)
   tcp_gives m m' cx v true leaves held goes left has = record {
     moved =
-        moves_by names side C G F i0 t net now r move (sockets_of (before ++ holding m' (settled true (Is.Tcp (offer_of cx v).socket)) ∷ after))
+        moves_by names side C G N F i0 t net now r move (sockets_of (before ++ holding m' (settled true (Is.Tcp (offer_of cx v).socket)) ∷ after))
         (found m (Is.Tcp v) has, leaves) refl
         (changed m m' (Is.Tcp v) (settled true (Is.Tcp (offer_of cx v).socket)) has)
         (more_offered (Moves.party_after (party now side) move) (offer_of cx v).socket.offered (offer_of cx v).socket.queued.queue refl refl) held goes (left refl)
@@ -175,7 +178,7 @@ module _ (names : List ℕ → Bool) (side : Side) (C G : Type 0) (F : Frames) (
     move = Moves.Offers (length before) cx v from true
   tcp_gives m m' cx v false leaves held goes left has = record {
     moved =
-        moves_by names side C G F i0 t net now r move (sockets_of (before ++ holding m' (settled false (Is.Tcp (offer_of cx v).socket)) ∷ after))
+        moves_by names side C G N F i0 t net now r move (sockets_of (before ++ holding m' (settled false (Is.Tcp (offer_of cx v).socket)) ∷ after))
         (found m (Is.Tcp v) has, leaves) refl
         (changed m m' (Is.Tcp v) (settled false (Is.Tcp (offer_of cx v).socket)) has)
         (grows_to (party now side) (Moves.party_after (party now side) move) refl refl) held goes tt (λ g. tt);
@@ -197,8 +200,8 @@ module _ (names : List ℕ → Bool) (side : Side) (C G : Type 0) (F : Frames) (
 
   -- its segment goes as its packet does
   way_so : (sent : Bool) (o : Option OpenOffer) (queue : List ℕ) →
-      IfSome (packet_with o queue) (λ x. (sent ≡ true) ⊎ IsHindered i0 t (λ j. (sourced j x).header)) →
-      IfSome o (λ o. (sent ≡ true) ⊎ IsHindered i0 t (λ j. leaving_by j o.header))
+      IfSome (packet_with o queue) (λ x. (sent ≡ true) ⊎ IsHindered i0 t N (λ j. (sourced j x).header)) →
+      IfSome o (λ o. (sent ≡ true) ⊎ IsHindered i0 t N (λ j. leaving_by j o.header))
   way_so sent None queue goes = tt
   way_so sent (Some o) queue goes = goes
 
@@ -206,8 +209,8 @@ module _ (names : List ℕ → Bool) (side : Side) (C G : Type 0) (F : Frames) (
     pub gives : (m m' : Meta) (cx : ContextValue) (s offered : Socket) (answer : Answer.Offer) (sent : Bool) → IsFit s → Offers cx s answer offered
         → IfSome (offered_by offered) (λ x. LeavesFrom cx from x.header)
         → (C → IsShownAt i0 t cx × IfSome (offered_by offered) (λ x. from ≡ source_of (sourced i x).header))
-        → (C → G → IfSome (offered_by offered) (λ x. (sent ≡ true) ⊎ IsHindered i0 t (λ i. (sourced i x).header)))
-        → (sent ≡ true → IfSome (offered_by offered) (λ x. LeftFrom i0 t C F.gone cx s from x)) → Has m s
+        → (C → G → IfSome (offered_by offered) (λ x. (sent ≡ true) ⊎ IsHindered i0 t N (λ i. (sourced i x).header)))
+        → (sent ≡ true → IfSome (offered_by offered) (λ x. LeftFrom i0 t C N F.gone cx s from x)) → Has m s
         → To m' (settled sent offered) sent (offered_by offered)
     gives m m' cx (Is.Raw v) (Is.Raw v') answer sent fit offers leaves held goes left has = raw_gives m m' cx v v' answer sent offers has
     gives m m' cx (Is.Icmp v) (Is.Icmp v') answer sent fit offers leaves held goes left has = icmp_gives m m' cx v v' answer sent offers has
@@ -222,9 +225,9 @@ module _ (names : List ℕ → Bool) (side : Side) (C G : Type 0) (F : Frames) (
           source_given i like o queue
               (subst (λ (w : TcpValue). IfSome (offered_packet w) (λ x. from ≡ source_of (sourced i x).header)) offers.1 (held c).1),
         ))
-        (λ c g. way_so sent o queue (subst (λ (w : TcpValue). IfSome (offered_packet w) (λ x. (sent ≡ true) ⊎ IsHindered i0 t (λ j. (sourced j x).header)))
+        (λ c g. way_so sent o queue (subst (λ (w : TcpValue). IfSome (offered_packet w) (λ x. (sent ≡ true) ⊎ IsHindered i0 t N (λ j. (sourced j x).header)))
         offers.1 (goes c g)))
-        (λ done. subst (λ (w : TcpValue). IfSome (offered_packet w) (λ x. LeftFrom i0 t C F.gone cx (Is.Tcp v) from x)) offers.1 (left done)) has)
+        (λ done. subst (λ (w : TcpValue). IfSome (offered_packet w) (λ x. LeftFrom i0 t C N F.gone cx (Is.Tcp v) from x)) offers.1 (left done)) has)
     gives m m' cx (Is.Dhcpv4 v) offered answer sent fit offers leaves held goes left has = absurd fit.0
     gives m m' cx (Is.Dns v) offered answer sent fit offers leaves held goes left has = absurd fit.0
     gives m m' cx s offered answer sent fit offers leaves held goes left has = absurd offers
@@ -274,7 +277,7 @@ module _ {D : Type 0} (moves : D → Move → D → Type 0) (turn_of : Option Ip
   Next s = Follows names side Gives Taken i0 t (L (n + 1)) net s
 
   uncounted : (s : State D) → Now s → Next s
-  uncounted s f = record { now = f.now; frames = f.frames; taken = f.taken; reaches = f.reaches; sockets = f.sockets; link = link.more n (n + 1) s (party f.now side) (omega arith) f.link }
+  uncounted s f = record { now = f.now; frames = f.frames; taken = f.taken; reaches = f.reaches; hops = f.hops; sockets = f.sockets; link = link.more n (n + 1) s (party f.now side) (omega arith) f.link }
 
   -- a packet goes its way, with its sockets told already
   leaves : (x x' : Sender D) (places : Places) (party : Party) (meta : Meta) (packet : PacketValue) (sent : Sent) → IsWide packet →
@@ -297,18 +300,20 @@ module _ {D : Type 0} (moves : D → Move → D → Type 0) (turn_of : Option Ip
     frames = f.frames;
     taken = f.taken;
     reaches = f.reaches;
+    hops = f.hops;
     sockets = f.sockets ∙ sym (same-middle seen_place before (record { inner = o }) (record { inner = o' }) after same);
     link = link.grown n (At x o) (before ++ record { inner = o' } ∷ after) (party f.now side) (party f.now side) (grows_not (party f.now side)) f.link;
   })
 
   -- moves lead on, while nothing goes
-  abbrev moved_on : (x : Sender D) (o : Option (Item Socket)) (places : Places) (f : Now (At x o)) → (m : Moved names side (Stays i0 x.inner) (Gives x.device) f.frames i0 t net f.now (sockets_of places)) →
+  abbrev moved_on : (x : Sender D) (o : Option (Item Socket)) (places : Places) (f : Now (At x o)) → (m : Moved names side (Stays i0 x.inner) (Gives x.device) (KnowsHop i0 t f.frames.taken x.inner) f.frames i0 t net f.now (sockets_of places)) →
       Now (sending_as h x places)
   moved_on x o places f m = record {
     now = m.next;
     frames = f.frames;
     taken = f.taken;
     reaches = m.reaches;
+    hops = f.hops;
     sockets = m.sockets_are;
     link = link.grown n (At x o) places (party f.now side) (party m.next side) m.grows f.link;
   }
@@ -324,12 +329,12 @@ module _ {D : Type 0} (moves : D → Move → D → Type 0) (turn_of : Option Ip
       let cx = context_for x.inner item.socket in
       let none : offered_by offered ≡ None =
       none_offered (offered_by offered) changed (has_packet item.socket offered cx (Offer.Silent changed) offers) in
-      let given = gives names side (Stays i0 x.inner) (Gives x.device) f.frames i0 t net f.now f.reaches before after nowhere x.inner like item.meta unmarked cx item.socket offered (Offer.Silent changed) false
+      let given = gives names side (Stays i0 x.inner) (Gives x.device) (KnowsHop i0 t f.frames.taken x.inner) f.frames i0 t net f.now f.reaches before after nowhere x.inner like item.meta unmarked cx item.socket offered (Offer.Silent changed) false
       fit offers (subst (λ (o : Option PacketValue). IfSome o (λ x. LeavesFrom cx nowhere x.header)) (sym none) tt)
       (λ c. (
         shows_towards i0 x.inner t like (remote_of item.socket) c.0,
         subst (λ (o : Option PacketValue). IfSome o (λ y. nowhere ≡ source_of (sourced x.inner y).header)) (sym none) tt,
-      )) (λ c g. subst (λ (o : Option PacketValue). IfSome o (λ y. (false ≡ true) ⊎ IsHindered i0 t (λ j. (sourced j y).header))) (sym none) tt)
+      )) (λ c g. subst (λ (o : Option PacketValue). IfSome o (λ y. (false ≡ true) ⊎ IsHindered i0 t (KnowsHop i0 t f.frames.taken x.inner) (λ j. (sourced j y).header))) (sym none) tt)
       (λ done. absurd cc) f.sockets in
       let same : settled false offered ≡ offered = unsettled offered none in
       let still : Now (At x (Some (record { meta = unmarked; socket = offered }))) =
@@ -339,13 +344,15 @@ module _ {D : Type 0} (moves : D → Move → D → Type 0) (turn_of : Option Ip
       (subst (λ (y : Sender D). Now (At y (Some (record { meta = unmarked; socket = offered })))) (sym answers.1) still)
 
   -- its packet is done with, or the host had no way for it
-  or_hindered : (x : Sender D) (leaving packet : PacketValue) (done : Bool) → leaving ≡ sourced x.inner packet → Shown x → x.inner.paths ≡ [] →
-      (done ≡ true) ⊎ IsHindrance (plan_at x leaving) → (done ≡ true) ⊎ IsHindered i0 t (λ j. (sourced j packet).header)
-  or_hindered x leaving packet done is like none (inl so) = inl so
-  or_hindered x leaving packet done is like none (inr stays) = inr (record {
+  or_hindered : (x : Sender D) (frames : Frames) (leaving packet : PacketValue) (done : Bool) → leaving ≡ sourced x.inner packet → Shown x → x.inner.paths ≡ []
+      → Hops i0 t frames.taken x.inner → (done ≡ true) ⊎ IsHindrance (plan_at x leaving)
+      → (done ≡ true) ⊎ IsHindered i0 t (KnowsHop i0 t frames.taken x.inner) (λ j. (sourced j packet).header)
+  or_hindered x frames leaving packet done is like none hops (inl so) = inl so
+  or_hindered x frames leaving packet done is like none hops (inr stays) = inr (record {
     i = x.inner;
     like = like;
     paths = none;
+    hops = λ remote to knows. hop_now x.inner t remote to like.moment (hops remote to knows);
     busy = is_some x.left;
     plan = subst (λ (p : PacketValue). IsHindrance (plan_at x p)) is stays;
   })
@@ -371,22 +378,24 @@ module _ {D : Type 0} (moves : D → Move → D → Type 0) (turn_of : Option Ip
       let way : Left moves Taken taking f.frames x.inner leaving (plan_at x leaving) sent x'.device =
       left_by moves Taken taking f.frames turn_of x x' item.meta leaving sent goes.1 f.taken in
       let frames : Frames = and_gone f.frames way.out.more in
-      let reaches = narrowed names side (Stays i0 x.inner) (Stays i0 x.inner) (Gives x.device) (Gives x'.device) frames i0 t net f.now (λ c. c) back
-      (sent_more names side (Stays i0 x.inner) (Gives x.device) f.frames i0 t net f.now way.out.more f.reaches) in
-      let given = gives names side (Stays i0 x.inner) (Gives x'.device) frames i0 t net f.now reaches before after from x.inner like item.meta meta cx item.socket
+      let Knows : IpAddress → HardwareAddress → Type 0 = KnowsHop i0 t f.frames.taken x.inner in
+      let reaches = narrowed names side (Stays i0 x.inner) (Stays i0 x.inner) (Gives x.device) (Gives x'.device) Knows Knows frames i0 t net f.now (λ c. c) back
+      (λ remote to knows. knows) (sent_more names side (Stays i0 x.inner) (Gives x.device) Knows f.frames i0 t net f.now way.out.more f.reaches) in
+      let given = gives names side (Stays i0 x.inner) (Gives x'.device) Knows frames i0 t net f.now reaches before after from x.inner like item.meta meta cx item.socket
       offered (Offer.Packet changed) (is_done sent) fit offers (subst (λ (o : Option PacketValue). IfSome o (λ y. LeavesFrom cx from y.header)) is from_it)
       (λ c. (
         shows_towards i0 x.inner t like (remote_of item.socket) c.0,
         subst (λ (o : Option PacketValue). IfSome o (λ y. from ≡ source_of (sourced x.inner y).header)) is refl,
       ))
-      (λ c g. subst (λ (o : Option PacketValue). IfSome o (λ y. (is_done sent ≡ true) ⊎ IsHindered i0 t (λ j. (sourced j y).header))) is
-      (or_hindered x leaving packet (is_done sent) sending.1 like c.0 (leaves_so moves Since Gives giving turn_of x x' item.meta leaving sent goes.1 since g)))
-      (λ done. subst (λ (o : Option PacketValue). IfSome o (λ y. LeftFrom i0 t (Stays i0 x.inner) frames.gone cx item.socket from y)) is (record {
+      (λ c g. subst (λ (o : Option PacketValue). IfSome o (λ y. (is_done sent ≡ true) ⊎ IsHindered i0 t Knows (λ j. (sourced j y).header))) is
+      (or_hindered x f.frames leaving packet (is_done sent) sending.1 like c.0 f.hops (leaves_so moves Since Gives giving turn_of x x' item.meta leaving sent goes.1 since g)))
+      (λ done. subst (λ (o : Option PacketValue). IfSome o (λ y. LeftFrom i0 t (Stays i0 x.inner) Knows frames.gone cx item.socket from y)) is (record {
         i = x.inner;
         settings = like.settings;
         moment = like.moment;
         ident = like.ident;
         paths = λ c. c.0;
+        hops = λ remote to knows. hop_now x.inner t remote to like.moment (f.hops remote to knows);
         shown = refl;
         formed = sending.2;
         wide = wide sending.2;
@@ -402,8 +411,10 @@ module _ {D : Type 0} (moves : D → Move → D → Type 0) (turn_of : Option Ip
         now = given.moved.next;
         frames = frames;
         taken = way.out.taken;
-        reaches = narrowed names side (Stays i0 x.inner) (Stays i0 x'.inner) (Gives x'.device) (Gives x'.device) frames i0 t net given.moved.next
-            (stays_before i0 x.inner x'.inner same) (λ g. g) given.moved.reaches;
+        reaches = narrowed names side (Stays i0 x.inner) (Stays i0 x'.inner) (Gives x'.device) (Gives x'.device) Knows
+            (KnowsHop i0 t f.frames.taken x'.inner) frames i0 t net given.moved.next (stays_before i0 x.inner x'.inner same) (λ g. g)
+            (knew_out i0 t f.frames.taken x.inner x'.inner same) given.moved.reaches;
+        hops = hops_out i0 t f.frames.taken x.inner x'.inner same f.hops;
         sockets = given.moved.sockets_are;
         link = leaves x x' places (party given.moved.next side) item.meta leaving sent
             (subst IsWide (sym sending.1) (sourced_wide x.inner packet (wide sending.2) (subst IsWellFormed sending.1 goes.4)))

@@ -12,14 +12,17 @@ use Rattle.interface_egress.specs.declared.plan.Plan.{Plan}
 use Rattle.interface_egress.specs.declared.plan.Plan.TheVariants as Way
 use Rattle.interface_ingress.specs.Delivered.{packet_by}
 use Rattle.interface_ingress.specs.HardwareAddress.{HardwareAddress}
-use Rattle.interface_tables.specs.Inner.{InnerValue}
+use Rattle.interface_ingress.specs.IpAddress.{IpAddress}
+use Rattle.interface_tables.specs.Inner.{InnerValue, link_address}
+use Rattle.interface_tables.specs.declared.link.LinkAddress.TheVariants as Link
 use Rattle.lan.specs.Worlds.AtLink.Moves.{Move}
 use Rattle.lan.specs.Worlds.AtLink.Moves.Move.{Takes}
 use Rattle.lan.specs.Worlds.Moves.Made.{IsWide}
 use Rattle.lan.specs.Worlds.Moves.Went.{IsGone}
 
--- A poll of a host: what the host was before it, and the frames that its device took in it, the oldest first.
-module _ (i0 : InnerValue) (gone : List (List ℕ)) where
+-- A poll of a host: what the host was before it, how one says behind it that it knew throughout to which hardware address the frames for a destination go,
+-- and the frames that its device took in it, the oldest first.
+module _ (i0 : InnerValue) (knows_hop : IpAddress → HardwareAddress → Type 0) (gone : List (List ℕ)) where
   -- a packet that can be sent and read; where the host planned that it goes whole, it went
   pub record WentAsPlanned (i : InnerValue) (p : PacketValue) (plan : Plan) : Type 0 where
     pub formed : IsWellFormed p
@@ -31,6 +34,7 @@ module _ (i0 : InnerValue) (gone : List (List ℕ)) where
     pub i : InnerValue
     pub settings : HasSettingsOf i0 i
     pub ident : i0.ident < 2 ^ 16 → i.ident < 2 ^ 16
+    pub hops : (remote : IpAddress) (to : HardwareAddress) → knows_hop remote to → link_address i remote ≡ Link.Known to
     pub busy : Bool
     pub what : (is_question (plan_of i busy p.header) ≡ true) ⊎ WentAsPlanned i p (plan_of i busy p.header)
 

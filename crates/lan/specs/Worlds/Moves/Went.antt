@@ -17,8 +17,10 @@ use Rattle.interface_egress.specs.Plan.{plan_of}
 use Rattle.interface_egress.specs.declared.plan.Plan.{Plan}
 use Rattle.interface_egress.specs.declared.plan.Plan.TheVariants as Way
 use Rattle.interface_egress.specs.declared.socket_meta.Meta.{Meta}
+use Rattle.interface_ingress.specs.HardwareAddress.{HardwareAddress}
 use Rattle.interface_ingress.specs.IpAddress.{IpAddress}
-use Rattle.interface_tables.specs.Inner.{InnerValue}
+use Rattle.interface_tables.specs.Inner.{InnerValue, link_address}
+use Rattle.interface_tables.specs.declared.link.LinkAddress.TheVariants as Link
 use Rattle.lan.specs.Worlds.AtLink.Moves.{Move}
 use Rattle.lan.specs.Worlds.AtLink.Moves.Move.{Offers}
 use Rattle.lan.specs.Worlds.Moves.Made.{IsWide}
@@ -38,8 +40,8 @@ module _ (gone : List (List ℕ)) where
   WentBy i p plan = (meta : Meta) × (is_given_up meta i (destination_of p.header) plan ≡ true)
 
 -- A poll of a host at this moment: what the host was before it, how one says behind it that it knows of no path on which less is carried than in a
--- frame, and the frames that went in it.
-module _ (i0 : InnerValue) (t : ℤ) (knows_none : Type 0) (gone : List (List ℕ)) where
+-- frame, and that it knew throughout to which hardware address the frames for a destination go; and the frames that went in it.
+module _ (i0 : InnerValue) (t : ℤ) (knows_none : Type 0) (knows_hop : IpAddress → HardwareAddress → Type 0) (gone : List (List ℕ)) where
   -- The host was so when it showed itself to this socket, whose packet, which another host can read, left from this address.
   pub record LeftFrom (cx : ContextValue) (s : Socket) (from : IpAddress) (p : PacketValue) : Type 0 where
     pub i : InnerValue
@@ -47,6 +49,7 @@ module _ (i0 : InnerValue) (t : ℤ) (knows_none : Type 0) (gone : List (List �
     pub moment : i.moment ≡ t
     pub ident : i0.ident < 2 ^ 16 → i.ident < 2 ^ 16
     pub paths : knows_none → i.paths ≡ []
+    pub hops : (remote : IpAddress) (to : HardwareAddress) → knows_hop remote to → link_address i remote ≡ Link.Known to
     pub shown : cx ≡ context_for i s
     pub formed : IsWellFormed p
     pub wide : IsWide p

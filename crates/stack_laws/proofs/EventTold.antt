@@ -1,0 +1,54 @@
+-- A frame of a segment tells nothing of hardware addresses.
+use Rattle.std.proofs.Common.{◌≡◌, ℕ, true, false, List, ◌++◌, Some, sym, ap, ◌∙◌, subst}
+use Rattle.ip_packet.specs.declared.ip.repr.IpRepr.{IpRepr}
+use Rattle.ip_packet.specs.declared.ip.repr.IpRepr.TheVariants as Ip
+use Rattle.ip_wire.specs.HardwareAddress.{HardwareAddress}
+use Rattle.ip_wire.specs.IpAddress.{IpAddress}
+use Rattle.ip_wire.specs.TcpHeader.{TcpHeader}
+use Rattle.tcp_model.specs.Value.{TcpValue}
+use Rattle.interface.specs.Delivered.{read_of}
+use Rattle.interface.specs.Taken.{CanRead, HasWidths}
+use Rattle.interface_egress.specs.Departure.{Whole}
+use Rattle.interface_egress.specs.GoesOut.{numbered}
+use Rattle.interface_ingress.specs.Incoming.{IncomingValue, IsContent}
+use Rattle.interface_ingress.specs.Packet.{PacketValue, Segment, packet_of}
+use Rattle.interface_ingress.specs.Reassembled.{is_control_v6}
+use Rattle.interface_ingress.specs.Sent.{CanBeRead}
+use Rattle.interface_ingress.specs.WellFormed.{IsWellFormed}
+use Rattle.interface_ingress.proofs.OneContent.{one-content}
+use Rattle.interface_tables.specs.Inner.{InnerValue}
+use Rattle.lan.specs.Worlds.Moves.Hops.{FrameTellsAtMost, TellsAtMost}
+use Rattle.net_base.specs.ChecksumCapabilities.{ChecksumCapabilities}
+use Rattle.stack_laws.specs.Progress.Delivered.{reader_of}
+use Rattle.stack_laws.specs.Progress.Queued.{frame_under, with_ident}
+use Rattle.stack_laws.specs.Progress.Segments.{CanLeave, OffersSegment}
+use Rattle.stack_laws.proofs.Polls.Readers.{packet_read}
+use Rattle.stack_laws.proofs.Polls.Segments.{can_be_read}
+
+same_value : (v w : IncomingValue) → Some v ≡ Some w → v ≡ w
+same_value v w is = cc
+
+module _ (i : InnerValue) (ident : ℕ) (to : HardwareAddress) (header : TcpHeader) (bytes : List ℕ) (caps : ChecksumCapabilities) (hop : IpAddress)
+    (told : HardwareAddress) where
+  -- what is read of its packet
+  abbrev read : IpRepr → IncomingValue
+  read ip = read_of (with_ident i ident) (Whole to (numbered (with_ident i ident) (packet_of ip (Segment header bytes))))
+
+  tells_nothing : (ip : IpRepr) → CanBeRead ip (Segment header bytes) → TellsAtMost caps hop told (read ip)
+  tells_nothing (Ip.Ipv4 v) readable = tt
+  tells_nothing (Ip.Ipv6 v) readable =
+      λ message carried control brought. absurd (let never : false ≡ true = sym (ap is_control_v6 readable.0) ∙ control in cc)
+
+pub segment_tells : (i j : InnerValue) (ident : ℕ) (v : TcpValue) (ip : IpRepr) (header : TcpHeader) (bytes : List ℕ) (to : HardwareAddress)
+    (padding : List ℕ) (hop : IpAddress) (told : HardwareAddress)
+    → HasWidths (with_ident i ident) → OffersSegment i v ip header bytes → CanLeave i to (packet_of ip (Segment header bytes))
+    → IsWellFormed (packet_of ip (Segment header bytes)) → CanRead i to (reader_of j)
+    → FrameTellsAtMost j hop told (frame_under i ident to (packet_of ip (Segment header bytes)) ++ padding)
+segment_tells i j ident v ip header bytes to padding hop told wide offers can formed reads content is =
+    let p : PacketValue = packet_of ip (Segment header bytes) in
+    let frame : List ℕ = frame_under i ident to p ++ padding in
+    let it : IncomingValue = read i ident to header bytes j.checksums hop told ip in
+    let there : IsContent j.hardware j.checksums frame (Some it) = packet_read i ident to p (reader_of j) wide can formed reads padding in
+    let same : content ≡ it = same_value content it (one-content j.hardware j.checksums frame (Some content) (Some it) is there) in
+    subst (λ (x : IncomingValue). TellsAtMost j.checksums hop told x) (sym same)
+    (tells_nothing i ident to header bytes j.checksums hop told ip (can_be_read i v ip header bytes offers formed))
