@@ -45,6 +45,7 @@ pub mod HeldEnds
 pub mod EventConnected
 pub mod EventReach
 pub mod EventPartners
+pub mod Rounds
 pub mod Blocks
 pub mod MovedEvents
 pub mod Moved

@@ -68,6 +68,7 @@ pub mod SomeLearns
 pub mod SomeStarts
 pub mod SomeWorld
 pub mod SomeLinked
+pub mod SomeSettling
 pub mod NextAtPorts
 pub mod SomeNeighbors
 pub mod SomeExchange

@@ -143,11 +143,11 @@ rested starts history hosts moment side run (past, between, (a, first, asks_a, t
       by A mid x rests y also same = (x, subst (λ (s : StationValue). Rests x s moment) (sym same) rests)
       by B mid x rests y also same = (y, also)
 
-abbrev world : Starts → List Entry → Stations → WorldValue
+abbrev pub world : Starts → List Entry → Stations → WorldValue
 world starts history hosts = record { hosts = hosts; starts = starts; history = history }
 
 -- a TCP socket of the net is the host's
-of_host : (starts : Starts) (history : List Entry) (hosts : Stations) (side : Side) (place : ℕ) (v : TcpValue) → IsTcpAt (net_of (world starts history hosts)) side place v
+pub of_host : (starts : Starts) (history : List Entry) (hosts : Stations) (side : Side) (place : ℕ) (v : TcpValue) → IsTcpAt (net_of (world starts history hosts)) side place v
     → slice_index_or (sockets_of (station hosts side).places) place None ≡ Some (Parties.Tcp v)
 of_host starts history hosts A place v is = is
 of_host starts history hosts B place v is = is
@@ -183,6 +183,9 @@ none_owed : (b : Bool) → one_if b ≡ 0 → b ≡ false
 none_owed true none = absurd cc
 none_owed false none = refl
 
+pub none_unacked : (v : TcpValue) → unacked v.block (length v.queued.queue) ≤ 0 → (v.queued.queue ≡ []) × (owes_fin v.block.state ≡ false)
+none_unacked v all = (none_left v.queued.queue (omega (arith, all)), none_owed (owes_fin v.block.state) (omega (arith, all)))
+
 -- a socket of a pair that events led to, which waits for nothing, has nothing that isn't acknowledged
 all_acknowledged : (p : PairValue) (side : Pairs.Side) (v : TcpValue) (mtu : ℕ) → IsReached p → (at p.sides side).socket ≡ v → IsConnected v
     → poll_of mtu v ≡ When.Ingress → (v.queued.queue ≡ []) × (owes_fin v.block.state ≡ false)
@@ -200,7 +203,7 @@ all_acknowledged p side v mtu reached is connected none = by (cases_lt 0 (unacke
 
   by : (0 < unacked v.block (length v.queued.queue)) ⊎ (unacked v.block (length v.queued.queue) ≤ 0) → (v.queued.queue ≡ []) × (owes_fin v.block.state ≡ false)
   by (inl owes) = absurd (waits_on owes)
-  by (inr all) = (none_left v.queued.queue (omega (arith, all)), none_owed (owes_fin v.block.state) (omega (arith, all)))
+  by (inr all) = none_unacked v all
 
 -- what is freed was taken in, so that nothing is left means that all was
 all_taken : (written taken queue : List ℕ) → queue ≡ [] → HoldsRest written queue taken → IsPrefixOf taken written → taken ≡ written
@@ -240,12 +243,12 @@ module _ (starts : Starts) (history : List Entry) (hosts : Stations) (places : S
   back A = partners_turned history A (places A) (places B) partners
   back B = partners
 
-  pub arrived : (side : Side) (v w : TcpValue) (mtu : ℕ) → IsTcpAt (net_of (world starts history hosts)) side (places side) v
-      → IsTcpAt (net_of (world starts history hosts)) (other side) (places (other side)) w → IsConnected v → poll_of mtu v ≡ When.Ingress
+  -- where nothing of it is left
+  pub came : (side : Side) (v w : TcpValue) → IsTcpAt (net_of (world starts history hosts)) side (places side) v
+      → IsTcpAt (net_of (world starts history hosts)) (other side) (places (other side)) w → (v.queued.queue ≡ []) × (owes_fin v.block.state ≡ false)
       → HasArrived (net_of (world starts history hosts)) side (places side) (places (other side)) v w
-  arrived side v w mtu here there connected none =
+  came side v w here there all =
       let safe : IsSafe (first_port starts) (net_of (world starts history hosts)) = runs_safe starts fresh history hosts typed (ran starts history hosts still) in
-      let all = all_acknowledged pair (side_in side) v mtu reached (of_pair side v here) connected none in
       record {
         left = all.0;
         arrived = all_taken (written history side (places side)) (taken_in (net_of (world starts history hosts)) (other side) (places (other side)) w)
@@ -254,3 +257,9 @@ module _ (starts : Starts) (history : List Entry) (hosts : Stations) (places : S
             (twice side) (safe.prefix (other side) (places (other side)) (places side) w (back side) there));
         ended = all.1;
       }
+
+  pub arrived : (side : Side) (v w : TcpValue) (mtu : ℕ) → IsTcpAt (net_of (world starts history hosts)) side (places side) v
+      → IsTcpAt (net_of (world starts history hosts)) (other side) (places (other side)) w → IsConnected v → poll_of mtu v ≡ When.Ingress
+      → HasArrived (net_of (world starts history hosts)) side (places side) (places (other side)) v w
+  arrived side v w mtu here there connected none =
+      came side v w here there (all_acknowledged pair (side_in side) v mtu reached (of_pair side v here) connected none)

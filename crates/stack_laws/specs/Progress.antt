@@ -40,3 +40,4 @@ pub mod ByEvents
 pub mod Edges
 pub mod EdgesMet
 pub mod Settled
+pub mod Within

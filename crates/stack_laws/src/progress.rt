@@ -22,5 +22,6 @@ pub mod rooms;
 pub mod segments;
 pub mod served;
 pub mod settled;
+pub mod settling;
 pub mod turns;
 pub mod unread;

@@ -1,11 +1,16 @@
--- Worlds that go on by what a good link and served hosts do.
-use Rattle.std.proofs.Common.{◌≡◌, List, [], ◌∷◌, ◌++◌, refl, sym, subst, Result, Ok, Err, IfOk, OnErr}
+-- Worlds that go on by what a good link and served hosts do, round by round.
+use Rattle.std.proofs.Common.{◌≡◌, ℕ, zero, suc, ◌+◌, ◌-◌, ◌<◌, ℤ, List, [], ◌∷◌, ◌++◌, refl, sym, subst, ap, ◌∙◌, inl, inr, ◌≤◌, add-one, arith, Option, Some, None, Result, Ok, Err, IfOk, OnErr, option_map}
 use Rattle.std.specs.List.{AllByRecursion}
+use Rattle.std.specs.Int.{int_max}
+use Rattle.interface.specs.Instant.{earlier}
 use Rattle.lan.specs.declared.at_link.history.answer.Answer.{Answer}
+use Rattle.lan.specs.declared.at_link.history.answer.Answer.TheVariants as To
 use Rattle.lan.specs.declared.at_link.history.answer.Refused.{Refused}
 use Rattle.lan.specs.declared.at_link.history.event.Event.{Event}
+use Rattle.lan.specs.declared.at_link.history.event.Event.TheVariants as E
+use Rattle.lan.specs.declared.at_link.history.event.Side.{Side}
 use Rattle.lan.specs.Worlds.AtLink.Runs.{Step, Steps, WorldValue}
-use Rattle.lan.specs.Worlds.Settling.{Goes, IsService}
+use Rattle.lan.specs.Worlds.Settling.{AreAtRest, AreServed, Goes, Handed, IsService, NextRound, Rounds, Settles, deliveries}
 
 pub goes_not : (w : WorldValue) → Goes w w
 goes_not w = ([], tt, refl)
@@ -29,3 +34,59 @@ pub served_or_not : (old new : WorldValue) (event : Event) (r : Result Answer Re
     → IfOk r (λ answer. Step old event answer new) → OnErr r (new ≡ old) → Goes old new
 served_or_not old new event (Ok answer) is step same = served old new event answer is step
 served_or_not old new event (Err refused) is step same = subst (λ (w : WorldValue). Goes old w) (sym same) (goes_not old)
+
+-- FRAMES THAT ARE HANDED OVER
+
+one_more : (side : Side) (k n : ℕ) → deliveries side k (suc n) ≡ deliveries side k n ++ E.Deliver side (k + n) [] ∷ []
+one_more side k zero = ap (λ (m : ℕ). E.Deliver side m [] ∷ []) (omega arith)
+one_more side k (suc n) =
+    let moved : suc k + n ≡ k + suc n = omega arith in
+    ap (λ (events : List Event). E.Deliver side k [] ∷ events)
+    (subst (λ (m : ℕ). deliveries side (suc k) (suc n) ≡ deliveries side (suc k) n ++ E.Deliver side m [] ∷ []) moved (one_more side (suc k) n))
+
+-- the next one behind those of a host from one number up to another
+pub handed_on : (old mid new : WorldValue) (side : Side) (from frame : ℕ) (padding : List ℕ) (answer : Answer) → from ≤ frame → padding ≡ []
+    → Steps old (deliveries side from (frame - from)) mid → Step mid (E.Deliver side frame padding) answer new
+    → Steps old (deliveries side from (frame + 1 - from)) new
+handed_on old mid new side from frame padding answer below bare before step =
+    let counted : frame + 1 - from ≡ suc (frame - from) = omega arith in
+    let place : frame ≡ from + (frame - from) = omega arith in
+    let first : List Event = deliveries side from (frame - from) in
+    let plain : Step mid (E.Deliver side frame []) answer new = subst (λ (p : List ℕ). Step mid (E.Deliver side frame p) answer new) bare step in
+    let both : Steps old (first ++ E.Deliver side frame [] ∷ []) new =
+    steps_of_both old mid new first (E.Deliver side frame [] ∷ []) before (answer, new, plain, refl) in
+    let all : Steps old (first ++ E.Deliver side (from + (frame - from)) [] ∷ []) new =
+    subst (λ (m : ℕ). Steps old (first ++ E.Deliver side m [] ∷ []) new) place both in
+    subst (λ (n : ℕ). Steps old (deliveries side from n) new) (sym counted)
+    (subst (λ (events : List Event). Steps old events new) (sym (one_more side from (frame - from))) all)
+
+-- ROUNDS
+
+neither : (a b : Option ℤ) (moment : ℤ) → None ≡ option_map (int_max moment) (earlier a b) → (a ≡ None) × (b ≡ None)
+neither None None moment is = (refl, refl)
+neither None (Some b) moment is = absurd cc
+neither (Some a) None moment is = absurd cc
+neither (Some a) (Some b) moment is = absurd cc
+
+-- behind a round after which there is none both are at rest
+pub rests : (moment : ℤ) (handed : Handed) (old new : WorldValue) → NextRound moment handed None old new → AreAtRest moment new.history
+rests moment handed old new (inl (under_way, at, same)) = absurd cc
+rests moment handed old new (inr (calm, a, b, (between, one, two), is)) =
+    let none : (a ≡ None) × (b ≡ None) = neither a b moment is in (
+      old.history,
+      between.history,
+      (one.entry, one.history, one.event_kept, one.answer_kept ∙ ap To.At none.0),
+      (two.entry, two.history, two.event_kept, two.answer_kept ∙ ap To.At none.1),
+    )
+
+pub one_round_more : (budget : ℕ) (from moment next : ℤ) (handed now : Handed) (n : ℕ) (first old served new : WorldValue)
+    → Rounds budget from first n moment handed old → AreServed moment budget handed now old served → NextRound moment handed (Some next) served new
+    → Rounds budget from first (n + 1) next now new
+one_round_more budget from moment next handed now n first old served new before are goes =
+    subst (λ (m : ℕ). Rounds budget from first m next now new) (sym (add-one n)) (moment, handed, old, before, (served, are, goes))
+
+pub the_last_round : (budget : ℕ) (from moment : ℤ) (handed now : Handed) (n rounds : ℕ) (first old served new : WorldValue) → n < rounds
+    → Rounds budget from first n moment handed old → AreServed moment budget handed now old served → NextRound moment handed None served new
+    → Settles budget from rounds (Some moment) first new
+the_last_round budget from moment handed now n rounds first old served new below before are goes =
+    (n, below, handed, now, old, before, (served, are, goes))

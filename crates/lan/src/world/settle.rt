@@ -1,18 +1,30 @@
 //! A world whose link is good for a while, and whose hosts are polled when they want to be.
-ghost use Rattle.std.specs.Prelude.{◌≡◌, Some, None, IfOk, IfSome};
+ghost use Rattle.std.specs.Prelude.{◌≡◌, ◌↔◌, ◌-◌, Some, None, IfOk, IfSome, IsTrue, OnOk};
+ghost use Rattle.lan.specs.declared.at_link.history.answer.Answer.TheVariants as To;
+ghost use Rattle.lan.specs.declared.at_link.history.event.Event.TheVariants as E;
+ghost use Rattle.lan.specs.Worlds.AtLink.Runs.{Step, Steps};
 ghost use Rattle.lan.specs.Worlds.Promises.{IsSafeWorld};
-ghost use Rattle.lan.specs.Worlds.Settling.{AreAtRest, Goes, IsService, WasAsked};
+ghost use Rattle.lan.specs.Worlds.Settling.{AreAtRest, AreServed, Goes, IsCalm, IsServed, IsService, NextRound, Settles, all_sent, deliveries};
 
 use crate::at_link::{Answer, Bytes, Event, Refused, Side};
 use crate::world::World;
+use interface::earlier;
 use net_base::Instant;
+
+/// How many frames of each host were handed over, or are lost.
+#[derive(Clone, Copy)]
+struct Handed {
+    a: usize,
+    b: usize,
+}
 
 impl World {
     /// Lets both hosts do what is theirs to do, and the link hand over each frame that they send, until neither host wants to be polled any
     /// more, or so many rounds are over. Answers the moment at which both were at rest, if they came to be.
     ///
-    /// A round polls each host once with this budget, and hands over as many of its frames. Where nothing was handed over the clock, which
-    /// begins at `from`, goes on to the moment at which a host wants to be polled. Frames that were sent before are left out, as lost.
+    /// A round polls each host once with this budget, and hands over as many of its frames, A's before B is polled. Where all frames had come
+    /// before, and none waits for a host, the clock, which begins at `from`, goes on to the moment at which a host wants to be polled. Frames
+    /// that were sent before are left out, as lost.
     ///
     /// Where hosts keep their addresses, and answer nothing that no socket of theirs takes, what is at rest has arrived: all that was written
     /// to a socket that is connected has come to its partner (`stack_laws::progress::settled`).
@@ -22,6 +34,7 @@ impl World {
         budget: u16,
         rounds: usize,
     ) -> Result<Option<Instant>, Refused>
+        ensures rounds { IfOk result (λ rested. Settles budget from rounds rested self.old self.new) }
         ensures goes { Goes self.old self.new }
         ensures rest { IfOk result (λ rested. IfSome rested (λ moment. AreAtRest moment self.new.history)) }
         ensures promises { IsSafeWorld self.new }
@@ -38,24 +51,48 @@ impl World {
         budget: u16,
         rounds: usize,
     ) -> Result<Option<Instant>, Refused>
+        ensures rounds { IfOk result (λ rested. Settles budget from rounds rested self.old self.new) }
         ensures goes { Goes self.old self.new }
         ensures rest { IfOk result (λ rested. IfSome rested (λ moment. AreAtRest moment self.new.history)) }
     {
         let mut moment = from;
-        let mut handed = (self.sent(Side::A).len(), self.sent(Side::B).len());
-        for _ in 0..rounds {
-            let a = self.serve(Side::A, moment, budget, handed.0)?;
-            let b = self.serve(Side::B, moment, budget, handed.1)?;
-            if a != handed.0 || b != handed.1 {
-                handed = (a, b);
-                continue;
-            }
-            match self.ask_both(moment)? {
-                Some(at) => moment = moment.max(at),
+        let mut handed = self.all_sent();
+        for _round in 0..rounds {
+            let now = self.serve_both(moment, budget, handed)?;
+            match self.next_round(moment, handed)? {
+                Some(next) => {
+                    moment = next;
+                    handed = now;
+                }
                 None => return Ok(Some(moment)),
             }
         }
         Ok(None)
+    }
+
+    /// How many frames each host sent.
+    fn all_sent(&self) -> Handed
+        ensures { result ≡ all_sent self.now }
+    {
+        Handed {
+            a: self.a.sent_count(),
+            b: self.b.sent_count(),
+        }
+    }
+
+    /// Serves A, and then B. Answers how many of their frames are handed over then.
+    fn serve_both(
+        &mut self,
+        moment: Instant,
+        budget: u16,
+        handed: Handed,
+    ) -> Result<Handed, Refused>
+        ensures goes { Goes self.old self.new }
+        ensures served { IfOk result (λ now. AreServed moment budget handed now self.old self.new) }
+    {
+        let a = self.serve(Side::A, moment, budget, handed.a)?;
+        let b = self.serve(Side::B, moment, budget, handed.b)?;
+        Ok(Handed { a, b })
     }
 
     /// Polls a host, and hands the frames over that it sent behind so many. Answers how many are handed over then.
@@ -66,7 +103,8 @@ impl World {
         budget: u16,
         handed: usize,
     ) -> Result<usize, Refused>
-        ensures { Goes self.old self.new }
+        ensures goes { Goes self.old self.new }
+        ensures served { IfOk result (λ now. IsServed side moment budget handed now self.old self.new) }
     {
         self.serve_by(Event::Poll(side, moment, budget))?;
         let end = self
@@ -79,7 +117,8 @@ impl World {
 
     /// Hands these frames of a host over.
     fn hand_over(&mut self, side: Side, from: usize, to: usize) -> Result<(), Refused>
-        ensures { Goes self.old self.new }
+        ensures goes { Goes self.old self.new }
+        ensures handed { OnOk result (Steps self.old (deliveries side from (to - from)) self.new) }
     {
         for frame in from..to {
             let padding = Bytes::from_vec(Vec::new(self.alloc));
@@ -88,37 +127,44 @@ impl World {
         Ok(())
     }
 
-    /// Takes a poll or a frame.
-    fn serve_by(&mut self, event: Event) -> Result<(), Refused>
+    /// Takes a poll, a question or a frame.
+    fn serve_by(&mut self, event: Event) -> Result<Answer, Refused>
         requires { IsService event }
-        ensures { Goes self.old self.new }
+        ensures goes { Goes self.old self.new }
+        ensures step { IfOk result (λ answer. Step self.old event answer self.new) }
     {
-        match self.step(event) {
-            Ok(_) => Ok(()),
-            Err(refused) => Err(refused),
-        }
+        self.step(event)
     }
 
-    /// When the first of both hosts wants to be polled, if either does.
-    fn ask_both(&mut self, moment: Instant) -> Result<Option<Instant>, Refused>
+    /// When the next round is, if there is one.
+    fn next_round(&mut self, moment: Instant, handed: Handed) -> Result<Option<Instant>, Refused>
         ensures goes { Goes self.old self.new }
-        ensures rest { IfOk result (λ at. at ≡ None → AreAtRest moment self.new.history) }
+        ensures next { IfOk result (λ next. NextRound moment handed next self.old self.new) }
     {
+        if !self.is_calm(handed) {
+            return Ok(Some(moment));
+        }
         let a = self.ask(Side::A, moment)?;
         let b = self.ask(Side::B, moment)?;
-        match (a, b) {
-            (None, b) => Ok(b),
-            (a, None) => Ok(a),
-            (Some(a), Some(b)) => Ok(Some(a.min(b))),
-        }
+        Ok(earlier(a, b).map(|at| moment.max(at)))
+    }
+
+    /// Whether all that the hosts sent had come before, and nothing waits.
+    fn is_calm(&self, handed: Handed) -> bool
+        ensures { IsTrue result ↔ IsCalm handed self.now }
+    {
+        self.a.sent_count() == handed.a
+            && self.b.sent_count() == handed.b
+            && self.a.waiting_count() == 0
+            && self.b.waiting_count() == 0
     }
 
     /// When a host wants to be polled.
     fn ask(&mut self, side: Side, moment: Instant) -> Result<Option<Instant>, Refused>
         ensures goes { Goes self.old self.new }
-        ensures asked { IfOk result (λ at. WasAsked side moment at self.old.history self.new.history) }
+        ensures asked { IfOk result (λ at. Step self.old (E.PollAt side moment) (To.At at) self.new) }
     {
-        match self.step(Event::PollAt(side, moment))? {
+        match self.serve_by(Event::PollAt(side, moment))? {
             Answer::At(at) => Ok(at),
             _ => unreachable!(),
         }

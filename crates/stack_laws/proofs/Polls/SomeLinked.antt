@@ -389,7 +389,7 @@ both_opened : AreBoth (λ side v. IsOpen v.block) place (hosts_before starts bot
 unfolding stayed asked learned handed_back told read handed sent wrote
 both_opened = both_are (λ side v. IsOpen v.block) open_a (open_b []) open_here open_there
 
-both_stay : AreBoth (λ side v. is_synchronized v.block.state ≡ true) place hosts
+pub both_stay : AreBoth (λ side v. is_synchronized v.block.state ≡ true) place hosts
 unfolding v4_number mtu_towards
 both_stay = both_are (λ side v. is_synchronized v.block.state ≡ true) through_a through_b refl refl
 

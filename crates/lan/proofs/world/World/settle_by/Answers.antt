@@ -1,31 +1,44 @@
+use Rattle.std.proofs.Common.{ℤ, Option, Some, None, subst}
 use Rattle.lan.specs.Worlds.AtLink.Runs.{WorldValue}
-use Rattle.lan.specs.Worlds.Settling.{Goes}
-use Rattle.lan.proofs.Worlds.Settles.{goes_on}
+use Rattle.lan.specs.Worlds.Settling.{Goes, NextRound}
+use Rattle.lan.proofs.Worlds.Settles.{goes_on, one_round_more, rests, the_last_round}
 use Rattle.lan.proofs.world.World.settle_by.Goals as goal
 
-pub returns-in_err-a-clause-goes : goal.returns-in_err-a-clause-goes
-returns-in_err-a-clause-goes c = goes_on c.args.self.now c.loop.self c.serve.new.self c.loop.invariant c.serve.ensures
+pub returns-in_err-now-clause-goes : goal.returns-in_err-now-clause-goes
+returns-in_err-now-clause-goes c =
+    goes_on c.args.self.now c.loop-round.self c.serve_both.new.self c.loop-round.invariant.goes c.serve_both.ensures.goes
 
-pub returns-in_err-b-clause-goes : goal.returns-in_err-b-clause-goes
-returns-in_err-b-clause-goes c = goes_on c.args.self.now c.serve.new.self c.serve-in-loop.new.self
-    (goes_on c.args.self.now c.loop.self c.serve.new.self c.loop.invariant c.serve.ensures) c.serve-in-loop.ensures
+-- a round behind others
+round_on : (first before served behind : WorldValue) → Goes first before → Goes before served → Goes served behind → Goes first behind
+round_on first before served behind one two three = goes_on first served behind (goes_on first before served one two) three
 
-pub loop-preserved-then-a-handed : goal.loop-preserved-then-a-handed
-loop-preserved-then-a-handed c = goes_on c.args.self.now c.serve.new.self c.serve-in-loop.new.self
-    (goes_on c.args.self.now c.loop.self c.serve.new.self c.loop.invariant c.serve.ensures) c.serve-in-loop.ensures
-
--- both are served, and asked behind it
-asked : (first before a b behind : WorldValue) → Goes first before → Goes before a → Goes a b → Goes b behind → Goes first behind
-asked first before a b behind one two three four = goes_on first b behind (goes_on first a b (goes_on first before a one two) three) four
-
-pub returns-in_err-at-clause-goes : goal.returns-in_err-at-clause-goes
-returns-in_err-at-clause-goes c = asked c.args.self.now c.loop.self c.serve.new.self c.serve-in-loop.new.self c.ask_both.new.self
-    c.loop.invariant c.serve.ensures c.serve-in-loop.ensures c.ask_both.ensures.goes
+pub returns-in_err-next-clause-goes : goal.returns-in_err-next-clause-goes
+returns-in_err-next-clause-goes c = round_on c.args.self.now c.loop-round.self c.serve_both.new.self c.next_round.new.self
+    c.loop-round.invariant.goes c.serve_both.ensures.goes c.next_round.ensures.goes
 
 pub returns-in-None-clause-goes : goal.returns-in-None-clause-goes
-returns-in-None-clause-goes c = asked c.args.self.now c.loop.self c.serve.new.self c.serve-in-loop.new.self c.ask_both.new.self
-    c.loop.invariant c.serve.ensures c.serve-in-loop.ensures c.ask_both.ensures.goes
+returns-in-None-clause-goes c = round_on c.args.self.now c.loop-round.self c.serve_both.new.self c.next_round.new.self
+    c.loop-round.invariant.goes c.serve_both.ensures.goes c.next_round.ensures.goes
 
-pub loop-preserved : goal.loop-preserved
-loop-preserved c = asked c.args.self.now c.loop.self c.serve.new.self c.serve-in-loop.new.self c.ask_both.new.self
-    c.loop.invariant c.serve.ensures c.serve-in-loop.ensures c.ask_both.ensures.goes
+pub returns-in-None-clause-rounds : goal.returns-in-None-clause-rounds
+returns-in-None-clause-rounds c = the_last_round c.args.budget c.args.from c.loop-round.moment c.loop-round.handed c.in_ok-now.now
+    c.loop-round._round c.args.rounds c.args.self.now c.loop-round.self c.serve_both.new.self c.next_round.new.self c.loop-round-test.true
+    c.loop-round.invariant.rounds c.in_ok-now.ensures.served
+    (subst (λ (next : Option ℤ). NextRound c.loop-round.moment c.loop-round.handed next c.serve_both.new.self c.next_round.new.self)
+    c.in-None.is c.in_ok-next.ensures.next)
+
+pub returns-in-None-clause-rest : goal.returns-in-None-clause-rest
+returns-in-None-clause-rest c = rests c.loop-round.moment c.loop-round.handed c.serve_both.new.self c.next_round.new.self
+    (subst (λ (next : Option ℤ). NextRound c.loop-round.moment c.loop-round.handed next c.serve_both.new.self c.next_round.new.self)
+    c.in-None.is c.in_ok-next.ensures.next)
+
+pub loop-round-preserved : goal.loop-round-preserved
+loop-round-preserved c = record {
+  goes = round_on c.args.self.now c.loop-round.self c.serve_both.new.self c.next_round.new.self
+      c.loop-round.invariant.goes c.serve_both.ensures.goes c.next_round.ensures.goes;
+  rounds = one_round_more c.args.budget c.args.from c.loop-round.moment c.in-Some.next c.loop-round.handed c.in_ok-now.now
+      c.loop-round._round c.args.self.now c.loop-round.self c.serve_both.new.self c.next_round.new.self
+      c.loop-round.invariant.rounds c.in_ok-now.ensures.served
+      (subst (λ (next : Option ℤ). NextRound c.loop-round.moment c.loop-round.handed next c.serve_both.new.self c.next_round.new.self)
+      c.in-Some.is c.in_ok-next.ensures.next);
+}

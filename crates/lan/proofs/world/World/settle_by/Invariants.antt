@@ -1,5 +1,6 @@
-use Rattle.lan.specs.Worlds.Settling.{Goes}
+use Rattle.lan.specs.Worlds.Settling.{Goes, Rounds}
 use Rattle.lan.proofs.world.World.settle_by.Given as goal
 
-abbrev pub invariant-loop : goal.invariant-loop
-invariant-loop l = Goes l.initial.self l.self
+abbrev pub invariant-loop-round : goal.invariant-loop-round
+invariant-loop-round l =
+    record { goes : Goes l.initial.self l.self; rounds : Rounds l.fn.budget l.fn.from l.initial.self l._round l.moment l.handed l.self }

@@ -1,0 +1,115 @@
+-- A world on numerals in which rounds may begin, and the one behind its events.
+use Rattle.std.proofs.Common.{◌≡◌, ◌≢◌, inl, leb-true, ltb-true, true, false, IfSome, ℤ, List, [], ◌∷◌, ◌++◌, None, Some, refl, arith}
+use Rattle.std.specs.Prelude.{◌≤ℤ◌, IsTrue, pos}
+use Rattle.std.proofs.lemmas.Int.{ints}
+use Rattle.tcp_model.specs.Value.{TcpValue}
+use Rattle.tcp_progress.specs.Exchange.{IsOpen}
+use Rattle.tcp_progress.specs.Pair.{HasStream}
+use Rattle.interface_tables.specs.PathMtu.{mtu_towards}
+use Rattle.ip_address.specs.Address.{v4_number}
+use Rattle.lan.specs.declared.at_link.history.event.Side.{Side}
+use Rattle.lan.specs.declared.at_link.history.event.Side.TheVariants.{A, B}
+use Rattle.lan.specs.Worlds.AtLink.PacketsSafe.{IsTcpAt}
+use Rattle.lan.specs.Worlds.AtLink.Paired.{told}
+use Rattle.lan.specs.Worlds.AtLink.Partners.{ArePartners}
+use Rattle.lan.specs.Worlds.AtLink.Runs.{WorldValue, start}
+use Rattle.lan.specs.Worlds.AtLink.Safe.{net_of}
+use Rattle.lan.specs.Worlds.AtLink.Station.{station}
+use Rattle.lan.proofs.Worlds.StillOnward.{ran}
+use Rattle.lan_base.specs.Port.{has_leave}
+use Rattle.stack_laws.specs.Progress.AtOnce.{AreUnmarked}
+use Rattle.stack_laws.specs.Progress.Events.{clock_in, shown_in}
+use Rattle.stack_laws.specs.Progress.SettledNumerals.{history, hosts, news, opened, place, starts, told_to_send, writing}
+use Rattle.stack_laws.specs.Progress.Unread.{HasRoomForAll}
+use Rattle.stack_laws.specs.Progress.Within.{MayBegin, MaySettle}
+use Rattle.stack_laws.proofs.Polls.SomeLinked.{both_stay}
+use Rattle.stack_laws.proofs.Polls.SomeStarts.{are_new, have_keys, hold_text, is_fresh}
+use Rattle.stack_laws.proofs.Polls.SomeStations.{open_b, writing_a}
+use Rattle.stack_laws.proofs.Polls.SomeWorld.{are_typed, stays, wrote}
+
+-- as A's user has written
+abbrev pub before : WorldValue
+before = record { hosts = record { a = writing_a; b = open_b [] }; starts = starts; history = told_to_send }
+
+abbrev pub behind : WorldValue
+behind = record { hosts = hosts; starts = starts; history = history }
+
+abbrev pub sockets : Side → TcpValue
+sockets A = writing
+sockets B = opened B
+
+now : pos 0 ≤ℤ pos 0
+now = omega (arith, ints)
+
+unmarked : (side : Side) → AreUnmarked (start starts side).places
+unmarked A = (refl, tt)
+unmarked B = (refl, tt)
+
+may_begin : MayBegin place (pos 0) before
+may_begin = record {
+  fresh = is_fresh;
+  medium = refl;
+  unmarked = unmarked;
+  typed = are_typed.1.1.1.1.1.1.1.1;
+  run = ran starts told_to_send (record { a = writing_a; b = open_b [] }) wrote;
+  clock = now;
+  in_time = λ side due up wants. up;
+}
+
+partners : ArePartners told_to_send A (place A) (place B)
+partners = record {
+  one = record { local = 49_500; remote = Some 80 };
+  another = record { local = 80; remote = None };
+  opened = refl;
+  partner_opened = refl;
+  paired = refl;
+}
+
+are : (side : Side) → IsTcpAt (net_of before) side (place side) (sockets side)
+are A = refl
+are B = refl
+
+open_now : (side : Side) → IsOpen (sockets side).block
+unfolding v4_number mtu_towards
+open_now A = record { synchronized = refl; acknowledged = refl; opened = leb-true 1 (sockets A).block.sender.past_iss refl }
+open_now B = record { synchronized = refl; acknowledged = refl; opened = leb-true 1 (sockets B).block.sender.past_iss refl }
+
+no_stamps : (side : Side) → (sockets side).block.peer.timestamps ≡ false
+unfolding v4_number mtu_towards
+no_stamps A = refl
+no_stamps B = refl
+
+streams : (side : Side) → HasStream (told told_to_send side (place side))
+streams A = inl refl
+streams B = inl refl
+
+rooms : (side : Side) → HasRoomForAll told_to_send place side (sockets side)
+unfolding v4_number mtu_towards
+rooms A = (refl, ltb-true 0 8 refl)
+rooms B = (refl, ltb-true 3 8 refl)
+
+clocks : (side : Side) → shown_in starts told_to_send side ≤ℤ clock_in told_to_send
+clocks A = now
+clocks B = now
+
+leaves : (side : Side) → IsTrue (has_leave (station hosts side).link)
+leaves A = refl
+leaves B = refl
+
+pub may_settle : MaySettle place news (pos 0) sockets before behind
+may_settle = record {
+  begins = may_begin;
+  keys = have_keys;
+  text = hold_text;
+  new_sockets = are_new;
+  partners = partners;
+  are = are;
+  opened = open_now;
+  unstamped = no_stamps;
+  streams = streams;
+  rooms = rooms;
+  clocks = clocks;
+  still = stays;
+  stay = both_stay;
+  leave = leaves;
+}

@@ -1,0 +1,434 @@
+-- Where the clock of rounds goes on far enough, all has arrived.
+use Rattle.std.proofs.Common.{◌≡◌, ◌⊎◌, inl, inr, ℕ, suc, ◌+◌, ◌-◌, ◌*◌, ◌<◌, ◌≤◌, ℤ, pos, ◌+ℤ◌, ◌≤ℤ◌, ◌<ℤ◌, true, false, List, [], ◌∷◌, ◌++◌, length, Option, Some, None, IfSome, refl, sym, ap, ◌∙◌, subst, arith}
+use Rattle.std.specs.Prelude.{max, slice_index_or}
+use Rattle.std.proofs.lemmas.Int.{ints}
+use Rattle.std.proofs.lemmas.Nat.{mul-le}
+use Rattle.tcp_control.specs.States.{owes_fin}
+use Rattle.tcp_model.specs.Blocks.{unacked}
+use Rattle.tcp_model.specs.Value.{TcpValue, free_in, queued_in, room_of}
+use Rattle.tcp_tie.specs.Pair.History.{pasts}
+use Rattle.tcp_tie.specs.Pair.Sides.{at}
+use Rattle.tcp_tie.specs.Pair.Steps.{Steps}
+use Rattle.tcp_tie.specs.Pair.Values.{PairValue}
+use Rattle.tcp_tie.specs.Tie.{Past}
+use Rattle.tcp_tie.specs.declared.pair.event.PairEvent.{PairEvent}
+use Rattle.tcp_tie.specs.declared.pair.event.Side as Pairs
+use Rattle.tcp_tie.specs.declared.pair.event.Side.TheVariants as Of
+use Rattle.tcp_progress.specs.Arrivals.{is_synchronized}
+use Rattle.tcp_progress.specs.BothWays.{total_in}
+use Rattle.tcp_progress.specs.Exchange.{IsOpen}
+use Rattle.tcp_progress.specs.Pair.{HasStream, left_in, socket_of}
+use Rattle.tcp_progress.specs.Reached.{IsReached}
+use Rattle.tcp_progress.specs.Rounds.{takes}
+use Rattle.tcp_progress.specs.Spans.{IsThroughAmong, most_reached, reached_in}
+use Rattle.tcp_progress.proofs.Kept.{reached_by}
+use Rattle.tcp_progress.proofs.OnwardPairs.{IsBegun, MovesIn, begun as begun_by, begun_after, by_steps, total_of}
+use Rattle.lan.specs.declared.at_link.history.event.Side.{Side}
+use Rattle.lan.specs.declared.at_link.history.event.Side.TheVariants.{A, B}
+use Rattle.lan.specs.Worlds.AtLink.Happening.{Happening, events_of_moves, steps_of}
+use Rattle.lan.specs.Worlds.AtLink.History.{Entry}
+use Rattle.lan.specs.Worlds.AtLink.Kinds.{other}
+use Rattle.lan.specs.Worlds.AtLink.Moves.{Step, run}
+use Rattle.lan.specs.Worlds.AtLink.PacketsSafe.{IsTcpAt}
+use Rattle.lan.specs.Worlds.AtLink.Paired.{NewSocket, Seat, Shows, side_in, told}
+use Rattle.lan.specs.Worlds.AtLink.Parties.{Net, Socket}
+use Rattle.lan.specs.Worlds.AtLink.Parties.Socket.{Icmp, Raw, Tcp, Udp}
+use Rattle.lan.specs.Worlds.AtLink.Partners.{ArePartners}
+use Rattle.lan.specs.Worlds.AtLink.Runs.{Starts, WorldRun, WorldValue, unused_both}
+use Rattle.lan.specs.Worlds.AtLink.Safe.{net_of}
+use Rattle.lan.specs.Worlds.AtLink.Station.{Stations, station}
+use Rattle.lan.specs.Worlds.Events.{AreTyped}
+use Rattle.lan.specs.Worlds.Moves.Follows.{IsNetOf, sockets_of}
+use Rattle.lan.specs.Worlds.Settling.{Settles}
+use Rattle.lan.specs.Worlds.Still.{StillRun, seats_of}
+use Rattle.lan.proofs.Worlds.StillOnward.{ran}
+use Rattle.stack_laws.specs.Progress.ByEvents.{GoOnByEvents}
+use Rattle.stack_laws.specs.Progress.Edges.{edge_span}
+use Rattle.stack_laws.specs.Progress.Ends.{AreBoth, AreThroughout, AreUnstamped, IsConnected}
+use Rattle.stack_laws.specs.Progress.Events.{HappensBy, MoveBy, all_at, clock_in, untimed}
+use Rattle.stack_laws.specs.Progress.Moving.{ComeInTime, GoOnByMoves, IsFreshFor, IsTcp, SocketIs, end_in, moves_of}
+use Rattle.stack_laws.specs.Progress.OneClock.{timed}
+use Rattle.stack_laws.specs.Progress.Reach.{AreInReach, hosts_before}
+use Rattle.stack_laws.specs.Progress.Serving.{AreEventsInTime, HasSpace, HasSpaceThroughout, IsAtHost, KeepsStreamBy}
+use Rattle.stack_laws.specs.Progress.Settled.{HasArrived}
+use Rattle.stack_laws.specs.Progress.Unread.{HasRoomThroughout}
+use Rattle.stack_laws.specs.Progress.Within.{GoAtOnce, MayBegin, MaySettle, enough_for, minutes_for, positions_in}
+use Rattle.stack_laws.proofs.EventConnected.{StaysConnected, begins, of_one_net, stays_connected}
+use Rattle.stack_laws.proofs.EventFacts.{net_at}
+use Rattle.stack_laws.proofs.EventIdle.{waits_for_none}
+use Rattle.stack_laws.proofs.EventPartners.{go_on_by_events}
+use Rattle.stack_laws.proofs.EventRoomy.{space_throughout}
+use Rattle.stack_laws.proofs.Moved.{to_pair}
+use Rattle.stack_laws.proofs.Polls.Connected.{late_at}
+use Rattle.stack_laws.proofs.Polls.Fills.{fills_itself}
+use Rattle.stack_laws.proofs.Rounds.OneRun.{Once, runs_once}
+use Rattle.stack_laws.proofs.Rounds.Unchanged.{AreServices, Sized, Stays, at_host, both_throughout, leave_throughout, room_throughout, stay_throughout, streams_stay, told_stays}
+use Rattle.stack_laws.proofs.Rounds.Walk.{HasSettled, Walk, walk_begins, walk_settled}
+use Rattle.stack_laws.proofs.Settled.{came, none_unacked, of_host, world}
+use Rattle.stack_laws.proofs.StillPartners.{partners_stay}
+
+upto : (a b c : ℕ) → a ≤ b → b ≤ c → a ≤ c
+upto a b c one two = omega (arith, one, two)
+
+-- THE LAST MOVE is made when the clock shows what it shows in the end
+
+abbrev ends : ℤ → List (ℤ × Step) → ℤ
+ends now [] = now
+ends now (x ∷ more) = ends x.0 more
+
+end_timed : (moves : List (ℤ × Happening)) (now : ℤ) → end_in now moves ≡ ends now (timed moves)
+end_timed [] now = refl
+end_timed (x ∷ moves) now = end_timed moves x.0
+
+ends_rest : (t : ℤ) (steps : List Step) → ends t (all_at t steps) ≡ t
+ends_rest t [] = refl
+ends_rest t (step ∷ steps) = ends_rest t steps
+
+ends_all : (t : ℤ) (steps : List Step) (now : ℤ) → (steps ≡ [] → ⊥) → ends now (all_at t steps) ≡ t
+ends_all t [] now some = absurd (some refl)
+ends_all t (step ∷ steps) now some = ends_rest t steps
+
+ends_at : (t : ℤ) (steps : List Step) (before : List (ℤ × Step)) (now : ℤ) → (steps ≡ [] → ⊥) → ends now (before ++ all_at t steps) ≡ t
+ends_at t steps [] now some = ends_all t steps now some
+ends_at t steps (x ∷ before) now some = ends_at t steps before x.0 some
+
+-- an event is kept, so it is some move
+some_step : (net : Net) (steps : List Step) (hosts new : Stations) (history : List Entry) (e : Entry) → IsNetOf net hosts history
+    → IsNetOf (run net steps) new (e ∷ history) → steps ≡ [] → ⊥
+some_step net steps hosts new history e of then none =
+    let count : length (e ∷ history) ≡ length history =
+    ap (λ (h : List Entry). length h) (sym then.history ∙ ap (λ (ss : List Step). (run net ss).history) none ∙ of.history) in
+    omega (arith, count)
+
+ends_now : (starts : Starts) (net : Net) (past more : List Entry) (hosts : Stations) (still : StillRun starts (more ++ past) hosts) (moves : List (ℤ × Step))
+    → MoveBy starts net past more hosts still moves → ends (clock_in past) moves ≡ clock_in (more ++ past)
+ends_now starts net past [] hosts still moves by = ap (ends (clock_in past)) by.0
+ends_now starts net past (e ∷ more) hosts still moves (before, these, is, by, happens) =
+    ap (ends (clock_in past)) is
+    ∙ ends_at (clock_in (e ∷ more ++ past)) these before (clock_in past)
+    (some_step (run net (untimed before)) these still.0 hosts (more ++ past) e (net_at starts net past more still.0 still.1 before by) happens.of)
+
+-- WHAT WAS ACKNOWLEDGED STAYS SO, where nothing more is written
+
+zero_left : (a b c d : ℕ) → a + d ≤ b + c → b ≤ a → c ≡ 0 → d ≡ 0
+zero_left a b c d less few none = omega (arith, less, few, none)
+
+none_left : (p : PairValue) (events : List PairEvent) (q : PairValue) (side : Pairs.Side) → IsReached p → IsBegun p Of.A → IsBegun p Of.B → Steps p events q
+    → IsThroughAmong p side events → total_in q side ≤ total_in p side → left_in q side ≡ 0
+none_left p [] q side r a b s is few = ap (λ (x : PairValue). left_in x side) s ∙ is
+none_left p (event ∷ events) q side r a b s (inl is) few =
+    zero_left (total_in p side) (total_in q side) (left_in p side) (left_in q side) (by_steps p (event ∷ events) q r a b s side).acked few is
+none_left p (event ∷ events) q side r a b s (inr on) few =
+    let m : PairValue = takes p event in
+    let moves : (of : Pairs.Side) → MovesIn p m of = λ of. by_steps p (event ∷ []) m r a b (s.0, refl) of in
+    none_left m events q side (reached_by p m (event ∷ []) r (s.0, refl)) (begun_after p m Of.A (moves Of.A) a) (begun_after p m Of.B (moves Of.B) b) s.1 on
+    (upto (total_in q side) (total_in p side) (total_in m side) few (moves side).total)
+
+-- HOW LONG IT TAKES
+
+span_is : (m n : ℕ) → ((0 + 60_000_000 + 0 + 0) + ((m + 2 + 2) * 60_000_000 + 0 + 0 + 0)) + ((0 + 60_000_000 + 0 + 0) + ((n + 2 + 2) * 60_000_000 + 0 + 0 + 0))
+    ≡ (n + 5 + (m + 5)) * 60_000_000
+span_is m n = omega arith
+
+swapped : (m n : ℕ) → (n + 5 + (m + 5)) * 60_000_000 ≡ (m + 5 + (n + 5)) * 60_000_000
+swapped m n = omega arith
+
+spans : (p : PairValue) (sockets : Side → TcpValue) → ((s : Side) → socket_of p (side_in s) ≡ sockets s) → (side : Side)
+    → edge_span 0 0 0 p (side_in side) ≡ (minutes_for (sockets A) + minutes_for (sockets B)) * 60_000_000
+spans p sockets are A =
+    span_is (max 1 (room_of (socket_of p Of.B).received)) (max 1 (room_of (socket_of p Of.A).received))
+    ∙ (λ k. (max 1 (room_of (are A k).received) + 5 + (max 1 (room_of (are B k).received) + 5)) * 60_000_000)
+spans p sockets are B =
+    span_is (max 1 (room_of (socket_of p Of.A).received)) (max 1 (room_of (socket_of p Of.B).received))
+    ∙ swapped (max 1 (room_of (socket_of p Of.A).received)) (max 1 (room_of (socket_of p Of.B).received))
+    ∙ (λ k. (max 1 (room_of (are A k).received) + 5 + (max 1 (room_of (are B k).received) + 5)) * 60_000_000)
+
+fewer_spans : (reached total span minutes : ℕ) → span ≡ minutes → suc (2 * total - reached) * (2 * span) ≤ suc (2 * total) * (2 * minutes)
+fewer_spans reached total span minutes is =
+    mul-le (suc (2 * total - reached)) (2 * span) (suc (2 * total)) (2 * minutes) (omega arith) (omega (arith, is))
+
+in_time : (now : ℤ) (few most : ℕ) (last : ℤ) → few ≤ most → (now +ℤ pos most) <ℤ last → (now +ℤ pos few) <ℤ last
+in_time now few most last less long = first_of (omega (arith, ints, less, long), grind (arith, ints, less, long))
+
+-- A WORLD
+
+pub rounds_go : (once : Once) (places : Side → ℕ) (from : ℤ) (budget rounds : ℕ) (rested : Option ℤ) (old new : WorldValue) (begin : MayBegin places from old)
+    → Settles budget from rounds rested old new
+    → Walk once old.starts begin.fresh places old.history (HasSettled once old.starts begin.fresh places old.history) new
+rounds_go once places from budget rounds rested old new begin settles =
+    walk_settled once old.starts begin.fresh places old.history
+    (λ more hosts typed still s. waits_for_none old.starts begin.fresh begin.medium begin.unmarked (more ++ old.history) hosts typed still s (places s))
+    budget from rounds rested old new settles (walk_begins once old begin.fresh places from begin.typed begin.run begin.clock begin.in_time)
+
+-- the hosts behind the earlier events
+before_ran : (starts : Starts) (past more : List Entry) (hosts : Stations) (still : StillRun starts (more ++ past) hosts)
+    → WorldRun past (unused_both starts) (hosts_before starts past more hosts still)
+before_ran starts past [] hosts still = ran starts past hosts still
+before_ran starts past (e ∷ more) hosts still = before_ran starts past more still.0 still.1
+
+first_space : (starts : Starts) (place : ℕ) (side : Side) (past more : List Entry) (hosts : Stations) (still : StillRun starts (more ++ past) hosts)
+    → HasSpaceThroughout starts place side past more hosts still → IsAtHost place (station (hosts_before starts past more hosts still) side) HasSpace
+first_space starts place side past [] hosts still are = are
+first_space starts place side past (e ∷ more) hosts still are = first_space starts place side past more still.0 still.1 are.0
+
+all_steps : (moves : List (ℤ × Happening)) → untimed (timed moves) ≡ steps_of (moves_of moves)
+all_steps [] = refl
+all_steps (x ∷ moves) = ap (λ (ss : List Step). x.1.step ∷ ss) (all_steps moves)
+
+same_tcp : (v w : TcpValue) → Some (Tcp v) ≡ Some (Tcp w) → v ≡ w
+same_tcp v w e = let one : Tcp v ≡ Tcp w = cc in of v w one where
+  of : (v w : TcpValue) → Tcp v ≡ Tcp w → v ≡ w
+  of v w is = cc
+
+tcp_so : (o : Option Socket) (P Q : TcpValue → Type 0) → ((v : TcpValue) → P v → Q v) → IsTcp o P → IsTcp o Q
+tcp_so None P Q so is = absurd is
+tcp_so (Some (Tcp v)) P Q so is = so v is
+tcp_so (Some (Udp v)) P Q so is = absurd is
+tcp_so (Some Icmp) P Q so is = absurd is
+tcp_so (Some Raw) P Q so is = absurd is
+
+module _ (once : Once) (places : Side → ℕ) (news : Side → NewSocket) (from : ℤ) (sockets : Side → TcpValue) (old new : WorldValue)
+    (may : MaySettle places news from sockets old new) (more : List Entry) (is : new.history ≡ more ++ old.history) (services : AreServices more)
+    (typed : AreTyped (more ++ old.history))
+    (go : (still : StillRun old.starts (more ++ old.history) new.hosts) → GoAtOnce old.starts places old.history more new.hosts still) where
+  abbrev starts : Starts
+  starts = old.starts
+
+  abbrev past : List Entry
+  past = old.history
+
+  abbrev hosts : Stations
+  hosts = new.hosts
+
+  still : StillRun starts (more ++ past) hosts
+  still = subst (λ (h : List Entry). StillRun starts h hosts) is may.still
+
+  abbrev goes : GoAtOnce starts places past more hosts still
+  goes = go still
+
+  abbrev first : Stations
+  first = hosts_before starts past more hosts still
+
+  first_same : first ≡ old.hosts
+  first_same = runs_once once starts past (unused_both starts) first old.hosts (before_ran starts past more hosts still) may.begins.run
+
+  old_socket : (s : Side) → slice_index_or (sockets_of (station old.hosts s).places) (places s) None ≡ Some (Tcp (sockets s))
+  old_socket s = of_host starts past old.hosts s (places s) (sockets s) (may.are s)
+
+  at_first : (P : Side → TcpValue → Type 0) → ((s : Side) → P s (sockets s)) → AreBoth P places first
+  at_first P all =
+      λ s. subst (λ (x : Stations). IsAtHost (places s) (station x s) (P s)) (sym first_same)
+      (subst (λ (o : Option Socket). IsTcp o (P s)) (sym (old_socket s)) (all s))
+
+  abbrev events : (between : Stations) × GoOnByEvents starts past between more hosts still places
+  events = go_on_by_events starts past more hosts places news may.begins.fresh typed still may.new_sockets may.keys may.text may.partners
+
+  abbrev between : Stations
+  between = events.0
+
+  abbrev by : GoOnByEvents starts past between more hosts still places
+  by = events.1
+
+  abbrev net : Net
+  net = by.goes.net
+
+  of_first : IsNetOf net first past
+  of_first = begins starts net past more hosts still by.steps by.of_events
+
+  then_between : (P : Side → TcpValue → Type 0) → AreBoth P places first → AreBoth P places between
+  then_between P are = of_one_net net first between past of_first by.goes.of places P are
+
+  -- WHAT STAYS
+
+  abbrev connection : StaysConnected starts places past more hosts still
+  connection =
+      stays_connected starts past more hosts places news may.begins.fresh typed still may.new_sockets may.keys may.text may.partners
+      (at_first (λ s v. IsOpen v.block) may.opened) may.stay
+
+  stays : AreThroughout (Stays places sockets) starts places past more hosts still
+  stays =
+      stay_throughout places sockets starts net past more hosts still by.steps by.of_events services
+      (at_first (Stays places sockets)
+      (λ s. record {
+        late = late_at (sockets s).block.state (may.opened s).synchronized;
+        closed = λ over. over;
+        pair = inr refl;
+        stamps = refl;
+        fills = fills_itself (sockets s).received;
+      }))
+
+  unstamped : AreUnstamped starts places past more hosts still
+  unstamped =
+      both_throughout (Stays places sockets) (λ s. IsConnected (connection.pairs s)) (λ s v. (is_synchronized v.block.state ≡ true) × (v.block.peer.timestamps ≡ false))
+      (λ s v stay connected. (connected.0, stay.stamps ∙ may.unstamped s)) starts places past more hosts still stays connection.connected
+
+  abbrev rooms : Side → ℕ
+  rooms s = room_of (sockets s).received
+
+  sized : AreThroughout (Sized rooms) starts places past more hosts still
+  sized =
+      both_throughout (Stays places sockets) (λ s. IsConnected (connection.pairs s)) (Sized rooms) (λ s v stay connected. (connected.0, stay.fills.room)) starts places
+      past more hosts still stays connection.connected
+
+  space : (s : Side) → HasSpaceThroughout starts (places s) s past more hosts still
+  space s =
+      space_throughout starts may.begins.fresh places s past more hosts still typed may.partners
+      (room_throughout starts places s rooms past (may.rooms s).1 more hosts still services sized)
+
+  some_room : AreBoth (λ s v. 1 ≤ room_of v.received) places first
+  some_room = λ s.
+      tcp_so (slice_index_or (sockets_of (station first s).places) (places s) None) HasSpace (λ v. 1 ≤ room_of v.received)
+      (λ v has. let free = has.1 in omega (arith, free)) (first_space starts (places s) s past more hosts still (space s))
+
+  -- IN TIME
+
+  events_in_time : (s : Side) → AreEventsInTime starts places 0 0 s past between more hosts still
+  events_in_time s = record {
+    opened = then_between (λ s v. IsOpen v.block) (at_first (λ s v. IsOpen v.block) may.opened);
+    stay = may.stay;
+    clock = may.clocks s;
+    one_clock = goes.one_clock;
+    are_served = inl goes.at_once;
+    reads = inl (space (other s));
+    stream = may.streams s;
+    room = then_between (λ s v. 1 ≤ room_of v.received) some_room (other s);
+  }
+
+  reach : AreInReach starts 0 past more hosts still
+  reach = record {
+    medium = may.begins.medium;
+    leave = leave_throughout starts past more hosts still services may.leave;
+    on_way = goes.on_way;
+    carried = goes.carried;
+  }
+
+  abbrev moves : List (ℤ × Happening)
+  moves = by.numbers.0
+
+  abbrev seats : Side → Seat
+  seats = seats_of starts places
+
+  come : ComeInTime 0 0 0 (clock_in past) seats by.goes.clocks net moves
+  come =
+      by.in_time_in_reach moves by.numbers.1 0 0 0 events_in_time (λ s. streams_stay past more s (places s) services (may.streams s)) reach
+      (by.fresh_without_timestamps moves by.numbers.1 unstamped)
+
+  abbrev p : PairValue
+  p = by.goes.reached.pair
+
+  abbrev on : GoOnByMoves seats by.goes.clocks net p moves
+  on = by.by_moves moves by.numbers.1 by.numbers.2
+
+  abbrev q : PairValue
+  q = on.on.next
+
+  -- THE PAIR
+
+  abbrev last : Net
+  last = run net (steps_of (moves_of moves))
+
+  of_last : IsNetOf last hosts (more ++ past)
+  of_last =
+      subst (λ (ss : List Step). IsNetOf (run net ss) hosts (more ++ past)) (ap untimed (sym by.numbers.1) ∙ all_steps moves)
+      (net_at starts net past more hosts still by.steps by.of_events)
+
+  first_past : (s : Side) → at (pasts p.history) (side_in s) ≡ told past s (places s)
+  first_past s = by.goes.reached.shows.past s ∙ ap (λ (h : List Entry). told h s (places s)) by.goes.of.history
+
+  last_past : (s : Side) → at (pasts q.history) (side_in s) ≡ told past s (places s)
+  last_past s =
+      on.on.shows.past s ∙ ap (λ (h : List Entry). told h s (places s)) of_last.history ∙ told_stays past more s (places s) services
+
+  same_total : (s : Side) → total_in q (side_in s) ≡ total_in p (side_in s)
+  same_total s = ap total_of (last_past s ∙ sym (first_past s))
+
+  total : (s : Side) → total_in q (side_in s) ≡ positions_in past s (places s)
+  total s = ap total_of (last_past s)
+
+  most : most_reached q ≡ 2 * (positions_in past A (places A) + positions_in past B (places B))
+  most = λ k. 2 * (total A k + total B k)
+
+  socket : (s : Side) → socket_of p (side_in s) ≡ sockets s
+  socket s =
+      same_tcp (socket_of p (side_in s)) (sockets s)
+      (sym (by.goes.reached.shows.socket s) ∙ ap (λ (xs : List (Option Socket)). slice_index_or xs (places s) None) (of_first.sockets s)
+      ∙ ap (λ (x : Stations). slice_index_or (sockets_of (station x s).places) (places s) None) first_same ∙ old_socket s)
+
+  begun : (s : Side) → IsBegun p (side_in s)
+  begun s = begun_by p (side_in s) by.goes.reached.reached (subst (λ (v : TcpValue). IsOpen v.block) (sym (socket s)) (may.opened s))
+
+  -- IT LASTS LONG ENOUGH
+
+  within : (side : Side) → suc (most_reached q - reached_in p) * (2 * edge_span 0 0 0 p (side_in side)) ≤ enough_for past places sockets
+  within side =
+      subst (λ (m : ℕ). suc (m - reached_in p) * (2 * edge_span 0 0 0 p (side_in side)) ≤ enough_for past places sockets) (sym most)
+      (fewer_spans (reached_in p) (positions_in past A (places A) + positions_in past B (places B)) (edge_span 0 0 0 p (side_in side))
+      ((minutes_for (sockets A) + minutes_for (sockets B)) * 60_000_000) (spans p sockets socket side))
+
+  end_is : end_in (clock_in past) moves ≡ clock_in new.history
+  end_is =
+      end_timed moves (clock_in past) ∙ ap (ends (clock_in past)) by.numbers.1 ∙ ends_now starts net past more hosts still by.steps by.of_events
+      ∙ ap clock_in (sym is)
+
+  module _ (long : (clock_in past +ℤ pos (enough_for past places sockets)) <ℤ clock_in new.history) where
+    through : (side : Side) → IsThroughAmong p (side_in side) (events_of_moves seats by.goes.clocks (moves_of moves))
+    through side =
+        on.through_anywhere side 0 0 0 (clock_in past) come
+        (in_time (clock_in past) (suc (most_reached q - reached_in p) * (2 * edge_span 0 0 0 p (side_in side))) (enough_for past places sockets)
+        (end_in (clock_in past) moves) (within side)
+        (subst (λ (t : ℤ). (clock_in past +ℤ pos (enough_for past places sockets)) <ℤ t) (sym end_is) long))
+
+    left : (side : Side) → left_in q (side_in side) ≡ 0
+    left side =
+        none_left p (events_of_moves seats by.goes.clocks (moves_of moves)) q (side_in side) by.goes.reached.reached (begun A) (begun B) on.on.steps (through side)
+        (let same = same_total side in omega (arith, same))
+
+    abbrev At : List Entry → Side → TcpValue → Type 0
+    At h side v = IsTcpAt (net_of (world starts h hosts)) side (places side) v
+
+    there : (side : Side) (v : TcpValue) → At (more ++ past) side v → socket_of q (side_in side) ≡ v
+    there side v here =
+        same_tcp (socket_of q (side_in side)) v
+        (sym (on.on.shows.socket side) ∙ ap (λ (xs : List (Option Socket)). slice_index_or xs (places side) None) (of_last.sockets side)
+        ∙ of_host starts (more ++ past) hosts side (places side) v here)
+
+    has_arrived : (side : Side) (v w : TcpValue) → At (more ++ past) side v → At (more ++ past) (other side) w
+        → HasArrived (net_of (world starts (more ++ past) hosts)) side (places side) (places (other side)) v w
+    has_arrived side v w here other_here =
+        came starts (more ++ past) hosts places news may.begins.fresh typed still may.new_sockets may.keys may.text
+        (partners_stay past more A (places A) (places B) may.partners) side v w here other_here
+        (none_unacked v
+        (let none : unacked v.block (queued_in v) ≡ 0 = ap (λ (x : TcpValue). unacked x.block (queued_in x)) (sym (there side v here)) ∙ left side in
+        omega (arith, none)))
+
+    abbrev Comes : Side → TcpValue → TcpValue → List Entry → Type 0
+    Comes side v w h = At h side v → At h (other side) w → HasArrived (net_of (world starts h hosts)) side (places side) (places (other side)) v w
+
+    pub arrives : (side : Side) (v w : TcpValue) → IsTcpAt (net_of new) side (places side) v → IsTcpAt (net_of new) (other side) (places (other side)) w
+        → HasArrived (net_of new) side (places side) (places (other side)) v w
+    arrives side v w = subst (Comes side v w) (sym is) (has_arrived side v w)
+
+-- WHAT THE ROUNDS SAY
+
+module _ (once : Once) (places : Side → ℕ) (from : ℤ) (budget rounds : ℕ) (rested : Option ℤ) (old new : WorldValue) (begin : MayBegin places from old)
+    (settles : Settles budget from rounds rested old new) where
+  abbrev walked : Walk once old.starts begin.fresh places old.history (HasSettled once old.starts begin.fresh places old.history) new
+  walked = rounds_go once places from budget rounds rested old new begin settles
+
+  pub at_once : (still : StillRun old.starts (walked.more ++ old.history) new.hosts) → GoAtOnce old.starts places old.history walked.more new.hosts still
+  at_once still =
+      let it = walked.goes still in
+      record { one_clock = it.3.keeps; on_way = it.2.on_way; carried = it.2.carried; at_once = it.3.at_once }
+
+  pub by_rounds : (more : List Entry) × (new.history ≡ more ++ old.history) × AreServices more × AreTyped (more ++ old.history)
+      × WorldRun (more ++ old.history) (unused_both old.starts) new.hosts × (new.starts ≡ old.starts)
+      × ((still : StillRun old.starts (more ++ old.history) new.hosts) → GoAtOnce old.starts places old.history more new.hosts still)
+  by_rounds = (walked.more, walked.history, walked.services, walked.typed, walked.run, walked.same_starts, at_once)
+
+pub arrives_in_time : (once : Once) (old new : WorldValue) (places : Side → ℕ) (news : Side → NewSocket) (sockets : Side → TcpValue) (budget : ℕ) (from : ℤ) (rounds : ℕ)
+    (rested : Option ℤ) (side : Side) (v w : TcpValue) → MaySettle places news from sockets old new → Settles budget from rounds rested old new
+    → (clock_in old.history +ℤ pos (enough_for old.history places sockets)) <ℤ clock_in new.history → IsTcpAt (net_of new) side (places side) v
+    → IsTcpAt (net_of new) (other side) (places (other side)) w → HasArrived (net_of new) side (places side) (places (other side)) v w
+arrives_in_time once old new places news sockets budget from rounds rested side v w may settles long =
+    let (more, is, services, typed, run, same, go) = by_rounds once places from budget rounds rested old new may.begins settles in
+    arrives once places news from sockets old new may more is services typed go long side v w

@@ -1,0 +1,384 @@
+-- Through the rounds of a world that settles, event by event.
+use Rattle.std.proofs.Common.{◌≡◌, ◌⊎◌, inl, inr, ℕ, zero, suc, ◌+◌, ◌-◌, ◌≤◌, ℤ, ◌≤ℤ◌, int_lt, Bool, true, false, cond, if◌then◌else◌, List, [], ◌∷◌, ◌++◌, length, Option, Some, None, refl, sym, ap, ◌∙◌, subst, arith}
+use Rattle.std.specs.Prelude.{min, option_map}
+use Rattle.std.specs.Int.{int_max}
+use Rattle.std.specs.List.{AllByRecursion}
+use Rattle.std.proofs.lemmas.Int.{ints}
+use Rattle.interface.specs.Instant.{earlier}
+use Rattle.tcp_model.specs.State.{State}
+use Rattle.lan.specs.declared.at_link.history.answer.Answer.{Answer}
+use Rattle.lan.specs.declared.at_link.history.answer.Answer.TheVariants as To
+use Rattle.lan.specs.declared.at_link.history.event.Event.{Event}
+use Rattle.lan.specs.declared.at_link.history.event.Event.TheVariants as E
+use Rattle.lan.specs.declared.at_link.history.event.Side.{Side}
+use Rattle.lan.specs.declared.at_link.history.event.Side.TheVariants.{A, B}
+use Rattle.lan.specs.Worlds.AtLink.Fresh.{IsFreshWorld}
+use Rattle.lan.specs.Worlds.AtLink.History.{Counts, Entry}
+use Rattle.lan.specs.Worlds.AtLink.Kinds.{kind_of, same_side}
+use Rattle.lan.specs.Worlds.AtLink.Runs.{Leads, Starts, Step, Steps, WorldRun, WorldValue, unused_both}
+use Rattle.lan.specs.Worlds.AtLink.Station.{Stations, station}
+use Rattle.lan.specs.Worlds.Events.{AreTyped, IsTyped}
+use Rattle.lan.specs.Worlds.Settling.{AreBothAsked, AreServed, Handed, IsCalm, IsRound, IsServed, IsService, NextRound, Rounds, Settles, WasAsked, all_sent, deliveries}
+use Rattle.lan.specs.Worlds.Still.{StillRun}
+use Rattle.lan.proofs.Worlds.StillOnward.{ran}
+use Rattle.stack_laws.specs.Progress.AtOnce.{IsByThen}
+use Rattle.stack_laws.specs.Progress.Events.{clock_in}
+use Rattle.stack_laws.specs.Progress.Serving.{WaitsForNone, WantsAt}
+use Rattle.stack_laws.proofs.EventAnswers.{soon}
+use Rattle.stack_laws.proofs.Rounds.Events.{Carries, Clocked, all_came, ask_carries, ask_clocked, deliver_carries, deliver_clocked, entry, fewer_carried, poll_carries, poll_clocked, sent_stays}
+use Rattle.stack_laws.proofs.Rounds.OnWay.{handed_over, with_count}
+use Rattle.stack_laws.proofs.Rounds.OneRun.{Once, runs_once}
+
+no_earlier : (t : ℤ) → t ≤ℤ t
+no_earlier t = omega (arith, ints)
+
+in_turn : (a b c : ℤ) → a ≤ℤ b → b ≤ℤ c → a ≤ℤ c
+in_turn a b c one two = omega (arith, ints, one, two)
+
+service_typed : (event : Event) → IsService event → IsTyped (kind_of event)
+service_typed (E.Poll side moment budget) is = tt
+service_typed (E.PollAt side moment) is = tt
+service_typed (E.Deliver from k padding) is = tt
+service_typed event is = absurd is
+
+abbrev pub of : Handed → Side → ℕ
+of h A = h.a
+of h B = h.b
+
+-- THE NEXT MOMENT
+
+some_same : {X : Type 0} (x y : X) → Some x ≡ Some y → x ≡ y
+some_same x y is = cc
+
+by_max : (m z next : ℤ) → next ≡ int_max m z → (m ≤ℤ next) × ((next ≤ℤ m) ⊎ (next ≡ z))
+by_max m z next is = by (int_lt z m) refl is where
+  by : (test : Bool) → int_lt z m ≡ test → next ≡ cond test m z → (m ≤ℤ next) × ((next ≤ℤ m) ⊎ (next ≡ z))
+  by true less same =
+      (subst (λ (x : ℤ). m ≤ℤ x) (sym same) (no_earlier m), inl (subst (λ (x : ℤ). x ≤ℤ m) (sym same) (no_earlier m)))
+  by false more same =
+      let up : m ≤ℤ z = first_of (grind (arith, ints, more), omega (arith, ints, more)) in
+      (subst (λ (x : ℤ). m ≤ℤ x) (sym same) up, inr same)
+
+least : (x y : ℤ) → ((if int_lt y x then y else x) ≤ℤ x) × ((if int_lt y x then y else x) ≤ℤ y)
+least x y = by (int_lt y x) refl where
+  by : (test : Bool) → int_lt y x ≡ test → ((if test then y else x) ≤ℤ x) × ((if test then y else x) ≤ℤ y)
+  by true less = (first_of (omega (arith, ints, less), grind (arith, ints, less)), no_earlier y)
+  by false more = (no_earlier x, first_of (omega (arith, ints, more), grind (arith, ints, more)))
+
+abbrev Next : ℤ → ℤ → Option ℤ → Option ℤ → Type 0
+Next moment next a b = (moment ≤ℤ next) × ((next ≤ℤ moment) ⊎ (IsByThen next a × IsByThen next b))
+
+next_by : (moment z next : ℤ) (a b : Option ℤ) → IsByThen z a × IsByThen z b → next ≡ int_max moment z → Next moment next a b
+next_by moment z next a b both is = go (by_max moment z next is) where
+  go : (moment ≤ℤ next) × ((next ≤ℤ moment) ⊎ (next ≡ z)) → Next moment next a b
+  go (up, inl stays) = (up, inl stays)
+  go (up, inr same) = (up, inr (subst (λ (t : ℤ). IsByThen t a × IsByThen t b) (sym same) both))
+
+next_soon : (moment next : ℤ) (a b : Option ℤ) → Some next ≡ option_map (int_max moment) (earlier a b) → Next moment next a b
+next_soon moment next None None is = absurd (cc)
+next_soon moment next None (Some y) is = next_by moment y next None (Some y) (tt, no_earlier y) (some_same next (int_max moment y) is)
+next_soon moment next (Some x) None is = next_by moment x next (Some x) None (no_earlier x, tt) (some_same next (int_max moment x) is)
+next_soon moment next (Some x) (Some y) is =
+    next_by moment (if int_lt y x then y else x) next (Some x) (Some y) (least x y)
+    (some_same next (int_max moment (if int_lt y x then y else x)) is)
+
+module _ (once : Once) (starts : Starts) (fresh : IsFreshWorld starts) (places : Side → ℕ) (past : List Entry) where
+  -- WORLDS
+
+  abbrev Still : List Entry → Stations → Type 0
+  Still more hosts = StillRun starts (more ++ past) hosts
+
+  -- services led to this world, and however its hosts were still, something holds of it
+  pub record Walk (Holds : (more : List Entry) (hosts : Stations) → Still more hosts → Type 0) (w : WorldValue) : Type 0 where
+    pub more : List Entry
+    pub history : w.history ≡ more ++ past
+    pub same_starts : w.starts ≡ starts
+    pub services : AllByRecursion (λ e. IsService e.event) more
+    pub typed : AreTyped (more ++ past)
+    pub run : WorldRun (more ++ past) (unused_both starts) w.hosts
+    pub goes : (still : Still more w.hosts) → Holds more w.hosts still
+
+  same_end : (more : List Entry) (one other : Stations) → WorldRun (more ++ past) (unused_both starts) one → Still more other → one ≡ other
+  same_end more one other run still = runs_once once starts (more ++ past) (unused_both starts) one other run (ran starts (more ++ past) other still)
+
+  module _ (Holds Then : (more : List Entry) (hosts : Stations) → Still more hosts → Type 0) where
+    walk_map : (w : WorldValue) → ((more : List Entry) (still : Still more w.hosts) → AreTyped (more ++ past) → Holds more w.hosts still → Then more w.hosts still)
+        → Walk Holds w → Walk Then w
+    walk_map w by walk = record {
+      more = walk.more;
+      history = walk.history;
+      same_starts = walk.same_starts;
+      services = walk.services;
+      typed = walk.typed;
+      run = walk.run;
+      goes = λ still. by walk.more still walk.typed (walk.goes still);
+    }
+
+    walk_step : (w w' : WorldValue) (event : Event) (answer : Answer) → IsService event → Step w event answer w'
+        → ((before : Counts) (found : Option State) (more : List Entry) (hosts : Stations) (still : Still (entry event answer before found ∷ more) hosts)
+        → AreTyped (entry event answer before found ∷ more ++ past) → Holds more still.0 still.1 → Then (entry event answer before found ∷ more) hosts still)
+        → Walk Holds w → Walk Then w'
+    walk_step w w' event answer is step by walk = record {
+      more = entry event answer step.entry.before step.entry.found ∷ walk.more;
+      history = step.history ∙ (λ k. kept k ∷ walk.history k);
+      same_starts = step.starts ∙ walk.same_starts;
+      services = (is, walk.services);
+      typed = (service_typed event is, walk.typed);
+      run = (w.hosts, walk.run, leads);
+      goes = λ still.
+          by step.entry.before step.entry.found walk.more w'.hosts still (service_typed event is, walk.typed) (before still.0 still.1);
+    } where
+      kept : step.entry ≡ entry event answer step.entry.before step.entry.found
+      kept = λ k. record { event = step.event_kept k; answer = step.answer_kept k; before = step.entry.before; found = step.entry.found }
+
+      leads : Leads (walk.more ++ past) w.hosts (entry event answer step.entry.before step.entry.found) w'.hosts
+      leads =
+          subst (λ (h : List Entry). Leads h w.hosts (entry event answer step.entry.before step.entry.found) w'.hosts) walk.history
+          (subst (λ (x : Entry). Leads w.history w.hosts x w'.hosts) kept step.leads)
+
+      before : (hosts : Stations) (still : Still walk.more hosts) → Holds walk.more hosts still
+      before hosts still =
+          subst (λ (x : Stations). (s : Still walk.more x) → Holds walk.more x s) (same_end walk.more w.hosts hosts walk.run still) walk.goes still
+
+  -- WHAT HOLDS DURING A ROUND
+
+  abbrev During : ℤ → ℤ → (Side → ℕ) → (more : List Entry) (hosts : Stations) → Still more hosts → Type 0
+  During next moment k more hosts still = Carries starts fresh places past next k more hosts still × Clocked starts fresh places past moment more hosts still
+
+  -- fewer were handed over
+  lower : (moment : ℤ) (j k : Side → ℕ) (w : WorldValue) → ((s : Side) → j s ≤ k s) → Walk (During moment moment k) w → Walk (During moment moment j) w
+  lower moment j k w less =
+      walk_map (During moment moment k) (During moment moment j) w
+      (λ more still typed d. (fewer_carried starts fresh places past moment j k more w.hosts still less d.0, d.1))
+
+  -- FRAMES ARE HANDED OVER
+
+  abbrev Handing : ℤ → Side → ℕ → ℕ → (Side → ℕ) → (more : List Entry) (hosts : Stations) → Still more hosts → Type 0
+  Handing moment side j n k more hosts still = During moment moment (with_count side j k) more hosts still × (j + n ≤ length (station hosts side).link.sent)
+
+  walk_deliveries : (moment : ℤ) (side : Side) (k : Side → ℕ) (n j m : ℕ) (w w' : WorldValue) → m ≡ j + n → Steps w (deliveries side j n) w'
+      → Walk (Handing moment side j n k) w → Walk (During moment moment (with_count side m k)) w'
+  walk_deliveries moment side k zero j m w w' is steps walk =
+      let same : m ≡ j = omega (arith, is) in
+      subst (λ (x : WorldValue). Walk (During moment moment (with_count side m k)) x) (sym steps)
+      (subst (λ (x : ℕ). Walk (During moment moment (with_count side x k)) w) (sym same)
+      (walk_map (Handing moment side j 0 k) (During moment moment (with_count side j k)) w (λ more still typed h. h.0) walk))
+  walk_deliveries moment side k (suc n) j m w w' is (answer, next, step, rest) walk =
+      walk_deliveries moment side k n (suc j) m next w' (omega (arith, is)) rest
+      (walk_step (Handing moment side j (suc n) k) (Handing moment side (suc j) n k) w next (E.Deliver side j []) answer refl step
+      (λ before found more hosts still typed h. (
+        (
+          deliver_carries starts fresh places past side j answer before found moment k more hosts still h.0.1.clock
+              (let some = h.1 in omega (arith, some)) h.0.0,
+          deliver_clocked starts fresh places past side j answer before found moment more hosts still h.0.1,
+        ),
+        subst (λ (x : Stations). suc j + n ≤ length (station x side).link.sent) (sym (still.2.happens.2))
+            (subst (λ (fs : List (List ℕ)). suc j + n ≤ length fs) (sym (sent_stays starts fresh places past still.0 side j side))
+            (let some = h.1 in omega (arith, some))),
+      )) walk)
+
+  -- A HOST IS SERVED
+
+  own_count : (side : Side) (n : ℕ) (k : Side → ℕ) → with_count side n k side ≡ n
+  own_count A n k = refl
+  own_count B n k = refl
+
+  min_first : (now most sum : ℕ) → now ≡ min most sum → now ≤ most
+  min_first now most sum is = first_of (omega (arith, is), grind (arith, is))
+
+  no_more : (handed now len : ℕ) → handed ≤ len → now ≤ len → handed + (now - handed) ≤ len
+  no_more handed now len one two = omega (arith, one, two)
+
+  walk_served : (side : Side) (moment : ℤ) (budget handed now : ℕ) (k : Side → ℕ) (old new : WorldValue) → IsServed side moment budget handed now old new
+      → Walk (During moment moment (with_count side handed k)) old → Walk (During moment moment (with_count side (handed + (now - handed)) k)) new
+  walk_served side moment budget handed now k old new served walk =
+      let polled : Walk (During moment moment (with_count side handed k)) served.polled =
+      walk_step (During moment moment (with_count side handed k)) (During moment moment (with_count side handed k)) old served.polled (E.Poll side moment budget)
+      served.answer tt served.poll
+      (λ before found more hosts still typed d. (
+        poll_carries starts fresh places past side moment budget served.answer before found (with_count side handed k) more hosts still d.0,
+        poll_clocked starts fresh places past side moment budget served.answer before found more hosts still d.1,
+      )) walk in
+      walk_deliveries moment side k (now - handed) handed (handed + (now - handed)) served.polled new refl served.delivers
+      (walk_map (During moment moment (with_count side handed k)) (Handing moment side handed (now - handed) k) served.polled
+      (λ more still typed d. (
+        d,
+        no_more handed now (length (station served.polled.hosts side).link.sent)
+            (subst (λ (n : ℕ). n ≤ length (station served.polled.hosts side).link.sent) (own_count side handed k) (d.0.few side))
+            (min_first now (length (station served.polled.hosts side).link.sent) (handed + budget) served.count),
+      )) polled)
+
+  -- BOTH ARE
+
+  abbrev then_handed : Handed → Handed → Side → ℕ
+  then_handed handed now s = of handed s + (of now s - of handed s)
+
+  a_first : (handed : Handed) (s : Side) → with_count A handed.a (of handed) s ≤ of handed s
+  a_first handed A = omega arith
+  a_first handed B = omega arith
+
+  then_b : (handed : Handed) (n : ℕ) (s : Side) → with_count B handed.b (with_count A n (of handed)) s ≤ with_count A n (of handed) s
+  then_b handed n A = omega arith
+  then_b handed n B = omega arith
+
+  both_handed : (handed now : Handed) (s : Side)
+      → then_handed handed now s ≤ with_count B (handed.b + (now.b - handed.b)) (with_count A (handed.a + (now.a - handed.a)) (of handed)) s
+  both_handed handed now A = omega arith
+  both_handed handed now B = omega arith
+
+  walk_both : (moment : ℤ) (budget : ℕ) (handed now : Handed) (old new : WorldValue) → AreServed moment budget handed now old new
+      → Walk (During moment moment (of handed)) old → Walk (During moment moment (then_handed handed now)) new
+  walk_both moment budget handed now old new (between, first, last) walk =
+      let a_count : ℕ = handed.a + (now.a - handed.a) in
+      let b_count : ℕ = handed.b + (now.b - handed.b) in
+      let one = walk_served A moment budget handed.a now.a (of handed) old between first
+      (lower moment (with_count A handed.a (of handed)) (of handed) old (a_first handed) walk) in
+      let two = walk_served B moment budget handed.b now.b (with_count A a_count (of handed)) between new last
+      (lower moment (with_count B handed.b (with_count A a_count (of handed))) (with_count A a_count (of handed)) between (then_b handed a_count) one) in
+      lower moment (then_handed handed now) (with_count B b_count (with_count A a_count (of handed))) new (both_handed handed now) two
+
+  -- BOTH ARE ASKED
+
+  was_handed : (handed now : Handed) (s : Side) → of handed s ≤ then_handed handed now s
+  was_handed handed now s = let a : ℕ = of handed s in let b : ℕ = of now s in more a b where
+    more : (a b : ℕ) → a ≤ a + (b - a)
+    more a b = omega arith
+
+  now_handed : (handed now : Handed) (s : Side) → of now s ≤ then_handed handed now s
+  now_handed handed now s = more (of handed s) (of now s) where
+    more : (a b : ℕ) → b ≤ a + (b - a)
+    more a b = omega arith
+
+  abbrev Asked : ℤ → Option ℤ → List Entry → Type 0
+  Asked moment a more = (first : List Entry) × WasAsked A moment a first (more ++ past)
+
+  abbrev AskedOne : ℤ → ℤ → (Side → ℕ) → Option ℤ → (more : List Entry) (hosts : Stations) → Still more hosts → Type 0
+  AskedOne next moment k a more hosts still = During next moment k more hosts still × Asked moment a more
+
+  abbrev AskedBoth : ℤ → ℤ → (Side → ℕ) → Option ℤ → Option ℤ → (more : List Entry) (hosts : Stations) → Still more hosts → Type 0
+  AskedBoth next moment k a b more hosts still =
+      During next moment k more hosts still × ((between : List Entry) × (first : List Entry) × WasAsked A moment a first between × WasAsked B moment b between (more ++ past))
+
+  walk_asked : (next moment : ℤ) (k : Side → ℕ) (a b : Option ℤ) (old new : WorldValue) → moment ≤ℤ next → AreBothAsked moment a b old new
+      → Walk (During next moment k) old → Walk (AskedBoth next moment k a b) new
+  walk_asked next moment k a b old new later (between, first, last) walk =
+      walk_step (AskedOne next moment k a) (AskedBoth next moment k a b) between new (E.PollAt B moment) (To.At b) tt last
+      (λ before found more hosts still typed d. (
+        (
+          ask_carries starts fresh places past B moment (To.At b) before found next k more hosts still later d.0.0,
+          ask_clocked starts fresh places past B moment (To.At b) before found more hosts still d.0.1,
+        ),
+        (more ++ past, d.1.0, d.1.1, (entry (E.PollAt B moment) (To.At b) before found, refl, refl, refl)),
+      ))
+      (walk_step (During next moment k) (AskedOne next moment k a) old between (E.PollAt A moment) (To.At a) tt first
+      (λ before found more hosts still typed d. (
+        (
+          ask_carries starts fresh places past A moment (To.At a) before found next k more hosts still later d.0,
+          ask_clocked starts fresh places past A moment (To.At a) before found more hosts still d.1,
+        ),
+        (more ++ past, (entry (E.PollAt A moment) (To.At a) before found, refl, refl, refl)),
+      )) walk)
+
+  -- the events that led to where a world settled kept one clock, on which each frame was taken at once, and both sockets served
+  abbrev pub HasSettled : (more : List Entry) (hosts : Stations) → Still more hosts → Type 0
+  HasSettled more hosts still =
+      (moment : ℤ) × (k : Side → ℕ) × Carries starts fresh places past moment k more hosts still × Clocked starts fresh places past moment more hosts still
+
+  -- where no socket waits for a neighbor
+  module _ (idle : (more : List Entry) (hosts : Stations) → AreTyped (more ++ past) → Still more hosts → (s : Side) → WaitsForNone (places s) (station hosts s)) where
+    then_soon : (next moment : ℤ) (k : Side → ℕ) (a b : Option ℤ) (w : WorldValue) → Next moment next a b → Walk (AskedBoth next moment k a b) w
+        → Walk (During next next k) w
+    then_soon next moment k a b w up =
+        walk_map (AskedBoth next moment k a b) (During next next k) w
+        (λ more still typed d. (
+          d.0.0,
+          record {
+            keeps = d.0.1.keeps;
+            clock = in_turn (clock_in (more ++ past)) moment next d.0.1.clock up.0;
+            at_once = d.0.1.at_once;
+            soon = λ s due.
+                soon starts places (more ++ past) d.1.1 d.1.0 w.hosts still moment a b d.1.2 d.1.3 (idle more w.hosts typed still) next up.1 s due;
+          },
+        ))
+
+    -- A ROUND
+
+    calm_sent : (handed : Handed) (w : WorldValue) → IsCalm handed w → (s : Side) → length (station w.hosts s).link.sent ≤ of handed s
+    calm_sent handed w calm A = let is = ap (λ (h : Handed). h.a) calm.0 in omega (arith, is)
+    calm_sent handed w calm B = let is = ap (λ (h : Handed). h.b) calm.0 in omega (arith, is)
+
+    calm_waiting : (handed : Handed) (w : WorldValue) → IsCalm handed w → (s : Side) → (station w.hosts s).link.waiting ≡ []
+    calm_waiting handed w calm A = calm.1
+    calm_waiting handed w calm B = calm.2
+
+    walk_on : (budget : ℕ) (moment : ℤ) (handed now : Handed) (next : ℤ) (before new : WorldValue) → IsRound budget moment handed now (Some next) before new
+        → Walk (During moment moment (of handed)) before → Walk (During next next (of now)) new
+    walk_on budget moment handed now next before new (served, both, inl (under_way, is, same)) walk =
+        let at : next ≡ moment = some_same next moment is in
+        subst (λ (w : WorldValue). Walk (During next next (of now)) w) (sym same)
+        (subst (λ (t : ℤ). Walk (During t t (of now)) served) (sym at)
+        (lower moment (of now) (then_handed handed now) served (now_handed handed now) (walk_both moment budget handed now before served both walk)))
+    walk_on budget moment handed now next before new (served, both, inr (calm, a, b, asked, is)) walk =
+        let up : Next moment next a b = next_soon moment next a b is in
+        then_soon next moment (of now) a b new up
+        (walk_asked next moment (of now) a b served new up.0 asked
+        (walk_map (During moment moment (then_handed handed now)) (During next moment (of now)) served
+        (λ more still typed d. (
+          all_came starts fresh places past moment next (of handed) (of now) (then_handed handed now) more served.hosts still (was_handed handed now) (now_handed handed now)
+              (calm_sent handed served calm) (calm_waiting handed served calm) d.0,
+          d.1,
+        )) (walk_both moment budget handed now before served both walk)))
+
+    none_some : {X : Type 0} (t : ℤ) → None ≡ Some t → X
+    none_some t is = absurd (cc)
+
+    -- and the last one
+    walk_end : (budget : ℕ) (moment : ℤ) (handed now : Handed) (before new : WorldValue) → IsRound budget moment handed now None before new
+        → Walk (During moment moment (of handed)) before → Walk (During moment moment (of now)) new
+    walk_end budget moment handed now before new (served, both, inl (under_way, is, same)) walk = none_some moment is
+    walk_end budget moment handed now before new (served, both, inr (calm, a, b, asked, is)) walk =
+        walk_map (AskedBoth moment moment (of now) a b) (During moment moment (of now)) new (λ more still typed d. d.0)
+        (walk_asked moment moment (of now) a b served new (no_earlier moment) asked
+        (lower moment (of now) (then_handed handed now) served (now_handed handed now) (walk_both moment budget handed now before served both walk)))
+
+    -- ROUNDS
+
+    walk_rounds : (budget : ℕ) (from : ℤ) (old : WorldValue) (n : ℕ) (next : ℤ) (handed : Handed) (new : WorldValue) → Rounds budget from old n next handed new
+        → Walk (During from from (of (all_sent old))) old → Walk (During next next (of handed)) new
+    walk_rounds budget from old zero next handed new (at, are, same) walk =
+        subst (λ (w : WorldValue). Walk (During next next (of handed)) w) (sym same)
+        (subst (λ (h : Handed). Walk (During next next (of h)) old) (sym are)
+        (subst (λ (t : ℤ). Walk (During t t (of (all_sent old))) old) (sym at) walk))
+    walk_rounds budget from old (suc n) next now new (moment, handed, before, rounds, round) walk =
+        walk_on budget moment handed now next before new round (walk_rounds budget from old n moment handed before rounds walk)
+
+    pub walk_settled : (budget : ℕ) (from : ℤ) (rounds : ℕ) (rested : Option ℤ) (old new : WorldValue) → Settles budget from rounds rested old new
+        → Walk (During from from (of (all_sent old))) old → Walk HasSettled new
+    walk_settled budget from rounds (Some moment) old new (n, few, handed, now, before, ran_so, round) walk =
+        walk_map (During moment moment (of now)) HasSettled new (λ more still typed d. (moment, of now, d.0, d.1))
+        (walk_end budget moment handed now before new round (walk_rounds budget from old n moment handed before ran_so walk))
+    walk_settled budget from rounds None old new (next, handed, ran_so) walk =
+        walk_map (During next next (of handed)) HasSettled new (λ more still typed d. (next, of handed, d.0, d.1))
+        (walk_rounds budget from old rounds next handed new ran_so walk)
+
+-- AT FIRST
+
+pub walk_begins : (once : Once) (old : WorldValue) (fresh : IsFreshWorld old.starts) (places : Side → ℕ) (from : ℤ) → AreTyped old.history
+    → WorldRun old.history (unused_both old.starts) old.hosts → clock_in old.history ≤ℤ from
+    → ((s : Side) (due : ℤ) → clock_in old.history ≤ℤ due → WantsAt due (places s) (station old.hosts s) → from ≤ℤ due)
+    → Walk once old.starts fresh places old.history (During once old.starts fresh places old.history from from (of (all_sent old))) old
+walk_begins once old fresh places from typed run up soon_first = record {
+  more = [];
+  history = refl;
+  same_starts = refl;
+  services = tt;
+  typed = typed;
+  run = run;
+  goes = λ still. (
+    record { few = fits; on_way = λ s. []; carried = λ s. refl; under = λ s. tt },
+    record { keeps = tt; clock = up; at_once = tt; soon = soon_first },
+  );
+} where
+  fits : (s : Side) → of (all_sent old) s ≤ length (station old.hosts s).link.sent
+  fits A = omega arith
+  fits B = omega arith

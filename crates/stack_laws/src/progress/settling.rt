@@ -1,0 +1,69 @@
+//! What rounds of a world bring, and by when.
+
+ghost use Rattle.std.specs.Prelude.{◌≡◌, ◌++◌, ℕ, ◌≤◌, ℤ, pos, ◌+ℤ◌, ◌<ℤ◌, Bool, true, List, length, Option};
+ghost use Rattle.std.specs.List.{AllByRecursion};
+ghost use Rattle.interface.specs.Ingress.{is_read};
+ghost use Rattle.tcp_model.specs.Value.{TcpValue};
+ghost use Rattle.lan.specs.declared.at_link.history.event.Side.{Side};
+ghost use Rattle.lan.specs.Worlds.AtLink.History.{Entry};
+ghost use Rattle.lan.specs.Worlds.AtLink.Kinds.{other};
+ghost use Rattle.lan.specs.Worlds.AtLink.PacketsSafe.{IsTcpAt};
+ghost use Rattle.lan.specs.Worlds.AtLink.Paired.{NewSocket};
+ghost use Rattle.lan.specs.Worlds.AtLink.Runs.{WorldRun, WorldValue, unused_both};
+ghost use Rattle.lan.specs.Worlds.AtLink.Safe.{net_of};
+ghost use Rattle.lan.specs.Worlds.AtLink.Station.{StationValue};
+ghost use Rattle.lan.specs.Worlds.AtLink.Steps.{PollsAt};
+ghost use Rattle.lan.specs.Worlds.Events.{AreTyped};
+ghost use Rattle.lan.specs.Worlds.Settling.{IsService, Settles};
+ghost use Rattle.lan.specs.Worlds.Still.{StillRun};
+ghost use Rattle.stack_laws.specs.Progress.Events.{clock_in};
+ghost use Rattle.stack_laws.specs.Progress.Settled.{HasArrived};
+ghost use Rattle.stack_laws.specs.Progress.SettledNumerals as Numerals;
+ghost use Rattle.stack_laws.specs.Progress.SettledNumerals.{news, place};
+ghost use Rattle.stack_laws.specs.Progress.Within.{GoAtOnce, MayBegin, MaySettle, enough_for};
+
+use super::events::partners_go_on_by_their_events;
+use lan::host_laws::one_outcome;
+
+/// Law: a poll takes the first of the frames that wait for its host, and no more of them than its budget. None that it sends is empty, or too long to be
+/// read.
+pub fn polls_take_no_more_than_their_budget()
+    ensures taken { (s s' : StationValue) (moment : ℤ) (budget : ℕ) (changed : Bool) → PollsAt s moment budget changed s'
+        → (frames : List (List ℕ)) × (s.link.waiting ≡ frames ++ s'.link.waiting) × (length frames ≤ budget) }
+    ensures sent { (s s' : StationValue) (moment : ℤ) (budget : ℕ) (changed : Bool) → 576 ≤ s.host.inner.mtu → s.host.inner.mtu ≤ 65_535
+        → PollsAt s moment budget changed s'
+        → (frames : List (List ℕ)) × (s'.link.sent ≡ s.link.sent ++ frames) × AllByRecursion (λ frame. is_read frame ≡ true) frames }
+{}
+
+/// Law: rounds are services alone, which keep one clock. Each frame that a host sends in one is taken by the other before the clock goes on, whatever waited
+/// before and however few frames a poll takes; and both sockets are served at once, over a medium that has no hardware addresses.
+pub fn rounds_bring_frames_and_serve_sockets_at_once()
+    ensures { (old new : WorldValue) (places : Side → ℕ) (budget : ℕ) (from : ℤ) (rounds : ℕ) (rested : Option ℤ) → MayBegin places from old
+        → Settles budget from rounds rested old new
+        → (more : List Entry) × (new.history ≡ more ++ old.history) × AllByRecursion (λ e. IsService e.event) more × AreTyped (more ++ old.history)
+        × WorldRun (more ++ old.history) (unused_both old.starts) new.hosts × (new.starts ≡ old.starts)
+        × ((still : StillRun old.starts (more ++ old.history) new.hosts) → GoAtOnce old.starts places old.history more new.hosts still) }
+{
+    one_outcome();
+    polls_take_no_more_than_their_budget();
+}
+
+/// Law: so where the clock went on further than what is enough for all that both users wrote, since the last moment that a host was told before, all that
+/// either wrote has come to its partner, whatever `World::settle` answers: at rest, or that its rounds are over.
+pub fn what_settles_arrives_in_time()
+    ensures { (old new : WorldValue) (places : Side → ℕ) (news : Side → NewSocket) (sockets : Side → TcpValue) (budget : ℕ) (from : ℤ) (rounds : ℕ)
+        (rested : Option ℤ) (side : Side) (v w : TcpValue) → MaySettle places news from sockets old new → Settles budget from rounds rested old new
+        → (clock_in old.history +ℤ pos (enough_for old.history places sockets)) <ℤ clock_in new.history
+        → IsTcpAt (net_of new) side (places side) v → IsTcpAt (net_of new) (other side) (places (other side)) w
+        → HasArrived (net_of new) side (places side) (places (other side)) v w }
+{
+    one_outcome();
+    rounds_bring_frames_and_serve_sockets_at_once();
+    partners_go_on_by_their_events();
+}
+
+/// Law: there are two worlds that meet all that this asks for of worlds: as A's user has written in the world on numerals that settles, and as all has come.
+pub fn a_world_that_settles_may_settle()
+    ensures { (old new : WorldValue) × (sockets : Side → TcpValue) × MaySettle place news (pos 0) sockets old new
+        × (new.history ≡ Numerals.history) × (old.history ≡ Numerals.told_to_send) }
+{}
