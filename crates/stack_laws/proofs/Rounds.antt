@@ -7,3 +7,4 @@ pub mod Events
 pub mod Walk
 pub mod Unchanged
 pub mod Arrives
+pub mod Either

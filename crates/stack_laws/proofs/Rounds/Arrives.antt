@@ -1,23 +1,21 @@
 -- Where the clock of rounds goes on far enough, all has arrived.
-use Rattle.std.proofs.Common.{◌≡◌, ◌⊎◌, inl, inr, ℕ, suc, ◌+◌, ◌-◌, ◌*◌, ◌<◌, ◌≤◌, ℤ, pos, ◌+ℤ◌, ◌≤ℤ◌, ◌<ℤ◌, true, false, List, [], ◌∷◌, ◌++◌, length, Option, Some, None, IfSome, refl, sym, ap, ◌∙◌, subst, arith}
+use Rattle.std.proofs.Common.{◌≡◌, inl, inr, ℕ, suc, ◌+◌, ◌-◌, ◌*◌, ◌<◌, ◌≤◌, ℤ, pos, ◌+ℤ◌, ◌<ℤ◌, true, false, List, [], ◌∷◌, ◌++◌, length, Option, Some, None, refl, sym, ap, ◌∙◌, subst, arith}
 use Rattle.std.specs.Prelude.{max, slice_index_or}
 use Rattle.std.proofs.lemmas.Int.{ints}
 use Rattle.std.proofs.lemmas.Nat.{mul-le}
-use Rattle.tcp_control.specs.States.{owes_fin}
 use Rattle.tcp_model.specs.Blocks.{unacked}
-use Rattle.tcp_model.specs.Value.{TcpValue, free_in, queued_in, room_of}
+use Rattle.tcp_model.specs.Value.{TcpValue, queued_in, room_of}
 use Rattle.tcp_tie.specs.Pair.History.{pasts}
 use Rattle.tcp_tie.specs.Pair.Sides.{at}
 use Rattle.tcp_tie.specs.Pair.Steps.{Steps}
 use Rattle.tcp_tie.specs.Pair.Values.{PairValue}
-use Rattle.tcp_tie.specs.Tie.{Past}
 use Rattle.tcp_tie.specs.declared.pair.event.PairEvent.{PairEvent}
 use Rattle.tcp_tie.specs.declared.pair.event.Side as Pairs
 use Rattle.tcp_tie.specs.declared.pair.event.Side.TheVariants as Of
 use Rattle.tcp_progress.specs.Arrivals.{is_synchronized}
 use Rattle.tcp_progress.specs.BothWays.{total_in}
 use Rattle.tcp_progress.specs.Exchange.{IsOpen}
-use Rattle.tcp_progress.specs.Pair.{HasStream, left_in, socket_of}
+use Rattle.tcp_progress.specs.Pair.{left_in, socket_of}
 use Rattle.tcp_progress.specs.Reached.{IsReached}
 use Rattle.tcp_progress.specs.Rounds.{takes}
 use Rattle.tcp_progress.specs.Spans.{IsThroughAmong, most_reached, reached_in}
@@ -30,10 +28,9 @@ use Rattle.lan.specs.Worlds.AtLink.History.{Entry}
 use Rattle.lan.specs.Worlds.AtLink.Kinds.{other}
 use Rattle.lan.specs.Worlds.AtLink.Moves.{Step, run}
 use Rattle.lan.specs.Worlds.AtLink.PacketsSafe.{IsTcpAt}
-use Rattle.lan.specs.Worlds.AtLink.Paired.{NewSocket, Seat, Shows, side_in, told}
+use Rattle.lan.specs.Worlds.AtLink.Paired.{NewSocket, Seat, side_in, told}
 use Rattle.lan.specs.Worlds.AtLink.Parties.{Net, Socket}
 use Rattle.lan.specs.Worlds.AtLink.Parties.Socket.{Icmp, Raw, Tcp, Udp}
-use Rattle.lan.specs.Worlds.AtLink.Partners.{ArePartners}
 use Rattle.lan.specs.Worlds.AtLink.Runs.{Starts, WorldRun, WorldValue, unused_both}
 use Rattle.lan.specs.Worlds.AtLink.Safe.{net_of}
 use Rattle.lan.specs.Worlds.AtLink.Station.{Stations, station}
@@ -45,24 +42,22 @@ use Rattle.lan.proofs.Worlds.StillOnward.{ran}
 use Rattle.stack_laws.specs.Progress.ByEvents.{GoOnByEvents}
 use Rattle.stack_laws.specs.Progress.Edges.{edge_span}
 use Rattle.stack_laws.specs.Progress.Ends.{AreBoth, AreThroughout, AreUnstamped, IsConnected}
-use Rattle.stack_laws.specs.Progress.Events.{HappensBy, MoveBy, all_at, clock_in, untimed}
-use Rattle.stack_laws.specs.Progress.Moving.{ComeInTime, GoOnByMoves, IsFreshFor, IsTcp, SocketIs, end_in, moves_of}
+use Rattle.stack_laws.specs.Progress.Events.{MoveBy, all_at, clock_in, untimed}
+use Rattle.stack_laws.specs.Progress.Moving.{ComeInTime, GoOnByMoves, IsTcp, end_in, moves_of}
 use Rattle.stack_laws.specs.Progress.OneClock.{timed}
 use Rattle.stack_laws.specs.Progress.Reach.{AreInReach, hosts_before}
-use Rattle.stack_laws.specs.Progress.Serving.{AreEventsInTime, HasSpace, HasSpaceThroughout, IsAtHost, KeepsStreamBy}
+use Rattle.stack_laws.specs.Progress.Serving.{AreEventsInTime, HasSpace, HasSpaceThroughout, IsAtHost}
 use Rattle.stack_laws.specs.Progress.Settled.{HasArrived}
-use Rattle.stack_laws.specs.Progress.Unread.{HasRoomThroughout}
 use Rattle.stack_laws.specs.Progress.Within.{GoAtOnce, MayBegin, MaySettle, enough_for, minutes_for, positions_in}
 use Rattle.stack_laws.proofs.EventConnected.{StaysConnected, begins, of_one_net, stays_connected}
 use Rattle.stack_laws.proofs.EventFacts.{net_at}
 use Rattle.stack_laws.proofs.EventIdle.{waits_for_none}
 use Rattle.stack_laws.proofs.EventPartners.{go_on_by_events}
 use Rattle.stack_laws.proofs.EventRoomy.{space_throughout}
-use Rattle.stack_laws.proofs.Moved.{to_pair}
 use Rattle.stack_laws.proofs.Polls.Connected.{late_at}
 use Rattle.stack_laws.proofs.Polls.Fills.{fills_itself}
 use Rattle.stack_laws.proofs.Rounds.OneRun.{Once, runs_once}
-use Rattle.stack_laws.proofs.Rounds.Unchanged.{AreServices, Sized, Stays, at_host, both_throughout, leave_throughout, room_throughout, stay_throughout, streams_stay, told_stays}
+use Rattle.stack_laws.proofs.Rounds.Unchanged.{AreServices, Sized, Stays, both_throughout, leave_throughout, room_throughout, stay_throughout, streams_stay, told_stays}
 use Rattle.stack_laws.proofs.Rounds.Walk.{HasSettled, Walk, walk_begins, walk_settled}
 use Rattle.stack_laws.proofs.Settled.{came, none_unacked, of_host, world}
 use Rattle.stack_laws.proofs.StillPartners.{partners_stay}

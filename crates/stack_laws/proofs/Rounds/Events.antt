@@ -1,5 +1,5 @@
 -- What the events of a round keep: frames on their way are taken before the clock goes on, and sockets are served at once.
-use Rattle.std.proofs.Common.{◌≡◌, ◌⊎◌, inl, inr, ℕ, suc, ◌<◌, ◌≤◌, ℤ, pos, ◌≤ℤ◌, Bool, true, false, not, ◌&&◌, List, [], ◌∷◌, ◌++◌, length, Option, Some, None, refl, sym, ap, ◌∙◌, subst, arith}
+use Rattle.std.proofs.Common.{◌≡◌, ℕ, suc, ◌≤◌, ℤ, ◌≤ℤ◌, Bool, true, false, not, ◌&&◌, List, [], ◌∷◌, ◌++◌, length, Option, refl, sym, ap, ◌∙◌, subst, arith}
 use Rattle.std.specs.Prelude.{nat_lt}
 use Rattle.std.proofs.lemmas.Int.{ints}
 use Rattle.std.proofs.lemmas.List.{length-append}
@@ -12,7 +12,7 @@ use Rattle.lan.specs.declared.at_link.history.event.Side.{Side}
 use Rattle.lan.specs.declared.at_link.history.event.Side.TheVariants.{A, B}
 use Rattle.lan.specs.Worlds.AtLink.Fresh.{IsFreshStart, IsFreshWorld}
 use Rattle.lan.specs.Worlds.AtLink.History.{Counts, Entry}
-use Rattle.lan.specs.Worlds.AtLink.Kinds.{Delivered, Kind, kind_of, other}
+use Rattle.lan.specs.Worlds.AtLink.Kinds.{Delivered, kind_of, other}
 use Rattle.lan.specs.Worlds.AtLink.Kinds.Act.{Asks, Polls}
 use Rattle.lan.specs.Worlds.AtLink.Kinds.Kind.{OfHost, OfLink}
 use Rattle.lan.specs.Worlds.AtLink.Kinds.LinkAct.{Hands}

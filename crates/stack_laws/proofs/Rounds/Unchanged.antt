@@ -1,5 +1,5 @@
 -- What services leave as it was: what users wrote and read, leave to send that is there behind them, and connections.
-use Rattle.std.proofs.Common.{◌≡◌, inl, inr, ℕ, ◌+◌, ◌-◌, ◌<◌, ℤ, Bool, true, false, ◌&&◌, List, [], ◌∷◌, ◌++◌, length, Option, Some, None, IsTrue, refl, sym, ap, ◌∙◌, subst, arith}
+use Rattle.std.proofs.Common.{◌≡◌, ℕ, ◌+◌, ◌-◌, ◌<◌, ℤ, Bool, true, false, ◌&&◌, List, [], ◌∷◌, ◌++◌, length, Option, Some, None, IsTrue, refl, sym, ap, ◌∙◌, subst, arith}
 use Rattle.std.specs.Prelude.{nat_lt, slice_index_or}
 use Rattle.std.specs.List.{AllByRecursion}
 use Rattle.net_devices.specs.Device.{gives_tokens}
@@ -7,7 +7,6 @@ use Rattle.tcp_model.specs.State.{State}
 use Rattle.tcp_model.specs.Value.{TcpValue, room_of}
 use Rattle.tcp_progress.specs.Arrivals.{is_synchronized}
 use Rattle.tcp_progress.specs.Pair.{HasStream}
-use Rattle.tcp_progress.specs.Sent.{is_early}
 use Rattle.tcp_tie.specs.Tie.{Past}
 use Rattle.lan.specs.declared.at_link.history.answer.Answer.{Answer}
 use Rattle.lan.specs.declared.at_link.history.event.Event.{Event}
@@ -22,7 +21,6 @@ use Rattle.lan.specs.Worlds.AtLink.Paired.{told}
 use Rattle.lan.specs.Worlds.AtLink.Parties.{Net, Socket, party, socket_at}
 use Rattle.lan.specs.Worlds.AtLink.Parties.Socket.{Icmp, Raw, Tcp, Udp}
 use Rattle.lan.specs.Worlds.AtLink.Runs.{Starts}
-use Rattle.lan.specs.Worlds.AtLink.Sets.{asked}
 use Rattle.lan.specs.Worlds.AtLink.Station.{StationValue, Stations, station}
 use Rattle.lan.specs.Worlds.AtLink.Steps.{Happens}
 use Rattle.lan.specs.Worlds.Moves.Follows.{IsNetOf, sockets_of}
@@ -33,7 +31,7 @@ use Rattle.lan.proofs.Worlds.Hosts.Polling.{polled}
 use Rattle.lan.proofs.Worlds.Moves.Calls.{names}
 use Rattle.lan.proofs.Worlds.Moves.Nets.{either_side}
 use Rattle.lan_base.specs.Port.{LinkEnd, has_leave}
-use Rattle.stack_laws.specs.Progress.Ends.{AreBoth, AreThroughout}
+use Rattle.stack_laws.specs.Progress.Ends.{AreThroughout}
 use Rattle.stack_laws.specs.Progress.Events.{AreOfEvent, MoveBy, shown_in, untimed}
 use Rattle.stack_laws.specs.Progress.Moving.{IsTcp}
 use Rattle.stack_laws.specs.Progress.Reach.{hosts_before}

@@ -14,11 +14,11 @@ use Rattle.lan.specs.declared.at_link.history.event.Side.{Side}
 use Rattle.lan.specs.declared.at_link.history.event.Side.TheVariants.{A, B}
 use Rattle.lan.specs.Worlds.AtLink.Fresh.{IsFreshWorld}
 use Rattle.lan.specs.Worlds.AtLink.History.{Counts, Entry}
-use Rattle.lan.specs.Worlds.AtLink.Kinds.{kind_of, same_side}
+use Rattle.lan.specs.Worlds.AtLink.Kinds.{kind_of}
 use Rattle.lan.specs.Worlds.AtLink.Runs.{Leads, Starts, Step, Steps, WorldRun, WorldValue, unused_both}
 use Rattle.lan.specs.Worlds.AtLink.Station.{Stations, station}
 use Rattle.lan.specs.Worlds.Events.{AreTyped, IsTyped}
-use Rattle.lan.specs.Worlds.Settling.{AreBothAsked, AreServed, Handed, IsCalm, IsRound, IsServed, IsService, NextRound, Rounds, Settles, WasAsked, all_sent, deliveries}
+use Rattle.lan.specs.Worlds.Settling.{AreBothAsked, AreServed, IsCalm, IsRound, IsServed, IsService, Rounds, Settles, WasAsked, all_sent, deliveries}
 use Rattle.lan.specs.Worlds.Still.{StillRun}
 use Rattle.lan.proofs.Worlds.StillOnward.{ran}
 use Rattle.stack_laws.specs.Progress.AtOnce.{IsByThen}
@@ -26,7 +26,7 @@ use Rattle.stack_laws.specs.Progress.Events.{clock_in}
 use Rattle.stack_laws.specs.Progress.Serving.{WaitsForNone, WantsAt}
 use Rattle.stack_laws.proofs.EventAnswers.{soon}
 use Rattle.stack_laws.proofs.Rounds.Events.{Carries, Clocked, all_came, ask_carries, ask_clocked, deliver_carries, deliver_clocked, entry, fewer_carried, poll_carries, poll_clocked, sent_stays}
-use Rattle.stack_laws.proofs.Rounds.OnWay.{handed_over, with_count}
+use Rattle.stack_laws.proofs.Rounds.OnWay.{with_count}
 use Rattle.stack_laws.proofs.Rounds.OneRun.{Once, runs_once}
 
 no_earlier : (t : ℤ) → t ≤ℤ t
@@ -40,6 +40,13 @@ service_typed (E.Poll side moment budget) is = tt
 service_typed (E.PollAt side moment) is = tt
 service_typed (E.Deliver from k padding) is = tt
 service_typed event is = absurd is
+
+-- how many frames of each side were handed over: what a round is asked whether it is calm behind
+abbrev Domain : {X : Type 0} {Y : Type 1} → (X → Y) → Type 0
+Domain {X} {Y} f = X
+
+abbrev pub Handed : Type 0
+Handed = Domain IsCalm
 
 abbrev pub of : Handed → Side → ℕ
 of h A = h.a

@@ -1,6 +1,6 @@
 //! What rounds of a world bring, and by when.
 
-ghost use Rattle.std.specs.Prelude.{◌≡◌, ◌++◌, ℕ, ◌≤◌, ℤ, pos, ◌+ℤ◌, ◌<ℤ◌, Bool, true, List, length, Option};
+ghost use Rattle.std.specs.Prelude.{◌≡◌, ◌⊎◌, ◌++◌, ℕ, ◌≤◌, ℤ, pos, ◌+ℤ◌, ◌<ℤ◌, Bool, true, false, List, length, Option, Some};
 ghost use Rattle.std.specs.List.{AllByRecursion};
 ghost use Rattle.interface.specs.Ingress.{is_read};
 ghost use Rattle.tcp_model.specs.Value.{TcpValue};
@@ -14,7 +14,7 @@ ghost use Rattle.lan.specs.Worlds.AtLink.Safe.{net_of};
 ghost use Rattle.lan.specs.Worlds.AtLink.Station.{StationValue};
 ghost use Rattle.lan.specs.Worlds.AtLink.Steps.{PollsAt};
 ghost use Rattle.lan.specs.Worlds.Events.{AreTyped};
-ghost use Rattle.lan.specs.Worlds.Settling.{IsService, Settles};
+ghost use Rattle.lan.specs.Worlds.Settling.{AreAtRest, IsService, Settles};
 ghost use Rattle.lan.specs.Worlds.Still.{StillRun};
 ghost use Rattle.stack_laws.specs.Progress.Events.{clock_in};
 ghost use Rattle.stack_laws.specs.Progress.Settled.{HasArrived};
@@ -60,6 +60,21 @@ pub fn what_settles_arrives_in_time()
     one_outcome();
     rounds_bring_frames_and_serve_sockets_at_once();
     partners_go_on_by_their_events();
+}
+
+/// Law: where it answers a moment, it is at rest, and all has arrived however far its clock went on. So all has arrived either way: at rest, or late enough.
+pub fn what_settles_arrives_at_rest_or_in_time()
+    ensures rest { (old new : WorldValue) (budget : ℕ) (from : ℤ) (rounds : ℕ) (moment : ℤ) → Settles budget from rounds (Some moment) old new
+        → AreAtRest moment new.history }
+    ensures arrived { (old new : WorldValue) (places : Side → ℕ) (news : Side → NewSocket) (sockets : Side → TcpValue) (budget : ℕ) (from : ℤ) (rounds : ℕ)
+        (rested : Option ℤ) (side : Side) (v w : TcpValue) → MaySettle places news from sockets old new → Settles budget from rounds rested old new
+        → ((moment : ℤ) × (rested ≡ Some moment))
+        ⊎ ((clock_in old.history +ℤ pos (enough_for old.history places sockets)) <ℤ clock_in new.history)
+        → v.block.settings.synack_paused ≡ false → IsTcpAt (net_of new) side (places side) v → IsTcpAt (net_of new) (other side) (places (other side)) w
+        → HasArrived (net_of new) side (places side) (places (other side)) v w }
+{
+    one_outcome();
+    what_settles_arrives_in_time();
 }
 
 /// Law: there are two worlds that meet all that this asks for of worlds: as A's user has written in the world on numerals that settles, and as all has come.
