@@ -1,5 +1,5 @@
 -- Where hosts know each other throughout, what two connected sockets offer goes.
-use Rattle.std.proofs.Common.{◌≡◌, inl, inr, ℕ, Bool, true, false, ℤ, IsTrue, List, [], ◌∷◌, ◌++◌, Option, Some, None, IfSome, refl, sym, ap, ◌∙◌, subst}
+use Rattle.std.proofs.Common.{◌≡◌, inl, inr, ℕ, Bool, true, false, ℤ, List, [], ◌∷◌, ◌++◌, Option, Some, None, IfSome, refl, sym, ap, ◌∙◌, subst}
 use Rattle.std.specs.Prelude.{not, ◌&&◌, int_lt}
 use Rattle.std.specs.List.{AllByRecursion}
 use Rattle.ip_packet.specs.Ip.{destination_of}

@@ -76,7 +76,7 @@ at_end hosts A end B = refl
 at_end hosts B end A = refl
 at_end hosts B end B = refl
 
-link_so : (hosts : Stations) (act : LinkAct) (s : Side) → (station (linked hosts act) s).places ≡ (station hosts s).places
+pub link_so : (hosts : Stations) (act : LinkAct) (s : Side) → (station (linked hosts act) s).places ≡ (station hosts s).places
 link_so hosts (Hands origin) s = at_end hosts (goes_to origin) _ s
 link_so hosts (Cuts from k at) s = at_end hosts from _ s
 

@@ -2,6 +2,8 @@
 use Rattle.std.proofs.Common.{◌≡◌, ℕ, true, false, List, ◌++◌, Some, sym, ap, ◌∙◌, subst}
 use Rattle.ip_packet.specs.declared.ip.repr.IpRepr.{IpRepr}
 use Rattle.ip_packet.specs.declared.ip.repr.IpRepr.TheVariants as Ip
+use Rattle.ip_address.specs.Protocol.{protocol_number, protocol_of}
+use Rattle.ip_address.specs.declared.ip.IpProtocol.{IpProtocol}
 use Rattle.ip_wire.specs.HardwareAddress.{HardwareAddress}
 use Rattle.ip_wire.specs.IpAddress.{IpAddress}
 use Rattle.ip_wire.specs.TcpHeader.{TcpHeader}
@@ -37,7 +39,7 @@ module _ (i : InnerValue) (ident : ℕ) (to : HardwareAddress) (header : TcpHead
   tells_nothing : (ip : IpRepr) → CanBeRead ip (Segment header bytes) → TellsAtMost caps hop told (read ip)
   tells_nothing (Ip.Ipv4 v) readable = tt
   tells_nothing (Ip.Ipv6 v) readable =
-      λ message carried control brought. absurd (let never : false ≡ true = sym (ap is_control_v6 readable.0) ∙ control in cc)
+      λ message carried control brought. absurd (let never : false ≡ true = sym (ap (λ (x : IpProtocol). is_control_v6 (protocol_of (protocol_number x))) readable.0) ∙ control in cc)
 
 pub segment_tells : (i j : InnerValue) (ident : ℕ) (v : TcpValue) (ip : IpRepr) (header : TcpHeader) (bytes : List ℕ) (to : HardwareAddress)
     (padding : List ℕ) (hop : IpAddress) (told : HardwareAddress)

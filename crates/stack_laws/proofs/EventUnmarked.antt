@@ -55,7 +55,7 @@ use Rattle.stack_laws.specs.Progress.AtOnce.{AreUnmarked, IsUnmarked}
 -- NO PACKET WAITS
 
 -- a packet with this plan goes, or is dropped, or the host is busy
-abbrev IsSure : Plan → Type 0
+abbrev pub IsSure : Plan → Type 0
 IsSure (Way.Go to) = Unit {0}
 IsSure (Way.Cut to) = Unit {0}
 IsSure Way.Busy = Unit {0}
@@ -69,25 +69,26 @@ sure_if_long false true true to = tt
 sure_if_long false true false to = tt
 sure_if_long false false busy to = tt
 
-plan_sure : (i : InnerValue) (busy : Bool) (h : IpRepr) → i.hardware ≡ Hardware.Ip → IsSure (plan_of i busy h)
-plan_sure i busy h ip = by (stays i (comes_from_here i h) (destination_of h)) where
-  known : link_address i (destination_of h) ≡ Link.Known Hardware.Ip
-  known = ap (λ (own : HardwareAddress). link_on own i (destination_of h)) ip
-
+pub sure_where_known : (i : InnerValue) (busy : Bool) (h : IpRepr) (to : HardwareAddress) → link_address i (destination_of h) ≡ Link.Known to →
+    IsSure (plan_of i busy h)
+sure_where_known i busy h to known = by (stays i (comes_from_here i h) (destination_of h)) where
   goes : IsSure (plan_by (link_address i (destination_of h)) i busy h)
   goes = subst (λ (a : LinkAddress). IsSure (plan_by a i busy h)) (sym known)
-      (sure_if_long (nat_le (total_len h) (mtu_to i (destination_of h))) (can_be_cut h) busy Hardware.Ip)
+      (sure_if_long (nat_le (total_len h) (mtu_to i (destination_of h))) (can_be_cut h) busy to)
 
   by : (stays : Bool) → IsSure (if stays then Way.Drop else plan_by (link_address i (destination_of h)) i busy h)
   by true = tt
   by false = goes
 
+plan_sure : (i : InnerValue) (busy : Bool) (h : IpRepr) → i.hardware ≡ Hardware.Ip → IsSure (plan_of i busy h)
+plan_sure i busy h ip = sure_where_known i busy h Hardware.Ip (ap (λ (own : HardwareAddress). link_on own i (destination_of h)) ip)
+
 -- a socket whose packet is done with is unmarked, and any other is as it was
-abbrev IsEnded : Sent → Type 0
+abbrev pub IsEnded : Sent → Type 0
 IsEnded Outcome.Waits = ⊥
 IsEnded sent = Unit {0}
 
-mark_stays : (sent : Sent) (moment until : ℤ) (to : IpAddress) (m : Meta) → IsEnded sent → m ≡ unmarked → marked sent moment until to m ≡ unmarked
+pub mark_stays : (sent : Sent) (moment until : ℤ) (to : IpAddress) (m : Meta) → IsEnded sent → m ≡ unmarked → marked sent moment until to m ≡ unmarked
 mark_stays Outcome.Waits moment until to m ended is = absurd ended
 mark_stays Outcome.Gone moment until to m ended is = refl
 mark_stays Outcome.Dropped moment until to m ended is = refl
@@ -127,13 +128,15 @@ module _ {D : Type 0} (moves : D → Move → D → Type 0) (turn : Option IpAdd
   out_ended old new i i' l l' p Way.Wait sent sure goes = absurd sure
   out_ended old new i i' l l' p (Way.Ask question) sent sure goes = absurd sure
 
+  pub leaves_sure : (x x' : Sender D) (m : Meta) (p : PacketValue) (sent : Sent) → IsSure (plan_at x p) → Leaves moves turn x m p sent x' → IsEnded sent
+  leaves_sure x x' m p sent sure (inl (given, allowed, same, left, outcome)) =
+      not_held given sent (sym (ap (outcome_by given) (held_none turn m x.inner (destination_of p.header) (plan_at x p) sure)) ∙ outcome)
+  leaves_sure x x' m p sent sure (inr (mid, allowed, goes, none)) =
+      out_ended mid x'.device x.inner x'.inner x.left x'.left p (plan_at x p) sent sure goes
+
   module _ (x x' : Sender D) (ip : x.inner.hardware ≡ Hardware.Ip) where
     leaves_ended : (m : Meta) (p : PacketValue) (sent : Sent) → Leaves moves turn x m p sent x' → IsEnded sent
-    leaves_ended m p sent (inl (given, allowed, same, left, outcome)) =
-        not_held given sent (sym (ap (outcome_by given) (held_none turn m x.inner (destination_of p.header) (plan_at x p) (plan_sure x.inner (is_some x.left) p.header ip)))
-        ∙ outcome)
-    leaves_ended m p sent (inr (mid, allowed, goes, none)) =
-        out_ended mid x'.device x.inner x'.inner x.left x'.left p (plan_at x p) sent (plan_sure x.inner (is_some x.left) p.header ip) goes
+    leaves_ended m p sent leaves = leaves_sure x x' m p sent (plan_sure x.inner (is_some x.left) p.header ip) leaves
 
     -- A TURN leaves its socket unmarked
 

@@ -36,6 +36,8 @@ pub mod EventNamed
 pub mod EventHears
 pub mod EventHops
 pub mod EventTold
+pub mod EventItems
+pub mod EventWaitless
 pub mod EventFacts
 pub mod EventComes
 pub mod EventStamps

@@ -58,7 +58,7 @@ leaving_len i h = by (may_come_from i (source_of h) (destination_of h)) where
   by false = source_len h (source_for i.addresses (destination_of h))
 
 -- it leaves the destination
-source_destination : (h : IpRepr) (o : Option IpAddress) → destination_of (with_source h o) ≡ destination_of h
+pub source_destination : (h : IpRepr) (o : Option IpAddress) → destination_of (with_source h o) ≡ destination_of h
 source_destination (Ip.Ipv4 v) None = refl
 source_destination (Ip.Ipv4 v) (Some (Address.Ipv4 a)) = refl
 source_destination (Ip.Ipv4 v) (Some (Address.Ipv6 a)) = refl

@@ -7,7 +7,7 @@ use Rattle.ip_wire.specs.IpAddress.{IpAddress}
 use Rattle.tcp_control.specs.Endpoints.{remote_of}
 use Rattle.tcp_control.specs.declared.endpoints.EndpointPair.{EndpointPair}
 use Rattle.tcp_model.specs.Offers.{offer_of}
-use Rattle.interface_egress.specs.Meta.{neighbor_of}
+use Rattle.interface_egress.specs.Meta.{neighbor_of, unmarked}
 use Rattle.interface_egress.specs.declared.socket_set.Item.{Item}
 use Rattle.interface_egress.specs.declared.socket_set.SocketStorage.{SocketStorage}
 use Rattle.interface_ingress.specs.Socket.{Socket}
@@ -66,3 +66,8 @@ abbrev pub IsMarkedForKnown : ℕ → StationValue → Type 0
 IsMarkedForKnown place s =
     (at : SocketStorage Socket) (item : Item Socket) → slice_get s.places place ≡ Some at → at.inner ≡ Some item
     → IfSome (neighbor_of item.meta) (λ neighbor. has_neighbor s.host.inner neighbor ≡ true)
+
+-- the socket at this place of a host isn't marked
+abbrev pub IsUnmarkedAt : ℕ → StationValue → Type 0
+IsUnmarkedAt place s =
+    (at : SocketStorage Socket) (item : Item Socket) → slice_get s.places place ≡ Some at → at.inner ≡ Some item → item.meta ≡ unmarked

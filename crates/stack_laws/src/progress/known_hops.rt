@@ -42,11 +42,12 @@ ghost use Rattle.stack_laws.specs.Progress.Ends.{AreConnected};
 ghost use Rattle.stack_laws.specs.Progress.Events.{HappensBy, MoveBy};
 ghost use Rattle.stack_laws.specs.Progress.Gone.{GoesInFrame};
 ghost use Rattle.stack_laws.specs.Progress.Hearing.{AreSo};
-ghost use Rattle.stack_laws.specs.Progress.KnownHops.{IsMarkedForKnown, KnowEachOther, KnowsThroughout};
+ghost use Rattle.stack_laws.specs.Progress.KnownHops.{IsMarkedForKnown, IsUnmarkedAt, KnowEachOther, KnowsThroughout};
 ghost use Rattle.stack_laws.specs.Progress.Linked.{AreLinked};
 ghost use Rattle.stack_laws.specs.Progress.Moving.{AreHeard, AreLetGo, ComeFresh, IsFreshFor, IsHeardBy};
 ghost use Rattle.stack_laws.specs.Progress.OneClock.{timed};
 ghost use Rattle.stack_laws.specs.Progress.Queued.{frame_under, with_ident};
+ghost use Rattle.stack_laws.specs.Progress.Reach.{hosts_before};
 ghost use Rattle.stack_laws.specs.Progress.Segments.{CanLeave, OffersSegment};
 ghost use Rattle.stack_laws.specs.Progress.Serving.{GiveLeave, WaitsForNone};
 
@@ -131,4 +132,16 @@ pub fn segments_tell_of_no_neighbor()
         → IsWellFormed (packet_of ip (Segment header bytes))
         → CanRead i to (reader_of j)
         → FrameTellsAtMost j hop told (frame_under i ident to (packet_of ip (Segment header bytes)) ++ padding) }
+{}
+
+/// Law: where hosts know each other throughout, a connected socket that wasn't marked before is marked for no neighbor behind any later event, and so waits for
+/// none.
+pub fn nobody_waits_where_hosts_know_each_other()
+    ensures { (starts : Starts) (past more : List Entry) (hosts : Stations) (still : StillRun starts (more ++ past) hosts) (places : Side → ℕ)
+        (own : Side → HardwareAddress) (pairs : Side → EndpointPair)
+        → AreConnected starts places pairs past more hosts still
+        → KnowEachOther own pairs starts past more hosts still
+        → ((side : Side) → IsUnmarkedAt (places side) (station (hosts_before starts past more hosts still) side))
+        → (side : Side)
+        → WaitsForNone (places side) (station hosts side) }
 {}

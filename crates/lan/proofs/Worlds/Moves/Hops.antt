@@ -1,7 +1,7 @@
 -- A host that knows throughout a poll where its frames for a destination go knows it in between.
-use Rattle.std.proofs.Common.{◌≡◌, ◌⊎◌, inl, inr, ℕ, zero, suc, ◌+◌, ◌-◌, ◌<◌, ◌≤◌, ℤ, pos, ◌+ℤ◌, int_lt, Bool, true, false, ◌||◌, cond, if◌then◌else◌, nat_lt, List, [], ◌∷◌, ◌++◌, length}
+use Rattle.std.proofs.Common.{◌≡◌, inl, inr, ℕ, zero, suc, ◌+◌, ◌-◌, ◌<◌, ◌≤◌, ℤ, pos, ◌+ℤ◌, int_lt, Bool, true, false, ◌||◌, cond, if◌then◌else◌, nat_lt, List, [], ◌∷◌, ◌++◌, length}
 use Rattle.std.proofs.Common.{take, drop, get_or, Option, Some, None, IfSome, refl, sym, ap, ◌∙◌, subst, arith}
-use Rattle.std.specs.Prelude.{find, min, position, remove, slice_get, slice_set}
+use Rattle.std.specs.Prelude.{find, position, remove, slice_set}
 use Rattle.std.specs.List.{AllByRecursion, list_any}
 use Rattle.std.proofs.lemmas.Bool.Decides.{nat_tests}
 use Rattle.std.proofs.lemmas.Int.{ints}
@@ -36,14 +36,14 @@ use Rattle.interface_egress.specs.Departing.{HasSettingsOf}
 use Rattle.interface_tables.specs.Best.{at_place}
 use Rattle.interface_tables.specs.Inner.{InnerValue, at_moment, context_of, is_broadcast_of, is_local_broadcast, next_hop, link_by, link_of_hop, link_on, link_address}
 use Rattle.interface_tables.specs.Inner.{all_stations, group_station, with_error, with_neighbor, with_path, with_renewal}
-use Rattle.interface_tables.specs.Neighbor.{CacheValue, lookup, missing, answer_by, place_of, is_of, unless_failed, has_failed, filled, filled_at, victim}
+use Rattle.interface_tables.specs.Neighbor.{CacheValue, lookup, missing, answer_by, place_of, is_of, unless_failed, has_failed, filled_at, victim}
 use Rattle.interface_tables.specs.Neighbor.{entry_lifetime, renewed_at, renewed_entry}
 use Rattle.interface_tables.specs.declared.link.LinkAddress.{LinkAddress}
 use Rattle.interface_tables.specs.declared.link.LinkAddress.TheVariants as Link
 use Rattle.interface_tables.specs.declared.neighbor.Answer.{Answer}
 use Rattle.interface_tables.specs.declared.neighbor.Answer.TheVariants as Known
 use Rattle.interface_tables.specs.declared.neighbor.Neighbor.{Neighbor}
-use Rattle.interface_tables.proofs.PathMtu.{at_first, find_last, is_found, itself, none_found, same_address}
+use Rattle.interface_tables.proofs.PathMtu.{at_first, find_last, is_found, itself, none_found, none_removed, same_address}
 use Rattle.interface_ingress.specs.Arp.{teaches, learned, arp_arrived}
 use Rattle.interface_ingress.specs.Arrives.{Arrived, ArrivesV4, ArrivesV6, Brings, Hands, is_direct, sender_of, renewed, renewed_by, whole_after}
 use Rattle.interface_ingress.specs.Delivered.{Places, drawn_if, is_taken_raw, packet_delivered, segment_draws}
@@ -56,7 +56,7 @@ use Rattle.interface_ingress.specs.Reassembled.{Slots, bytes_at, is_control_v6, 
 use Rattle.interface_ingress.specs.Upper.{IsBrought}
 use Rattle.interface_ingress.proofs.Limit.{counted_so}
 use Rattle.interface_ingress.proofs.PathTold.{path_v4_so, path_v6_so}
-use Rattle.lan.specs.Worlds.Moves.Hops.{FrameTellsAtMost, GoesTo, HasRoom, IsLinkOf, KnowsHop, KnowsNeighbor, TellsAtMost, TellsInMessage}
+use Rattle.lan.specs.Worlds.Moves.Hops.{FrameTellsAtMost, GoesTo, HasRoom, IsLinkOf, KnowsHop, TellsAtMost, TellsInMessage}
 
 -- SEARCHES
 
@@ -169,7 +169,7 @@ module _ (t : ℤ) (hop : IpAddress) (to : HardwareAddress) where
     by : (b : Bool) → find (is_of hop) (if b then entries ++ new ∷ [] else remove entries (victim entries) ++ new ∷ []) ≡ Some new
     by true = find_last (is_of hop) entries new none ours
     by false = find_last (is_of hop) (remove entries (victim entries)) new
-        (Rattle.interface_tables.proofs.PathMtu.none_removed (is_of hop) entries (victim entries) none) ours
+        (none_removed (is_of hop) entries (victim entries) none) ours
 
   -- another one's, where there is room behind it
   other_entry : (room : ℕ) (entries : List Neighbor) (new entry : Neighbor) (o : Option ℕ) → position (is_of new.protocol_addr) entries ≡ o
