@@ -20,7 +20,7 @@ use Rattle.interface_tables.specs.Source.{source_for}
 use Rattle.interface_tables.specs.declared.link.LinkAddress.TheVariants as Link
 use Rattle.lan_base.specs.Device.{Move, Allowed, Denied}
 use Rattle.sockets.specs.Packet.{PacketValue}
-use Rattle.tcp_control.specs.declared.offer.OpenOffer.{OpenOffer}
+use Rattle.tcp_model.specs.OpenOffer.{OpenOffer}
 use Rattle.tcp_model.specs.Offers.{offer_of}
 use Rattle.lan.specs.Worlds.AtLink.Moves as Moves
 use Rattle.lan.specs.Worlds.AtLink.Moves.{Step}

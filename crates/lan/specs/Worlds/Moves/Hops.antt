@@ -30,10 +30,11 @@ HasRoom c = length c.entries < c.room
 
 -- WHAT IS TOLD of a neighbor's hardware address: this one, or nothing
 
--- a neighbor message tells of its sender, if it solicits, and of its target, if it advertises (RFC 4861, section 7.2)
+-- the link address that a neighbor message gives, if it gives one
 abbrev pub IsLinkOf : HardwareAddress → Option (List ℕ) → Type 0
 IsLinkOf to link = IfSome link (λ bytes. Hardware.Ethernet (station bytes) ≡ to)
 
+-- a neighbor message tells of its sender, if it solicits, and of its target, if it advertises (RFC 4861, section 7.2)
 abbrev pub TellsInMessage : IpAddress → HardwareAddress → Ipv6Repr → NeighborMessage → Type 0
 TellsInMessage hop to header (Solicitation target link) = Address.Ipv6 header.src_addr ≡ hop → IsLinkOf to link
 TellsInMessage hop to header (Advertisement flags target link) = Address.Ipv6 target ≡ hop → IsLinkOf to link
