@@ -1,5 +1,5 @@
 -- In a run over a medium that has no hardware addresses no socket waits for a neighbour.
-use Rattle.std.proofs.Common.{◌≡◌, ℕ, List, [], ◌∷◌, Option, Some, None, refl, sym, ap, ◌∙◌, subst}
+use Rattle.std.proofs.Common.{◌≡◌, ℕ, List, [], ◌∷◌, ◌++◌, Option, Some, None, refl, sym, ap, ◌∙◌, subst}
 use Rattle.std.specs.Prelude.{slice_get}
 use Rattle.net_base.specs.DeviceCapabilities.{DeviceCapabilities}
 use Rattle.ip_wire.specs.HardwareAddress.TheVariants as Hardware
@@ -38,7 +38,10 @@ use Rattle.stack_laws.proofs.EventLeave.{on_ip, same_link}
 use Rattle.stack_laws.proofs.EventUnmarked.{found, polled_unmarked, with_set}
 use Rattle.stack_laws.proofs.SentOff.{is_ip}
 use Rattle.stack_laws.specs.Progress.AtOnce.{AreUnmarked, IsUnmarked}
+use Rattle.stack_laws.specs.Progress.KnownHops.{IsUnmarkedAt}
+use Rattle.stack_laws.specs.Progress.Reach.{hosts_before}
 use Rattle.stack_laws.specs.Progress.Serving.{WaitsForNone}
+use Rattle.stack_laws.specs.Progress.Within.{NobodyWaits}
 
 -- ONE EVENT
 
@@ -106,8 +109,26 @@ module _ (starts : Starts) (fresh : IsFreshWorld starts) (ip : starts.a.capabili
   all_unmarked (e ∷ past) hosts typed (before, still, leads, are) s =
       kind_so before hosts (kind_of e.event) e.answer e.found leads.happens (bare past before typed.1 still) (all_unmarked past before typed.1 still) s
 
+  pub unmarked_at : (history : List Entry) (hosts : Stations) → AreTyped history → StillRun starts history hosts → (s : Side) (place : ℕ)
+      → IsUnmarkedAt place (station hosts s)
+  unmarked_at history hosts typed still s place at item here is =
+      let of_item : IsUnmarked at.inner = found (station hosts s).places place at here (all_unmarked history hosts typed still s) in
+      subst IsUnmarked is of_item
+
   pub waits_for_none : (history : List Entry) (hosts : Stations) → AreTyped history → StillRun starts history hosts → (s : Side) (place : ℕ) → WaitsForNone place (station hosts s)
   waits_for_none history hosts typed still s place at item here is =
-      let of_item : IsUnmarked at.inner = found (station hosts s).places place at here (all_unmarked history hosts typed still s) in
-      let mark : item.meta ≡ unmarked = subst IsUnmarked is of_item in
+      let mark : item.meta ≡ unmarked = unmarked_at history hosts typed still s place at item here is in
       ap (λ (m : Meta). is_waiting (station hosts s).host.inner m) mark
+
+  -- behind each event
+  pub none_wait : (past more : List Entry) (hosts : Stations) (still : StillRun starts (more ++ past) hosts) (places : Side → ℕ) → AreTyped (more ++ past)
+      → NobodyWaits starts places past more hosts still
+  none_wait past [] hosts still places typed = λ s. waits_for_none past hosts typed still s (places s)
+  none_wait past (e ∷ more) hosts still places typed =
+      (none_wait past more still.0 still.1 places typed.1, λ s. waits_for_none (e ∷ more ++ past) hosts typed still s (places s))
+
+  -- and at the hosts between
+  pub first_unmarked : (past more : List Entry) (hosts : Stations) (still : StillRun starts (more ++ past) hosts) → AreTyped (more ++ past) → (s : Side)
+      (place : ℕ) → IsUnmarkedAt place (station (hosts_before starts past more hosts still) s)
+  first_unmarked past [] hosts still typed s place = unmarked_at past hosts typed still s place
+  first_unmarked past (e ∷ more) hosts still typed s place = first_unmarked past more still.0 still.1 typed.1 s place

@@ -273,6 +273,18 @@ module _ (starts : Starts) (places : Side → ℕ) (past more : List Entry) (hos
   mirrored_ports side =
       ap (λ (x : EndpointPair). x.remote_port) (sym (own side)) ∙ (mirrored side).remote_port ∙ ap (λ (x : EndpointPair). x.local_port) (theirs side)
 
+-- what stays connected has ends at hosts that let go, and take in, what goes between them
+pub ends_between : (starts : Starts) (past more : List Entry) (hosts : Stations) (places : Side → ℕ) → IsFreshWorld starts → AreTyped (more ++ past)
+    → (still : StillRun starts (more ++ past) hosts) (it : StaysConnected starts places past more hosts still) → AreEnds starts it.pairs
+ends_between starts past more hosts places fresh typed still it =
+    let history : List Entry = more ++ past in
+    let now : AreBoth (λ side. IsConnected (it.pairs side)) places hosts =
+    both_now (λ side. IsConnected (it.pairs side)) starts places past more hosts still it.connected in
+    let far = between starts fresh history hosts typed still places it.pairs now in
+    are_ends starts it.pairs (mirrored_addresses starts places past more hosts still it) (mirrored_ports starts places past more hosts still it)
+    (named starts fresh history hosts typed still places it.pairs now)
+    (λ side. are_hosts (start starts side).host.inner (it.pairs side) (outward starts fresh history hosts typed still side) (far side)) far
+
 -- OVER LINKS
 
 pub linked : (starts : Starts) (past more : List Entry) (hosts : Stations) (places : Side → ℕ) (news : Side → NewSocket) (delay : ℕ) → IsFreshWorld starts
@@ -283,17 +295,10 @@ pub linked : (starts : Starts) (past more : List Entry) (hosts : Stations) (plac
     → AreLinked starts places delay past more hosts still
 linked starts past more hosts places news delay fresh typed still new keys text partners opened stay reach =
     let it = stays_connected starts past more hosts places news fresh typed still new keys text partners opened stay in
-    let history : List Entry = more ++ past in
-    let now : AreBoth (λ side. IsConnected (it.pairs side)) places hosts =
-    both_now (λ side. IsConnected (it.pairs side)) starts places past more hosts still it.connected in
-    let far = between starts fresh history hosts typed still places it.pairs now in
     record {
       medium = reach.medium;
       pairs = it.pairs;
-      ends = are_ends starts it.pairs (mirrored_addresses starts places past more hosts still it) (mirrored_ports starts places past more hosts still it)
-          (named starts fresh history hosts typed still places it.pairs now)
-          (λ side. are_hosts (start starts side).host.inner (it.pairs side) (outward starts fresh history hosts typed still side) (far side))
-          far;
+      ends = ends_between starts past more hosts places fresh typed still it;
       connected = it.connected;
       leave = reach.leave;
       on_way = reach.on_way;

@@ -79,6 +79,7 @@ use Rattle.stack_laws.specs.Progress.KnownHops.{IsUnmarkedAt, KnowEachOther, Kno
 use Rattle.stack_laws.specs.Progress.Moving.{IsTcp}
 use Rattle.stack_laws.specs.Progress.Reach.{hosts_before}
 use Rattle.stack_laws.specs.Progress.Serving.{IsAtHost, WaitsForNone}
+use Rattle.stack_laws.specs.Progress.Within.{NobodyWaits}
 use Rattle.stack_laws.proofs.EventFacts.{both_now}
 use Rattle.stack_laws.proofs.EventHeard.{one_pair}
 use Rattle.stack_laws.proofs.EventIdle.{link_so}
@@ -490,3 +491,16 @@ nobody_waits starts past more hosts still places own pairs connected known first
     let mark : item.meta ≡ unmarked =
     at_found Unmarked (station hosts side).places (places side) at item there is (all_free starts places own pairs past more hosts still connected known first side) in
     ap (λ (m : Meta). is_waiting (station hosts side).host.inner m) mark
+
+-- behind each event
+pub nobody_waits_throughout : (starts : Starts) (past more : List Entry) (hosts : Stations) (still : StillRun starts (more ++ past) hosts) (places : Side → ℕ)
+    (own : Side → HardwareAddress) (pairs : Side → EndpointPair) → AreConnected starts places pairs past more hosts still
+    → KnowEachOther own pairs starts past more hosts still
+    → ((side : Side) → IsUnmarkedAt (places side) (station (hosts_before starts past more hosts still) side))
+    → NobodyWaits starts places past more hosts still
+nobody_waits_throughout starts past [] hosts still places own pairs connected known first =
+    nobody_waits starts past [] hosts still places own pairs connected known first
+nobody_waits_throughout starts past (e ∷ more) hosts still places own pairs connected known first = (
+  nobody_waits_throughout starts past more still.0 still.1 places own pairs connected.0 known.0 first,
+  nobody_waits starts past (e ∷ more) hosts still places own pairs connected known first,
+)

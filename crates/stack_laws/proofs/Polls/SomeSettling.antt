@@ -21,7 +21,7 @@ use Rattle.stack_laws.specs.Progress.AtOnce.{AreUnmarked}
 use Rattle.stack_laws.specs.Progress.Events.{clock_in, shown_in}
 use Rattle.stack_laws.specs.Progress.SettledNumerals.{history, hosts, news, opened, place, starts, told_to_send, writing}
 use Rattle.stack_laws.specs.Progress.Unread.{HasRoomForAll}
-use Rattle.stack_laws.specs.Progress.Within.{MayBegin, MaySettle}
+use Rattle.stack_laws.specs.Progress.Within.{AskForNone, MayBegin, MaySettle}
 use Rattle.stack_laws.proofs.Polls.SomeLinked.{both_stay}
 use Rattle.stack_laws.proofs.Polls.SomeStarts.{are_new, have_keys, hold_text, is_fresh}
 use Rattle.stack_laws.proofs.Polls.SomeStations.{open_b, writing_a}
@@ -45,11 +45,12 @@ unmarked : (side : Side) → AreUnmarked (start starts side).places
 unmarked A = (refl, tt)
 unmarked B = (refl, tt)
 
+pub ask_for_none : AskForNone starts
+ask_for_none = record { medium = refl; unmarked = unmarked }
+
 may_begin : MayBegin place (pos 0) before
 may_begin = record {
   fresh = is_fresh;
-  medium = refl;
-  unmarked = unmarked;
   typed = are_typed.1.1.1.1.1.1.1.1;
   run = ran starts told_to_send (record { a = writing_a; b = open_b [] }) wrote;
   clock = now;

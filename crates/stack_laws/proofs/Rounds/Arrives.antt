@@ -2,7 +2,9 @@
 use Rattle.std.proofs.Common.{◌≡◌, inl, inr, ℕ, suc, ◌+◌, ◌-◌, ◌*◌, ◌<◌, ◌≤◌, ℤ, pos, ◌+ℤ◌, ◌<ℤ◌, true, false, List, [], ◌∷◌, ◌++◌, length, Option, Some, None, refl, sym, ap, ◌∙◌, subst, arith}
 use Rattle.std.specs.Prelude.{max, slice_index_or}
 use Rattle.std.proofs.lemmas.Int.{ints}
+use Rattle.std.proofs.lemmas.List.{append_cancel_right}
 use Rattle.std.proofs.lemmas.Nat.{mul-le}
+use Rattle.tcp_control.specs.declared.endpoints.EndpointPair.{EndpointPair}
 use Rattle.tcp_model.specs.Blocks.{unacked}
 use Rattle.tcp_model.specs.Value.{TcpValue, queued_in, room_of}
 use Rattle.tcp_tie.specs.Pair.History.{pasts}
@@ -39,21 +41,26 @@ use Rattle.lan.specs.Worlds.Moves.Follows.{IsNetOf, sockets_of}
 use Rattle.lan.specs.Worlds.Settling.{Settles}
 use Rattle.lan.specs.Worlds.Still.{StillRun, seats_of}
 use Rattle.lan.proofs.Worlds.StillOnward.{ran}
+use Rattle.stack_laws.specs.Progress.Acquainted.{AreAcquainted}
 use Rattle.stack_laws.specs.Progress.ByEvents.{GoOnByEvents}
 use Rattle.stack_laws.specs.Progress.Edges.{edge_span}
 use Rattle.stack_laws.specs.Progress.Ends.{AreBoth, AreThroughout, AreUnstamped, IsConnected}
 use Rattle.stack_laws.specs.Progress.Events.{MoveBy, all_at, clock_in, untimed}
+use Rattle.stack_laws.specs.Progress.KnownHops.{IsUnmarkedAt, KnowEachOther}
 use Rattle.stack_laws.specs.Progress.Moving.{ComeInTime, GoOnByMoves, IsTcp, end_in, moves_of}
 use Rattle.stack_laws.specs.Progress.OneClock.{timed}
-use Rattle.stack_laws.specs.Progress.Reach.{AreInReach, hosts_before}
+use Rattle.stack_laws.specs.Progress.Reach.{hosts_before}
 use Rattle.stack_laws.specs.Progress.Serving.{AreEventsInTime, HasSpace, HasSpaceThroughout, IsAtHost}
 use Rattle.stack_laws.specs.Progress.Settled.{HasArrived}
-use Rattle.stack_laws.specs.Progress.Within.{GoAtOnce, MayBegin, MaySettle, enough_for, minutes_for, positions_in}
+use Rattle.stack_laws.specs.Progress.Within.{AskForNone, GoAtOnce, MayBegin, MaySettle, NobodyWaits, StayAcquainted, enough_for, minutes_for, positions_in}
 use Rattle.stack_laws.proofs.EventConnected.{StaysConnected, begins, of_one_net, stays_connected}
-use Rattle.stack_laws.proofs.EventFacts.{net_at}
-use Rattle.stack_laws.proofs.EventIdle.{waits_for_none}
+use Rattle.stack_laws.proofs.EventFacts.{both_now, net_at}
+use Rattle.stack_laws.proofs.EventHops.{all_know, no_address}
+use Rattle.stack_laws.proofs.EventIdle.{first_unmarked, none_wait}
 use Rattle.stack_laws.proofs.EventPartners.{go_on_by_events}
+use Rattle.stack_laws.proofs.EventReach.{ends_between}
 use Rattle.stack_laws.proofs.EventRoomy.{space_throughout}
+use Rattle.stack_laws.proofs.EventWaitless.{nobody_waits_throughout}
 use Rattle.stack_laws.proofs.Polls.Connected.{late_at}
 use Rattle.stack_laws.proofs.Polls.Fills.{fills_itself}
 use Rattle.stack_laws.proofs.Rounds.OneRun.{Once, runs_once}
@@ -147,13 +154,15 @@ in_time now few most last less long = first_of (omega (arith, ints, less, long),
 
 -- A WORLD
 
+one_pair : (a b : EndpointPair) → Some a ≡ Some b → a ≡ b
+one_pair a b e = cc
+
 pub rounds_go : (once : Once) (places : Side → ℕ) (from : ℤ) (budget rounds : ℕ) (rested : Option ℤ) (old new : WorldValue) (begin : MayBegin places from old)
     → Settles budget from rounds rested old new
     → Walk once old.starts begin.fresh places old.history (HasSettled once old.starts begin.fresh places old.history) new
 rounds_go once places from budget rounds rested old new begin settles =
-    walk_settled once old.starts begin.fresh places old.history
-    (λ more hosts typed still s. waits_for_none old.starts begin.fresh begin.medium begin.unmarked (more ++ old.history) hosts typed still s (places s))
-    budget from rounds rested old new settles (walk_begins once old begin.fresh places from begin.typed begin.run begin.clock begin.in_time)
+    walk_settled once old.starts begin.fresh places old.history budget from rounds rested old new settles
+    (walk_begins once old begin.fresh places from begin.typed begin.run begin.clock begin.in_time)
 
 -- the hosts behind the earlier events
 before_ran : (starts : Starts) (past more : List Entry) (hosts : Stations) (still : StillRun starts (more ++ past) hosts)
@@ -182,38 +191,93 @@ tcp_so (Some (Udp v)) P Q so is = absurd is
 tcp_so (Some Icmp) P Q so is = absurd is
 tcp_so (Some Raw) P Q so is = absurd is
 
+one_name : (o : Option Socket) (a b : EndpointPair) → IsTcp o (λ v. v.block.names.pair ≡ Some a) → IsTcp o (IsConnected b) → a ≡ b
+one_name None a b one two = absurd one
+one_name (Some (Tcp v)) a b one two = one_pair a b (sym one ∙ two.1)
+one_name (Some (Udp v)) a b one two = absurd one
+one_name (Some Icmp) a b one two = absurd one
+one_name (Some Raw) a b one two = absurd one
+
+-- AT FIRST
+
 module _ (once : Once) (places : Side → ℕ) (news : Side → NewSocket) (from : ℤ) (sockets : Side → TcpValue) (old new : WorldValue)
-    (may : MaySettle places news from sockets old new) (more : List Entry) (is : new.history ≡ more ++ old.history) (services : AreServices more)
-    (typed : AreTyped (more ++ old.history))
-    (go : (still : StillRun old.starts (more ++ old.history) new.hosts) → GoAtOnce old.starts places old.history more new.hosts still) where
+    (may : MaySettle places news from sockets old new) (more : List Entry) (still : StillRun old.starts (more ++ old.history) new.hosts) where
+  pub first_same : hosts_before old.starts old.history more new.hosts still ≡ old.hosts
+  first_same =
+      runs_once once old.starts old.history (unused_both old.starts) (hosts_before old.starts old.history more new.hosts still) old.hosts
+      (before_ran old.starts old.history more new.hosts still) may.begins.run
+
+  old_socket : (s : Side) → slice_index_or (sockets_of (station old.hosts s).places) (places s) None ≡ Some (Tcp (sockets s))
+  old_socket s = of_host old.starts old.history old.hosts s (places s) (sockets s) (may.are s)
+
+  at_first : (P : Side → TcpValue → Type 0) → ((s : Side) → P s (sockets s)) → AreBoth P places (hosts_before old.starts old.history more new.hosts still)
+  at_first P all =
+      λ s. subst (λ (x : Stations). IsAtHost (places s) (station x s) (P s)) (sym first_same)
+      (subst (λ (o : Option Socket). IsTcp o (P s)) (sym (old_socket s)) (all s))
+
+  pub connects : AreTyped (more ++ old.history) → StaysConnected old.starts places old.history more new.hosts still
+  connects typed =
+      stays_connected old.starts old.history more new.hosts places news may.begins.fresh typed still may.new_sockets may.keys may.text may.partners
+      (at_first (λ s v. IsOpen v.block) may.opened) may.stay
+
+-- BETWEEN HOSTS THAT KNOW EACH OTHER
+
+module _ (once : Once) (places : Side → ℕ) (news : Side → NewSocket) (from : ℤ) (sockets : Side → TcpValue) (old new : WorldValue)
+    (may : MaySettle places news from sockets old new) (they : StayAcquainted places old new) (services : AreServices they.more)
+    (typed : AreTyped (they.more ++ old.history))
+    (go : NobodyWaits old.starts places old.history they.more new.hosts they.still
+    → GoAtOnce old.starts places old.history they.more new.hosts they.still) where
   abbrev starts : Starts
   starts = old.starts
 
   abbrev past : List Entry
   past = old.history
 
+  abbrev more : List Entry
+  more = they.more
+
   abbrev hosts : Stations
   hosts = new.hosts
 
-  still : StillRun starts (more ++ past) hosts
-  still = subst (λ (h : List Entry). StillRun starts h hosts) is may.still
-
-  abbrev goes : GoAtOnce starts places past more hosts still
-  goes = go still
+  abbrev still : StillRun starts (more ++ past) hosts
+  still = they.still
 
   abbrev first : Stations
   first = hosts_before starts past more hosts still
 
-  first_same : first ≡ old.hosts
-  first_same = runs_once once starts past (unused_both starts) first old.hosts (before_ran starts past more hosts still) may.begins.run
+  abbrev same_first : first ≡ old.hosts
+  same_first = first_same once places news from sockets old new may more still
 
-  old_socket : (s : Side) → slice_index_or (sockets_of (station old.hosts s).places) (places s) None ≡ Some (Tcp (sockets s))
-  old_socket s = of_host starts past old.hosts s (places s) (sockets s) (may.are s)
+  abbrev first_so : (P : Side → TcpValue → Type 0) → ((s : Side) → P s (sockets s)) → AreBoth P places first
+  first_so P all = at_first once places news from sockets old new may more still P all
 
-  at_first : (P : Side → TcpValue → Type 0) → ((s : Side) → P s (sockets s)) → AreBoth P places first
-  at_first P all =
-      λ s. subst (λ (x : Stations). IsAtHost (places s) (station x s) (P s)) (sym first_same)
-      (subst (λ (o : Option Socket). IsTcp o (P s)) (sym (old_socket s)) (all s))
+  abbrev connection : StaysConnected starts places past more hosts still
+  connection = connects once places news from sockets old new may more still typed
+
+  -- NOBODY WAITS
+
+  connected_now : AreBoth (λ s. IsConnected (connection.pairs s)) places hosts
+  connected_now = both_now (λ s. IsConnected (connection.pairs s)) starts places past more hosts still connection.connected
+
+  same_name : (s : Side) → they.pairs s ≡ connection.pairs s
+  same_name s =
+      one_name (slice_index_or (sockets_of (station hosts s).places) (places s) None) (they.pairs s) (connection.pairs s) (they.named s) (connected_now s)
+
+  same_names : they.pairs ≡ connection.pairs
+  same_names = λ k s. same_name s k
+
+  known : KnowEachOther they.own connection.pairs starts past more hosts still
+  known = subst (λ (names : Side → EndpointPair). KnowEachOther they.own names starts past more hosts still) same_names they.known
+
+  nobody : NobodyWaits starts places past more hosts still
+  nobody =
+      nobody_waits_throughout starts past more hosts still places they.own connection.pairs connection.connected known
+      (λ s. subst (λ (x : Stations). IsUnmarkedAt (places s) (station x s)) (sym same_first) (they.unmarked s))
+
+  abbrev goes : GoAtOnce starts places past more hosts still
+  goes = go nobody
+
+  -- THE EVENTS
 
   abbrev events : (between : Stations) × GoOnByEvents starts past between more hosts still places
   events = go_on_by_events starts past more hosts places news may.begins.fresh typed still may.new_sockets may.keys may.text may.partners
@@ -235,15 +299,10 @@ module _ (once : Once) (places : Side → ℕ) (news : Side → NewSocket) (from
 
   -- WHAT STAYS
 
-  abbrev connection : StaysConnected starts places past more hosts still
-  connection =
-      stays_connected starts past more hosts places news may.begins.fresh typed still may.new_sockets may.keys may.text may.partners
-      (at_first (λ s v. IsOpen v.block) may.opened) may.stay
-
   stays : AreThroughout (Stays places sockets) starts places past more hosts still
   stays =
       stay_throughout places sockets starts net past more hosts still by.steps by.of_events services
-      (at_first (Stays places sockets)
+      (first_so (Stays places sockets)
       (λ s. record {
         late = late_at (sockets s).block.state (may.opened s).synchronized;
         closed = λ over. over;
@@ -279,7 +338,7 @@ module _ (once : Once) (places : Side → ℕ) (news : Side → NewSocket) (from
 
   events_in_time : (s : Side) → AreEventsInTime starts places 0 0 s past between more hosts still
   events_in_time s = record {
-    opened = then_between (λ s v. IsOpen v.block) (at_first (λ s v. IsOpen v.block) may.opened);
+    opened = then_between (λ s v. IsOpen v.block) (first_so (λ s v. IsOpen v.block) may.opened);
     stay = may.stay;
     clock = may.clocks s;
     one_clock = goes.one_clock;
@@ -289,9 +348,14 @@ module _ (once : Once) (places : Side → ℕ) (news : Side → NewSocket) (from
     room = then_between (λ s v. 1 ≤ room_of v.received) some_room (other s);
   }
 
-  reach : AreInReach starts 0 past more hosts still
-  reach = record {
-    medium = may.begins.medium;
+  acquainted : AreAcquainted starts places 0 past more hosts still
+  acquainted = record {
+    own = they.own;
+    medium = they.medium;
+    pairs = connection.pairs;
+    ends = ends_between starts past more hosts places may.begins.fresh typed still connection;
+    known = known;
+    connected = connection.connected;
     leave = leave_throughout starts past more hosts still services may.leave;
     on_way = goes.on_way;
     carried = goes.carried;
@@ -305,7 +369,7 @@ module _ (once : Once) (places : Side → ℕ) (news : Side → NewSocket) (from
 
   come : ComeInTime 0 0 0 (clock_in past) seats by.goes.clocks net moves
   come =
-      by.in_time_in_reach moves by.numbers.1 0 0 0 events_in_time (λ s. streams_stay past more s (places s) services (may.streams s)) reach
+      by.in_time_where_known moves by.numbers.1 0 0 0 events_in_time (λ s. streams_stay past more s (places s) services (may.streams s)) acquainted
       (by.fresh_without_timestamps moves by.numbers.1 unstamped)
 
   abbrev p : PairValue
@@ -347,7 +411,8 @@ module _ (once : Once) (places : Side → ℕ) (news : Side → NewSocket) (from
   socket s =
       same_tcp (socket_of p (side_in s)) (sockets s)
       (sym (by.goes.reached.shows.socket s) ∙ ap (λ (xs : List (Option Socket)). slice_index_or xs (places s) None) (of_first.sockets s)
-      ∙ ap (λ (x : Stations). slice_index_or (sockets_of (station x s).places) (places s) None) first_same ∙ old_socket s)
+      ∙ ap (λ (x : Stations). slice_index_or (sockets_of (station x s).places) (places s) None) same_first
+      ∙ old_socket once places news from sockets old new may more still s)
 
   begun : (s : Side) → IsBegun p (side_in s)
   begun s = begun_by p (side_in s) by.goes.reached.reached (subst (λ (v : TcpValue). IsOpen v.block) (sym (socket s)) (may.opened s))
@@ -363,7 +428,7 @@ module _ (once : Once) (places : Side → ℕ) (news : Side → NewSocket) (from
   end_is : end_in (clock_in past) moves ≡ clock_in new.history
   end_is =
       end_timed moves (clock_in past) ∙ ap (ends (clock_in past)) by.numbers.1 ∙ ends_now starts net past more hosts still by.steps by.of_events
-      ∙ ap clock_in (sym is)
+      ∙ ap clock_in (sym they.history)
 
   module _ (long : (clock_in past +ℤ pos (enough_for past places sockets)) <ℤ clock_in new.history) where
     through : (side : Side) → IsThroughAmong p (side_in side) (events_of_moves seats by.goes.clocks (moves_of moves))
@@ -401,7 +466,7 @@ module _ (once : Once) (places : Side → ℕ) (news : Side → NewSocket) (from
 
     pub arrives : (side : Side) (v w : TcpValue) → IsTcpAt (net_of new) side (places side) v → IsTcpAt (net_of new) (other side) (places (other side)) w
         → HasArrived (net_of new) side (places side) (places (other side)) v w
-    arrives side v w = subst (Comes side v w) (sym is) (has_arrived side v w)
+    arrives side v w = subst (Comes side v w) (sym they.history) (has_arrived side v w)
 
 -- WHAT THE ROUNDS SAY
 
@@ -410,20 +475,93 @@ module _ (once : Once) (places : Side → ℕ) (from : ℤ) (budget rounds : ℕ
   abbrev walked : Walk once old.starts begin.fresh places old.history (HasSettled once old.starts begin.fresh places old.history) new
   walked = rounds_go once places from budget rounds rested old new begin settles
 
-  pub at_once : (still : StillRun old.starts (walked.more ++ old.history) new.hosts) → GoAtOnce old.starts places old.history walked.more new.hosts still
-  at_once still =
-      let it = walked.goes still in
+  at_once : (still : StillRun old.starts (walked.more ++ old.history) new.hosts) → NobodyWaits old.starts places old.history walked.more new.hosts still
+      → GoAtOnce old.starts places old.history walked.more new.hosts still
+  at_once still nobody =
+      let it = walked.goes still nobody in
       record { one_clock = it.3.keeps; on_way = it.2.on_way; carried = it.2.carried; at_once = it.3.at_once }
 
+  abbrev ServeAtOnce : List Entry → Type 0
+  ServeAtOnce more =
+      (still : StillRun old.starts (more ++ old.history) new.hosts) → NobodyWaits old.starts places old.history more new.hosts still
+      → GoAtOnce old.starts places old.history more new.hosts still
+
   pub by_rounds : (more : List Entry) × (new.history ≡ more ++ old.history) × AreServices more × AreTyped (more ++ old.history)
-      × WorldRun (more ++ old.history) (unused_both old.starts) new.hosts × (new.starts ≡ old.starts)
-      × ((still : StillRun old.starts (more ++ old.history) new.hosts) → GoAtOnce old.starts places old.history more new.hosts still)
+      × WorldRun (more ++ old.history) (unused_both old.starts) new.hosts × (new.starts ≡ old.starts) × ServeAtOnce more
   by_rounds = (walked.more, walked.history, walked.services, walked.typed, walked.run, walked.same_starts, at_once)
 
-pub arrives_in_time : (once : Once) (old new : WorldValue) (places : Side → ℕ) (news : Side → NewSocket) (sockets : Side → TcpValue) (budget : ℕ) (from : ℤ) (rounds : ℕ)
-    (rested : Option ℤ) (side : Side) (v w : TcpValue) → MaySettle places news from sockets old new → Settles budget from rounds rested old new
-    → (clock_in old.history +ℤ pos (enough_for old.history places sockets)) <ℤ clock_in new.history → IsTcpAt (net_of new) side (places side) v
-    → IsTcpAt (net_of new) (other side) (places (other side)) w → HasArrived (net_of new) side (places side) (places (other side)) v w
-arrives_in_time once old new places news sockets budget from rounds rested side v w may settles long =
+  -- so it is of any events by which the one world became the other
+  module _ (these : List Entry) (is : new.history ≡ these ++ old.history) where
+    same_events : walked.more ≡ these
+    same_events = append_cancel_right walked.more these old.history (sym walked.history ∙ is)
+
+    pub of_services : AreServices these
+    of_services = subst AreServices same_events walked.services
+
+    pub of_typed : AreTyped (these ++ old.history)
+    of_typed = subst (λ (m : List Entry). AreTyped (m ++ old.history)) same_events walked.typed
+
+    pub of_course : ServeAtOnce these
+    of_course = subst ServeAtOnce same_events at_once
+
+pub arrives_where_known : (once : Once) (old new : WorldValue) (places : Side → ℕ) (news : Side → NewSocket) (sockets : Side → TcpValue) (budget : ℕ) (from : ℤ)
+    (rounds : ℕ) (rested : Option ℤ) (side : Side) (v w : TcpValue) → MaySettle places news from sockets old new → StayAcquainted places old new
+    → Settles budget from rounds rested old new → (clock_in old.history +ℤ pos (enough_for old.history places sockets)) <ℤ clock_in new.history
+    → IsTcpAt (net_of new) side (places side) v → IsTcpAt (net_of new) (other side) (places (other side)) w
+    → HasArrived (net_of new) side (places side) (places (other side)) v w
+arrives_where_known once old new places news sockets budget from rounds rested side v w may they settles long =
+    arrives once places news from sockets old new may they (of_services once places from budget rounds rested old new may.begins settles they.more they.history)
+    (of_typed once places from budget rounds rested old new may.begins settles they.more they.history)
+    (of_course once places from budget rounds rested old new may.begins settles they.more they.history they.still) long side v w
+
+-- OVER A MEDIUM WITHOUT HARDWARE ADDRESSES hosts know each other
+
+pub stay_acquainted : (once : Once) (places : Side → ℕ) (news : Side → NewSocket) (from : ℤ) (sockets : Side → TcpValue) (old new : WorldValue)
+    (may : MaySettle places news from sockets old new) → AskForNone old.starts → (more : List Entry) → new.history ≡ more ++ old.history
+    → AreTyped (more ++ old.history) → StayAcquainted places old new
+stay_acquainted once places news from sockets old new may none more is typed =
+    let still : StillRun old.starts (more ++ old.history) new.hosts = subst (λ (h : List Entry). StillRun old.starts h new.hosts) is may.still in
+    let connection = connects once places news from sockets old new may more still typed in
+    record {
+      more = more;
+      history = is;
+      still = still;
+      own = no_address;
+      medium = λ side. record { from = tt; receiver = tt };
+      pairs = connection.pairs;
+      named = λ s.
+          tcp_so (slice_index_or (sockets_of (station new.hosts s).places) (places s) None) (IsConnected (connection.pairs s))
+          (λ v. v.block.names.pair ≡ Some (connection.pairs s)) (λ v connected. connected.1)
+          (both_now (λ s. IsConnected (connection.pairs s)) old.starts places old.history more new.hosts still connection.connected s);
+      known = all_know old.starts may.begins.fresh none.medium connection.pairs old.history more new.hosts still typed;
+      unmarked = λ s.
+          subst (λ (x : Stations). IsUnmarkedAt (places s) (station x s)) (first_same once places news from sockets old new may more still)
+          (first_unmarked old.starts may.begins.fresh none.medium none.unmarked old.history more new.hosts still typed s (places s));
+    }
+
+pub arrives_in_time : (once : Once) (old new : WorldValue) (places : Side → ℕ) (news : Side → NewSocket) (sockets : Side → TcpValue) (budget : ℕ) (from : ℤ)
+    (rounds : ℕ) (rested : Option ℤ) (side : Side) (v w : TcpValue) → MaySettle places news from sockets old new → AskForNone old.starts
+    → Settles budget from rounds rested old new → (clock_in old.history +ℤ pos (enough_for old.history places sockets)) <ℤ clock_in new.history
+    → IsTcpAt (net_of new) side (places side) v → IsTcpAt (net_of new) (other side) (places (other side)) w
+    → HasArrived (net_of new) side (places side) (places (other side)) v w
+arrives_in_time once old new places news sockets budget from rounds rested side v w may none settles long =
     let (more, is, services, typed, run, same, go) = by_rounds once places from budget rounds rested old new may.begins settles in
-    arrives once places news from sockets old new may more is services typed go long side v w
+    arrives_where_known once old new places news sockets budget from rounds rested side v w may
+    (stay_acquainted once places news from sockets old new may none more is typed) settles long
+
+-- and nobody waits
+pub by_rounds_at_once : (once : Once) (old new : WorldValue) (places : Side → ℕ) (budget : ℕ) (from : ℤ) (rounds : ℕ) (rested : Option ℤ)
+    → MayBegin places from old → AskForNone old.starts → Settles budget from rounds rested old new
+    → (more : List Entry) × (new.history ≡ more ++ old.history) × AreServices more × AreTyped (more ++ old.history)
+    × WorldRun (more ++ old.history) (unused_both old.starts) new.hosts × (new.starts ≡ old.starts)
+    × ((still : StillRun old.starts (more ++ old.history) new.hosts) → GoAtOnce old.starts places old.history more new.hosts still)
+by_rounds_at_once once old new places budget from rounds rested begin none settles =
+    let (more, is, services, typed, run, same, go) = by_rounds once places from budget rounds rested old new begin settles in (
+      more,
+      is,
+      services,
+      typed,
+      run,
+      same,
+      λ still. go still (none_wait old.starts begin.fresh none.medium none.unmarked old.history more new.hosts still places typed),
+    )

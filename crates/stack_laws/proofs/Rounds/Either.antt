@@ -26,8 +26,8 @@ use Rattle.lan.proofs.Worlds.StillOnward.{ran}
 use Rattle.stack_laws.specs.Progress.Events.{clock_in}
 use Rattle.stack_laws.specs.Progress.Moving.{IsTcp}
 use Rattle.stack_laws.specs.Progress.Settled.{HasArrived, IsConnected}
-use Rattle.stack_laws.specs.Progress.Within.{MaySettle, enough_for}
-use Rattle.stack_laws.proofs.Rounds.Arrives.{arrives_in_time, by_rounds}
+use Rattle.stack_laws.specs.Progress.Within.{AskForNone, MaySettle, StayAcquainted, enough_for}
+use Rattle.stack_laws.proofs.Rounds.Arrives.{arrives_in_time, arrives_where_known, by_rounds}
 use Rattle.stack_laws.proofs.Rounds.OneRun.{Once}
 use Rattle.stack_laws.proofs.Settled.{arrived, of_host, wants_nothing}
 use Rattle.stack_laws.proofs.StillPartners.{partners_stay}
@@ -88,7 +88,13 @@ module _ (once : Once) (old new : WorldValue) (places : Side → ℕ) (news : Si
       (subst (λ (h : List Entry). ArePartners h A (places A) (places B)) (sym is) (partners_stay old.history more A (places A) (places B) may.partners)) side v w
       none.0 here there connected none.1
 
-  pub either : (rests : Option ℤ) → Settles budget from rounds rests old new
+  late : (rests : Option ℤ) → Settles budget from rounds rests old new → AskForNone old.starts ⊎ StayAcquainted places old new
+      → (clock_in old.history +ℤ pos (enough_for old.history places sockets)) <ℤ clock_in new.history → Arrived
+  late rests settles (inl none) long = arrives_in_time once old new places news sockets budget from rounds rests side v w may none settles long here there
+  late rests settles (inr they) long =
+      arrives_where_known once old new places news sockets budget from rounds rests side v w may they settles long here there
+
+  pub either : (rests : Option ℤ) → AskForNone old.starts ⊎ StayAcquainted places old new → Settles budget from rounds rests old new
       → ((moment : ℤ) × (rests ≡ Some moment)) ⊎ ((clock_in old.history +ℤ pos (enough_for old.history places sockets)) <ℤ clock_in new.history) → Arrived
-  either rests settles (inl (moment, is)) = rested moment (subst (λ (o : Option ℤ). Settles budget from rounds o old new) is settles)
-  either rests settles (inr long) = arrives_in_time once old new places news sockets budget from rounds rests side v w may settles long here there
+  either rests know settles (inl (moment, is)) = rested moment (subst (λ (o : Option ℤ). Settles budget from rounds o old new) is settles)
+  either rests know settles (inr long) = late rests settles know long

@@ -24,6 +24,7 @@ use Rattle.lan.proofs.Worlds.StillOnward.{ran}
 use Rattle.stack_laws.specs.Progress.AtOnce.{IsByThen}
 use Rattle.stack_laws.specs.Progress.Events.{clock_in}
 use Rattle.stack_laws.specs.Progress.Serving.{WaitsForNone, WantsAt}
+use Rattle.stack_laws.specs.Progress.Within.{NobodyWaits}
 use Rattle.stack_laws.proofs.EventAnswers.{soon}
 use Rattle.stack_laws.proofs.Rounds.Events.{Carries, Clocked, all_came, ask_carries, ask_clocked, deliver_carries, deliver_clocked, entry, fewer_carried, poll_carries, poll_clocked, sent_stays}
 use Rattle.stack_laws.proofs.Rounds.OnWay.{with_count}
@@ -95,7 +96,14 @@ module _ (once : Once) (starts : Starts) (fresh : IsFreshWorld starts) (places :
   abbrev Still : List Entry → Stations → Type 0
   Still more hosts = StillRun starts (more ++ past) hosts
 
-  -- services led to this world, and however its hosts were still, something holds of it
+  abbrev Free : (more : List Entry) (hosts : Stations) → Still more hosts → Type 0
+  Free more hosts still = NobodyWaits starts places past more hosts still
+
+  free_now : (more : List Entry) (hosts : Stations) (still : Still more hosts) → Free more hosts still → (s : Side) → WaitsForNone (places s) (station hosts s)
+  free_now [] hosts still free = free
+  free_now (e ∷ more) hosts still free = free.1
+
+  -- services led to this world, and however its hosts were still, where nobody waited for a neighbor, something holds of it
   pub record Walk (Holds : (more : List Entry) (hosts : Stations) → Still more hosts → Type 0) (w : WorldValue) : Type 0 where
     pub more : List Entry
     pub history : w.history ≡ more ++ past
@@ -103,13 +111,13 @@ module _ (once : Once) (starts : Starts) (fresh : IsFreshWorld starts) (places :
     pub services : AllByRecursion (λ e. IsService e.event) more
     pub typed : AreTyped (more ++ past)
     pub run : WorldRun (more ++ past) (unused_both starts) w.hosts
-    pub goes : (still : Still more w.hosts) → Holds more w.hosts still
+    pub goes : (still : Still more w.hosts) → Free more w.hosts still → Holds more w.hosts still
 
   same_end : (more : List Entry) (one other : Stations) → WorldRun (more ++ past) (unused_both starts) one → Still more other → one ≡ other
   same_end more one other run still = runs_once once starts (more ++ past) (unused_both starts) one other run (ran starts (more ++ past) other still)
 
   module _ (Holds Then : (more : List Entry) (hosts : Stations) → Still more hosts → Type 0) where
-    walk_map : (w : WorldValue) → ((more : List Entry) (still : Still more w.hosts) → AreTyped (more ++ past) → Holds more w.hosts still → Then more w.hosts still)
+    walk_map : (w : WorldValue) → ((more : List Entry) (still : Still more w.hosts) → Free more w.hosts still → Holds more w.hosts still → Then more w.hosts still)
         → Walk Holds w → Walk Then w
     walk_map w by walk = record {
       more = walk.more;
@@ -118,7 +126,7 @@ module _ (once : Once) (starts : Starts) (fresh : IsFreshWorld starts) (places :
       services = walk.services;
       typed = walk.typed;
       run = walk.run;
-      goes = λ still. by walk.more still walk.typed (walk.goes still);
+      goes = λ still free. by walk.more still free (walk.goes still free);
     }
 
     walk_step : (w w' : WorldValue) (event : Event) (answer : Answer) → IsService event → Step w event answer w'
@@ -132,8 +140,8 @@ module _ (once : Once) (starts : Starts) (fresh : IsFreshWorld starts) (places :
       services = (is, walk.services);
       typed = (service_typed event is, walk.typed);
       run = (w.hosts, walk.run, leads);
-      goes = λ still.
-          by step.entry.before step.entry.found walk.more w'.hosts still (service_typed event is, walk.typed) (before still.0 still.1);
+      goes = λ still free.
+          by step.entry.before step.entry.found walk.more w'.hosts still (service_typed event is, walk.typed) (before still.0 still.1 free.0);
     } where
       kept : step.entry ≡ entry event answer step.entry.before step.entry.found
       kept = λ k. record { event = step.event_kept k; answer = step.answer_kept k; before = step.entry.before; found = step.entry.found }
@@ -143,9 +151,10 @@ module _ (once : Once) (starts : Starts) (fresh : IsFreshWorld starts) (places :
           subst (λ (h : List Entry). Leads h w.hosts (entry event answer step.entry.before step.entry.found) w'.hosts) walk.history
           (subst (λ (x : Entry). Leads w.history w.hosts x w'.hosts) kept step.leads)
 
-      before : (hosts : Stations) (still : Still walk.more hosts) → Holds walk.more hosts still
+      before : (hosts : Stations) (still : Still walk.more hosts) → Free walk.more hosts still → Holds walk.more hosts still
       before hosts still =
-          subst (λ (x : Stations). (s : Still walk.more x) → Holds walk.more x s) (same_end walk.more w.hosts hosts walk.run still) walk.goes still
+          subst (λ (x : Stations). (s : Still walk.more x) → Free walk.more x s → Holds walk.more x s) (same_end walk.more w.hosts hosts walk.run still)
+          walk.goes still
 
   -- WHAT HOLDS DURING A ROUND
 
@@ -156,7 +165,7 @@ module _ (once : Once) (starts : Starts) (fresh : IsFreshWorld starts) (places :
   lower : (moment : ℤ) (j k : Side → ℕ) (w : WorldValue) → ((s : Side) → j s ≤ k s) → Walk (During moment moment k) w → Walk (During moment moment j) w
   lower moment j k w less =
       walk_map (During moment moment k) (During moment moment j) w
-      (λ more still typed d. (fewer_carried starts fresh places past moment j k more w.hosts still less d.0, d.1))
+      (λ more still free d. (fewer_carried starts fresh places past moment j k more w.hosts still less d.0, d.1))
 
   -- FRAMES ARE HANDED OVER
 
@@ -169,7 +178,7 @@ module _ (once : Once) (starts : Starts) (fresh : IsFreshWorld starts) (places :
       let same : m ≡ j = omega (arith, is) in
       subst (λ (x : WorldValue). Walk (During moment moment (with_count side m k)) x) (sym steps)
       (subst (λ (x : ℕ). Walk (During moment moment (with_count side x k)) w) (sym same)
-      (walk_map (Handing moment side j 0 k) (During moment moment (with_count side j k)) w (λ more still typed h. h.0) walk))
+      (walk_map (Handing moment side j 0 k) (During moment moment (with_count side j k)) w (λ more still free h. h.0) walk))
   walk_deliveries moment side k (suc n) j m w w' is (answer, next, step, rest) walk =
       walk_deliveries moment side k n (suc j) m next w' (omega (arith, is)) rest
       (walk_step (Handing moment side j (suc n) k) (Handing moment side (suc j) n k) w next (E.Deliver side j []) answer refl step
@@ -208,7 +217,7 @@ module _ (once : Once) (starts : Starts) (fresh : IsFreshWorld starts) (places :
       )) walk in
       walk_deliveries moment side k (now - handed) handed (handed + (now - handed)) served.polled new refl served.delivers
       (walk_map (During moment moment (with_count side handed k)) (Handing moment side handed (now - handed) k) served.polled
-      (λ more still typed d. (
+      (λ more still free d. (
         d,
         no_more handed now (length (station served.polled.hosts side).link.sent)
             (subst (λ (n : ℕ). n ≤ length (station served.polled.hosts side).link.sent) (own_count side handed k) (d.0.few side))
@@ -291,82 +300,82 @@ module _ (once : Once) (starts : Starts) (fresh : IsFreshWorld starts) (places :
   HasSettled more hosts still =
       (moment : ℤ) × (k : Side → ℕ) × Carries starts fresh places past moment k more hosts still × Clocked starts fresh places past moment more hosts still
 
-  -- where no socket waits for a neighbor
-  module _ (idle : (more : List Entry) (hosts : Stations) → AreTyped (more ++ past) → Still more hosts → (s : Side) → WaitsForNone (places s) (station hosts s)) where
-    then_soon : (next moment : ℤ) (k : Side → ℕ) (a b : Option ℤ) (w : WorldValue) → Next moment next a b → Walk (AskedBoth next moment k a b) w
-        → Walk (During next next k) w
-    then_soon next moment k a b w up =
-        walk_map (AskedBoth next moment k a b) (During next next k) w
-        (λ more still typed d. (
-          d.0.0,
-          record {
-            keeps = d.0.1.keeps;
-            clock = in_turn (clock_in (more ++ past)) moment next d.0.1.clock up.0;
-            at_once = d.0.1.at_once;
-            soon = λ s due.
-                soon starts places (more ++ past) d.1.1 d.1.0 w.hosts still moment a b d.1.2 d.1.3 (idle more w.hosts typed still) next up.1 s due;
-          },
-        ))
+  -- THE CLOCK GOES ON
 
-    -- A ROUND
+  then_soon : (next moment : ℤ) (k : Side → ℕ) (a b : Option ℤ) (w : WorldValue) → Next moment next a b → Walk (AskedBoth next moment k a b) w
+      → Walk (During next next k) w
+  then_soon next moment k a b w up =
+      walk_map (AskedBoth next moment k a b) (During next next k) w
+      (λ more still free d. (
+        d.0.0,
+        record {
+          keeps = d.0.1.keeps;
+          clock = in_turn (clock_in (more ++ past)) moment next d.0.1.clock up.0;
+          at_once = d.0.1.at_once;
+          soon = λ s due.
+              soon starts places (more ++ past) d.1.1 d.1.0 w.hosts still moment a b d.1.2 d.1.3 (free_now more w.hosts still free) next up.1 s due;
+        },
+      ))
 
-    calm_sent : (handed : Handed) (w : WorldValue) → IsCalm handed w → (s : Side) → length (station w.hosts s).link.sent ≤ of handed s
-    calm_sent handed w calm A = let is = ap (λ (h : Handed). h.a) calm.0 in omega (arith, is)
-    calm_sent handed w calm B = let is = ap (λ (h : Handed). h.b) calm.0 in omega (arith, is)
+  -- A ROUND
 
-    calm_waiting : (handed : Handed) (w : WorldValue) → IsCalm handed w → (s : Side) → (station w.hosts s).link.waiting ≡ []
-    calm_waiting handed w calm A = calm.1
-    calm_waiting handed w calm B = calm.2
+  calm_sent : (handed : Handed) (w : WorldValue) → IsCalm handed w → (s : Side) → length (station w.hosts s).link.sent ≤ of handed s
+  calm_sent handed w calm A = let is = ap (λ (h : Handed). h.a) calm.0 in omega (arith, is)
+  calm_sent handed w calm B = let is = ap (λ (h : Handed). h.b) calm.0 in omega (arith, is)
 
-    walk_on : (budget : ℕ) (moment : ℤ) (handed now : Handed) (next : ℤ) (before new : WorldValue) → IsRound budget moment handed now (Some next) before new
-        → Walk (During moment moment (of handed)) before → Walk (During next next (of now)) new
-    walk_on budget moment handed now next before new (served, both, inl (under_way, is, same)) walk =
-        let at : next ≡ moment = some_same next moment is in
-        subst (λ (w : WorldValue). Walk (During next next (of now)) w) (sym same)
-        (subst (λ (t : ℤ). Walk (During t t (of now)) served) (sym at)
-        (lower moment (of now) (then_handed handed now) served (now_handed handed now) (walk_both moment budget handed now before served both walk)))
-    walk_on budget moment handed now next before new (served, both, inr (calm, a, b, asked, is)) walk =
-        let up : Next moment next a b = next_soon moment next a b is in
-        then_soon next moment (of now) a b new up
-        (walk_asked next moment (of now) a b served new up.0 asked
-        (walk_map (During moment moment (then_handed handed now)) (During next moment (of now)) served
-        (λ more still typed d. (
-          all_came starts fresh places past moment next (of handed) (of now) (then_handed handed now) more served.hosts still (was_handed handed now) (now_handed handed now)
-              (calm_sent handed served calm) (calm_waiting handed served calm) d.0,
-          d.1,
-        )) (walk_both moment budget handed now before served both walk)))
+  calm_waiting : (handed : Handed) (w : WorldValue) → IsCalm handed w → (s : Side) → (station w.hosts s).link.waiting ≡ []
+  calm_waiting handed w calm A = calm.1
+  calm_waiting handed w calm B = calm.2
 
-    none_some : {X : Type 0} (t : ℤ) → None ≡ Some t → X
-    none_some t is = absurd (cc)
+  walk_on : (budget : ℕ) (moment : ℤ) (handed now : Handed) (next : ℤ) (before new : WorldValue) → IsRound budget moment handed now (Some next) before new
+      → Walk (During moment moment (of handed)) before → Walk (During next next (of now)) new
+  walk_on budget moment handed now next before new (served, both, inl (under_way, is, same)) walk =
+      let at : next ≡ moment = some_same next moment is in
+      subst (λ (w : WorldValue). Walk (During next next (of now)) w) (sym same)
+      (subst (λ (t : ℤ). Walk (During t t (of now)) served) (sym at)
+      (lower moment (of now) (then_handed handed now) served (now_handed handed now) (walk_both moment budget handed now before served both walk)))
+  walk_on budget moment handed now next before new (served, both, inr (calm, a, b, asked, is)) walk =
+      let up : Next moment next a b = next_soon moment next a b is in
+      then_soon next moment (of now) a b new up
+      (walk_asked next moment (of now) a b served new up.0 asked
+      (walk_map (During moment moment (then_handed handed now)) (During next moment (of now)) served
+      (λ more still free d. (
+        all_came starts fresh places past moment next (of handed) (of now) (then_handed handed now) more served.hosts still (was_handed handed now) (now_handed handed now)
+            (calm_sent handed served calm) (calm_waiting handed served calm) d.0,
+        d.1,
+      )) (walk_both moment budget handed now before served both walk)))
 
-    -- and the last one
-    walk_end : (budget : ℕ) (moment : ℤ) (handed now : Handed) (before new : WorldValue) → IsRound budget moment handed now None before new
-        → Walk (During moment moment (of handed)) before → Walk (During moment moment (of now)) new
-    walk_end budget moment handed now before new (served, both, inl (under_way, is, same)) walk = none_some moment is
-    walk_end budget moment handed now before new (served, both, inr (calm, a, b, asked, is)) walk =
-        walk_map (AskedBoth moment moment (of now) a b) (During moment moment (of now)) new (λ more still typed d. d.0)
-        (walk_asked moment moment (of now) a b served new (no_earlier moment) asked
-        (lower moment (of now) (then_handed handed now) served (now_handed handed now) (walk_both moment budget handed now before served both walk)))
+  none_some : {X : Type 0} (t : ℤ) → None ≡ Some t → X
+  none_some t is = absurd (cc)
 
-    -- ROUNDS
+  -- and the last one
+  walk_end : (budget : ℕ) (moment : ℤ) (handed now : Handed) (before new : WorldValue) → IsRound budget moment handed now None before new
+      → Walk (During moment moment (of handed)) before → Walk (During moment moment (of now)) new
+  walk_end budget moment handed now before new (served, both, inl (under_way, is, same)) walk = none_some moment is
+  walk_end budget moment handed now before new (served, both, inr (calm, a, b, asked, is)) walk =
+      walk_map (AskedBoth moment moment (of now) a b) (During moment moment (of now)) new (λ more still free d. d.0)
+      (walk_asked moment moment (of now) a b served new (no_earlier moment) asked
+      (lower moment (of now) (then_handed handed now) served (now_handed handed now) (walk_both moment budget handed now before served both walk)))
 
-    walk_rounds : (budget : ℕ) (from : ℤ) (old : WorldValue) (n : ℕ) (next : ℤ) (handed : Handed) (new : WorldValue) → Rounds budget from old n next handed new
-        → Walk (During from from (of (all_sent old))) old → Walk (During next next (of handed)) new
-    walk_rounds budget from old zero next handed new (at, are, same) walk =
-        subst (λ (w : WorldValue). Walk (During next next (of handed)) w) (sym same)
-        (subst (λ (h : Handed). Walk (During next next (of h)) old) (sym are)
-        (subst (λ (t : ℤ). Walk (During t t (of (all_sent old))) old) (sym at) walk))
-    walk_rounds budget from old (suc n) next now new (moment, handed, before, rounds, round) walk =
-        walk_on budget moment handed now next before new round (walk_rounds budget from old n moment handed before rounds walk)
+  -- ROUNDS
 
-    pub walk_settled : (budget : ℕ) (from : ℤ) (rounds : ℕ) (rested : Option ℤ) (old new : WorldValue) → Settles budget from rounds rested old new
-        → Walk (During from from (of (all_sent old))) old → Walk HasSettled new
-    walk_settled budget from rounds (Some moment) old new (n, few, handed, now, before, ran_so, round) walk =
-        walk_map (During moment moment (of now)) HasSettled new (λ more still typed d. (moment, of now, d.0, d.1))
-        (walk_end budget moment handed now before new round (walk_rounds budget from old n moment handed before ran_so walk))
-    walk_settled budget from rounds None old new (next, handed, ran_so) walk =
-        walk_map (During next next (of handed)) HasSettled new (λ more still typed d. (next, of handed, d.0, d.1))
-        (walk_rounds budget from old rounds next handed new ran_so walk)
+  walk_rounds : (budget : ℕ) (from : ℤ) (old : WorldValue) (n : ℕ) (next : ℤ) (handed : Handed) (new : WorldValue) → Rounds budget from old n next handed new
+      → Walk (During from from (of (all_sent old))) old → Walk (During next next (of handed)) new
+  walk_rounds budget from old zero next handed new (at, are, same) walk =
+      subst (λ (w : WorldValue). Walk (During next next (of handed)) w) (sym same)
+      (subst (λ (h : Handed). Walk (During next next (of h)) old) (sym are)
+      (subst (λ (t : ℤ). Walk (During t t (of (all_sent old))) old) (sym at) walk))
+  walk_rounds budget from old (suc n) next now new (moment, handed, before, rounds, round) walk =
+      walk_on budget moment handed now next before new round (walk_rounds budget from old n moment handed before rounds walk)
+
+  pub walk_settled : (budget : ℕ) (from : ℤ) (rounds : ℕ) (rested : Option ℤ) (old new : WorldValue) → Settles budget from rounds rested old new
+      → Walk (During from from (of (all_sent old))) old → Walk HasSettled new
+  walk_settled budget from rounds (Some moment) old new (n, few, handed, now, before, ran_so, round) walk =
+      walk_map (During moment moment (of now)) HasSettled new (λ more still free d. (moment, of now, d.0, d.1))
+      (walk_end budget moment handed now before new round (walk_rounds budget from old n moment handed before ran_so walk))
+  walk_settled budget from rounds None old new (next, handed, ran_so) walk =
+      walk_map (During next next (of handed)) HasSettled new (λ more still free d. (next, of handed, d.0, d.1))
+      (walk_rounds budget from old rounds next handed new ran_so walk)
 
 -- AT FIRST
 
@@ -381,7 +390,7 @@ walk_begins once old fresh places from typed run up soon_first = record {
   services = tt;
   typed = typed;
   run = run;
-  goes = λ still. (
+  goes = λ still free. (
     record { few = fits; on_way = λ s. []; carried = λ s. refl; under = λ s. tt },
     record { keeps = tt; clock = up; at_once = tt; soon = soon_first },
   );

@@ -1,16 +1,20 @@
 -- By when all has arrived where a world ran rounds.
-use Rattle.std.specs.Prelude.{◌≡◌, ℕ, suc, ◌+◌, ◌*◌, max, ℤ, ◌≤ℤ◌, true, false, IsTrue, List, ◌++◌, length}
+use Rattle.std.specs.Prelude.{◌≡◌, ℕ, suc, ◌+◌, ◌*◌, max, ℤ, ◌≤ℤ◌, true, false, IsTrue, List, [], ◌∷◌, ◌++◌, length, Some}
+use Rattle.ip_wire.specs.HardwareAddress.{HardwareAddress}
+use Rattle.tcp_control.specs.declared.endpoints.EndpointPair.{EndpointPair}
 use Rattle.tcp_model.specs.Blocks.{one_if}
 use Rattle.tcp_model.specs.Value.{TcpValue, room_of}
 use Rattle.tcp_progress.specs.Arrivals.{is_synchronized}
 use Rattle.tcp_progress.specs.Exchange.{IsOpen}
 use Rattle.tcp_progress.specs.Pair.{HasStream}
+use Rattle.interface.specs.Delivered.{AreOfOneMedium}
 use Rattle.lan_base.specs.Medium.TheVariants as Medium
 use Rattle.lan_base.specs.Port.{has_leave}
 use Rattle.lan.specs.declared.at_link.history.event.Side.{Side}
 use Rattle.lan.specs.declared.at_link.history.event.Side.TheVariants.{A, B}
 use Rattle.lan.specs.Worlds.AtLink.Fresh.{IsFreshWorld}
 use Rattle.lan.specs.Worlds.AtLink.History.{Entry, is_closed_by, written}
+use Rattle.lan.specs.Worlds.AtLink.Kinds.{other}
 use Rattle.lan.specs.Worlds.AtLink.PacketsSafe.{IsTcpAt}
 use Rattle.lan.specs.Worlds.AtLink.Paired.{AreNew, HaveKeys, NewSocket, told}
 use Rattle.lan.specs.Worlds.AtLink.Partners.{ArePartners}
@@ -24,23 +28,28 @@ use Rattle.stack_laws.specs.Progress.AtOnce.{AreUnmarked}
 use Rattle.stack_laws.specs.Progress.Carried.{AreCarried}
 use Rattle.stack_laws.specs.Progress.Ends.{AreBoth}
 use Rattle.stack_laws.specs.Progress.Events.{clock_in, shown_in}
+use Rattle.stack_laws.specs.Progress.KnownHops.{IsUnmarkedAt, KnowEachOther}
 use Rattle.stack_laws.specs.Progress.OneClock.{KeepOneClock}
 use Rattle.stack_laws.specs.Progress.Partners.{HoldText}
-use Rattle.stack_laws.specs.Progress.Serving.{AreServedAtOnce, WantsAt}
+use Rattle.stack_laws.specs.Progress.Serving.{AreServedAtOnce, WaitsForNone, WantsAt}
 use Rattle.stack_laws.specs.Progress.Unread.{HasRoomForAll}
 
 -- ROUNDS
 
--- Rounds may begin at this moment: events led two hosts here from a fresh start, on a medium that has no hardware addresses, where no socket was marked as
--- one that waits for a neighbor. The clock isn't past the moment, nor is a moment at which one of the two sockets wants to be asked before it.
+-- Rounds may begin at this moment: events led two hosts here from a fresh start. The clock isn't past the moment, nor is a moment at which one of the two
+-- sockets wants to be asked before it.
 pub record MayBegin (places : Side → ℕ) (from : ℤ) (w : WorldValue) : Type 0 where
   pub fresh : IsFreshWorld w.starts
-  pub medium : w.starts.a.capabilities.medium ≡ Medium.Ip
-  pub unmarked : (side : Side) → AreUnmarked (start w.starts side).places
   pub typed : AreTyped w.history
   pub run : WorldRun w.history (unused_both w.starts) w.hosts
   pub clock : clock_in w.history ≤ℤ from
   pub in_time : (side : Side) (due : ℤ) → clock_in w.history ≤ℤ due → WantsAt due (places side) (station w.hosts side) → from ≤ℤ due
+
+-- from the hosts between on, and behind each later event, neither of the two sockets waits for a neighbor
+abbrev pub NobodyWaits : (starts : Starts) (places : Side → ℕ) (past more : List Entry) (hosts : Stations) → StillRun starts (more ++ past) hosts → Type 0
+NobodyWaits starts places past [] hosts still = (side : Side) → WaitsForNone (places side) (station hosts side)
+NobodyWaits starts places past (e ∷ more) hosts still =
+    NobodyWaits starts places past more still.0 still.1 × ((side : Side) → WaitsForNone (places side) (station hosts side))
 
 -- The later events keep one clock; each frame that a host sends in one of them is taken by the other before the clock goes on; and both sockets are served
 -- at once.
@@ -50,6 +59,27 @@ pub record GoAtOnce (starts : Starts) (places : Side → ℕ) (past more : List 
   pub on_way : Side → List (ℤ × List ℕ)
   pub carried : AreCarried starts 0 past more hosts still on_way
   pub at_once : AreServedAtOnce starts places past more hosts still
+
+-- WHO KNOWS WHERE FRAMES GO
+
+-- The medium has no hardware addresses, and no socket is marked at first as one that waits for a neighbor.
+pub record AskForNone (starts : Starts) : Type 0 where
+  pub medium : starts.a.capabilities.medium ≡ Medium.Ip
+  pub unmarked : (side : Side) → AreUnmarked (start starts side).places
+
+-- By these later events the old world became the new one, in which the sockets at these places have a connection between these endpoints. In each of their
+-- polls a host knows throughout that its frames for the other one go to that one's hardware address, of the same medium. In the old world neither socket
+-- is marked as one that waits for a neighbor.
+pub record StayAcquainted (places : Side → ℕ) (old new : WorldValue) : Type 0 where
+  pub more : List Entry
+  pub history : new.history ≡ more ++ old.history
+  pub still : StillRun old.starts (more ++ old.history) new.hosts
+  pub own : Side → HardwareAddress
+  pub medium : (side : Side) → AreOfOneMedium (own side) (own (other side)) (own (other side))
+  pub pairs : Side → EndpointPair
+  pub named : AreBoth (λ side v. v.block.names.pair ≡ Some (pairs side)) places new.hosts
+  pub known : KnowEachOther own pairs old.starts old.history more new.hosts still
+  pub unmarked : (side : Side) → IsUnmarkedAt (places side) (station old.hosts side)
 
 -- HOW LONG IT TAKES
 

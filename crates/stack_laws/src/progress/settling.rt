@@ -20,9 +20,11 @@ ghost use Rattle.stack_laws.specs.Progress.Events.{clock_in};
 ghost use Rattle.stack_laws.specs.Progress.Settled.{HasArrived};
 ghost use Rattle.stack_laws.specs.Progress.SettledNumerals as Numerals;
 ghost use Rattle.stack_laws.specs.Progress.SettledNumerals.{news, place};
-ghost use Rattle.stack_laws.specs.Progress.Within.{GoAtOnce, MayBegin, MaySettle, enough_for};
+ghost use Rattle.stack_laws.specs.Progress.Within.{AskForNone, GoAtOnce, MayBegin, MaySettle, NobodyWaits, StayAcquainted, enough_for};
 
+use super::at_once::nobody_waits_without_hardware_addresses;
 use super::events::partners_go_on_by_their_events;
+use super::known_hops::nobody_waits_where_hosts_know_each_other;
 use lan::host_laws::one_outcome;
 
 /// Law: a poll takes the first of the frames that wait for its host, and no more of them than its budget. None that it sends is empty, or too long to be
@@ -36,30 +38,62 @@ pub fn polls_take_no_more_than_their_budget()
 {}
 
 /// Law: rounds are services alone, which keep one clock. Each frame that a host sends in one is taken by the other before the clock goes on, whatever waited
-/// before and however few frames a poll takes; and both sockets are served at once, over a medium that has no hardware addresses.
-pub fn rounds_bring_frames_and_serve_sockets_at_once()
+/// before and however few frames a poll takes; and both sockets are served at once. So it is on any medium where neither waits for a neighbor behind any of
+/// the events.
+pub fn rounds_serve_at_once_who_waits_for_none()
     ensures { (old new : WorldValue) (places : Side → ℕ) (budget : ℕ) (from : ℤ) (rounds : ℕ) (rested : Option ℤ) → MayBegin places from old
         → Settles budget from rounds rested old new
         → (more : List Entry) × (new.history ≡ more ++ old.history) × AllByRecursion (λ e. IsService e.event) more × AreTyped (more ++ old.history)
         × WorldRun (more ++ old.history) (unused_both old.starts) new.hosts × (new.starts ≡ old.starts)
-        × ((still : StillRun old.starts (more ++ old.history) new.hosts) → GoAtOnce old.starts places old.history more new.hosts still) }
+        × ((still : StillRun old.starts (more ++ old.history) new.hosts) → NobodyWaits old.starts places old.history more new.hosts still
+        → GoAtOnce old.starts places old.history more new.hosts still) }
 {
     one_outcome();
     polls_take_no_more_than_their_budget();
 }
 
-/// Law: so where the clock went on further than what is enough for all that both users wrote, since the last moment that a host was told before, all that
-/// either wrote has come to its partner, whatever `World::settle` answers: at rest, or that its rounds are over.
-pub fn what_settles_arrives_in_time()
+/// Law: over a medium that has no hardware addresses nobody waits for a neighbor, so there rounds bring each frame, and serve both sockets, at once.
+pub fn rounds_bring_frames_and_serve_sockets_at_once()
+    ensures { (old new : WorldValue) (places : Side → ℕ) (budget : ℕ) (from : ℤ) (rounds : ℕ) (rested : Option ℤ) → MayBegin places from old
+        → AskForNone old.starts → Settles budget from rounds rested old new
+        → (more : List Entry) × (new.history ≡ more ++ old.history) × AllByRecursion (λ e. IsService e.event) more × AreTyped (more ++ old.history)
+        × WorldRun (more ++ old.history) (unused_both old.starts) new.hosts × (new.starts ≡ old.starts)
+        × ((still : StillRun old.starts (more ++ old.history) new.hosts) → GoAtOnce old.starts places old.history more new.hosts still) }
+{
+    one_outcome();
+    rounds_serve_at_once_who_waits_for_none();
+    nobody_waits_without_hardware_addresses();
+}
+
+/// Law: so on any medium, between hosts that know each other throughout the polls of the rounds, where the clock went on further than what is enough for all
+/// that both users wrote, since the last moment that a host was told before, all that either wrote has come to its partner, whatever `World::settle` answers:
+/// at rest, or that its rounds are over.
+pub fn what_settles_between_known_hosts_arrives_in_time()
     ensures { (old new : WorldValue) (places : Side → ℕ) (news : Side → NewSocket) (sockets : Side → TcpValue) (budget : ℕ) (from : ℤ) (rounds : ℕ)
-        (rested : Option ℤ) (side : Side) (v w : TcpValue) → MaySettle places news from sockets old new → Settles budget from rounds rested old new
+        (rested : Option ℤ) (side : Side) (v w : TcpValue) → MaySettle places news from sockets old new → StayAcquainted places old new
+        → Settles budget from rounds rested old new
         → (clock_in old.history +ℤ pos (enough_for old.history places sockets)) <ℤ clock_in new.history
         → IsTcpAt (net_of new) side (places side) v → IsTcpAt (net_of new) (other side) (places (other side)) w
         → HasArrived (net_of new) side (places side) (places (other side)) v w }
 {
     one_outcome();
-    rounds_bring_frames_and_serve_sockets_at_once();
+    rounds_serve_at_once_who_waits_for_none();
+    nobody_waits_where_hosts_know_each_other();
     partners_go_on_by_their_events();
+}
+
+/// Law: so it is over a medium that has no hardware addresses.
+pub fn what_settles_arrives_in_time()
+    ensures { (old new : WorldValue) (places : Side → ℕ) (news : Side → NewSocket) (sockets : Side → TcpValue) (budget : ℕ) (from : ℤ) (rounds : ℕ)
+        (rested : Option ℤ) (side : Side) (v w : TcpValue) → MaySettle places news from sockets old new → AskForNone old.starts
+        → Settles budget from rounds rested old new
+        → (clock_in old.history +ℤ pos (enough_for old.history places sockets)) <ℤ clock_in new.history
+        → IsTcpAt (net_of new) side (places side) v → IsTcpAt (net_of new) (other side) (places (other side)) w
+        → HasArrived (net_of new) side (places side) (places (other side)) v w }
+{
+    one_outcome();
+    rounds_serve_at_once_who_waits_for_none();
+    what_settles_between_known_hosts_arrives_in_time();
 }
 
 /// Law: where it answers a moment, it is at rest, and all has arrived however far its clock went on. So all has arrived either way: at rest, or late enough.
@@ -67,7 +101,8 @@ pub fn what_settles_arrives_at_rest_or_in_time()
     ensures rest { (old new : WorldValue) (budget : ℕ) (from : ℤ) (rounds : ℕ) (moment : ℤ) → Settles budget from rounds (Some moment) old new
         → AreAtRest moment new.history }
     ensures arrived { (old new : WorldValue) (places : Side → ℕ) (news : Side → NewSocket) (sockets : Side → TcpValue) (budget : ℕ) (from : ℤ) (rounds : ℕ)
-        (rested : Option ℤ) (side : Side) (v w : TcpValue) → MaySettle places news from sockets old new → Settles budget from rounds rested old new
+        (rested : Option ℤ) (side : Side) (v w : TcpValue) → MaySettle places news from sockets old new
+        → AskForNone old.starts ⊎ StayAcquainted places old new → Settles budget from rounds rested old new
         → ((moment : ℤ) × (rested ≡ Some moment))
         ⊎ ((clock_in old.history +ℤ pos (enough_for old.history places sockets)) <ℤ clock_in new.history)
         → v.block.settings.synack_paused ≡ false → IsTcpAt (net_of new) side (places side) v → IsTcpAt (net_of new) (other side) (places (other side)) w
@@ -75,10 +110,11 @@ pub fn what_settles_arrives_at_rest_or_in_time()
 {
     one_outcome();
     what_settles_arrives_in_time();
+    what_settles_between_known_hosts_arrives_in_time();
 }
 
 /// Law: there are two worlds that meet all that this asks for of worlds: as A's user has written in the world on numerals that settles, and as all has come.
 pub fn a_world_that_settles_may_settle()
-    ensures { (old new : WorldValue) × (sockets : Side → TcpValue) × MaySettle place news (pos 0) sockets old new
+    ensures { (old new : WorldValue) × (sockets : Side → TcpValue) × MaySettle place news (pos 0) sockets old new × AskForNone old.starts
         × (new.history ≡ Numerals.history) × (old.history ≡ Numerals.told_to_send) }
 {}
