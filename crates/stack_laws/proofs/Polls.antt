@@ -69,6 +69,7 @@ pub mod SomeStarts
 pub mod SomeWorld
 pub mod SomeLinked
 pub mod SomeSettling
+pub mod SomeRests
 pub mod NextAtPorts
 pub mod SomeNeighbors
 pub mod SomeExchange

@@ -118,3 +118,10 @@ pub fn a_world_that_settles_may_settle()
     ensures { (old new : WorldValue) × (sockets : Side → TcpValue) × MaySettle place news (pos 0) sockets old new × AskForNone old.starts
         × (new.history ≡ Numerals.history) × (old.history ≡ Numerals.told_to_send) }
 {}
+
+/// Law: there are worlds of which it is so: the world on numerals that is at rest runs one round, in which both hosts are polled and have nothing to do, and then
+/// both are asked.
+pub fn a_world_at_rest_settles()
+    ensures { (new : WorldValue) × Settles 1 Numerals.later 1 (Some Numerals.later)
+        (record { hosts = Numerals.hosts; starts = Numerals.starts; history = Numerals.history }) new }
+{}
