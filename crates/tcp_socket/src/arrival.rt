@@ -1,5 +1,5 @@
 //! A segment comes.
-ghost use Rattle.std.specs.Prelude.{◌≡◌, ◌+◌, ◌≤◌, ◌<◌, ◌^◌, ◌&&◌, not, [], length, IfSome, false, Option, Some, None, is_some, if◌then◌else◌};
+ghost use Rattle.std.specs.Prelude.{◌≡◌, ◌≤◌, ◌<◌, ◌^◌, ◌&&◌, not, [], length, IfSome, false, Option, Some, None, is_some, if◌then◌else◌};
 ghost use Rattle.net_base.specs.Time.{IsMoment};
 ghost use Rattle.socket_base.specs.Context.{ContextValue};
 ghost use Rattle.socket_base.specs.Packet.{IsSendable};
@@ -15,20 +15,21 @@ ghost use Rattle.tcp_model.specs.Controls.{is_zero};
 ghost use Rattle.tcp_model.specs.Names.{accepts};
 ghost use Rattle.tcp_model.specs.Opening.{acks_syn, is_first_syn, opens, syn_answered, takes_answer};
 ghost use Rattle.tcp_model.specs.Segments.{rst_reply, no_ranges};
-ghost use Rattle.tcp_model.specs.Text.{texted, with_text, with_text_at, with_bytes_at, with_fin};
+ghost use Rattle.tcp_model.specs.Text.{texted, with_text, with_fin};
 ghost use Rattle.tcp_model.specs.Timeout.{timeout_restarted};
 ghost use Rattle.tcp_model.specs.Value.{ended, queued_in, room_of, window_of, with_block};
 ghost use Rattle.tcp_socket.specs.Replies.{replies_in, packet_in, packet_with};
 ghost use Rattle.tcp_socket.specs.Answering.{acknowledgement, reply_of, answer_of, next_at, continued_by};
 
 use crate::Socket;
+use crate::text::Text;
 use ip_wire::{IpRepr, SeqNumber, TcpHeader, TcpRepr};
 use net_base::Instant;
 use socket_base::Context;
 use tcp_model::{
-    AddressPair, EndpointPair, Reply, State, Verdict, before_by, first_number, has_length, is_fin,
-    is_first_syn, is_rst, is_syn, is_void_syn, next_draw_from, numbers_of, past_by, reply_to,
-    rst_reply, time_wait_from,
+    AddressPair, EndpointPair, Reply, State, Verdict, first_number, has_length, is_fin,
+    is_first_syn, is_rst, is_syn, is_void_syn, next_draw_from, numbers_of, reply_to, rst_reply,
+    time_wait_from,
 };
 
 /// A segment with what it came in.
@@ -682,61 +683,6 @@ impl Socket {
         self.block.ack_due(header, size, fills, now);
     }
 
-    /// The text of an accepted segment.
-    fn take_text(&mut self, header: &TcpHeader, bytes: &[u8]) -> Text
-        requires unoffered { self.old.offered ≡ None }
-        ensures text { texted self.new result.advance result.fills result.early ≡ with_text self.old header.now bytes.now }
-        ensures small { result.advance ≤ 2 ^ 30 }
-        ensures unoffered { self.new.offered ≡ None }
-    {
-        let place = past_by(self.block.receiver.next, header.seq_number) as usize;
-        let before = before_by(self.block.receiver.next, header.seq_number) as usize;
-        self.take_text_at(place, &bytes[before.min(bytes.len())..])
-    }
-
-    /// Text of which what lies before RCV.NXT is cut off, so far past RCV.NXT.
-    fn take_text_at(&mut self, place: usize, bytes: &[u8]) -> Text
-        requires unoffered { self.old.offered ≡ None }
-        ensures text { texted self.new result.advance result.fills result.early ≡ with_text_at self.old place bytes.now }
-        ensures small { result.advance ≤ 2 ^ 30 }
-        ensures unoffered { self.new.offered ≡ None }
-    {
-        let free = self.received.window();
-        if !self.block.state.takes_text() || bytes.is_empty() || free <= place {
-            return Text::NONE;
-        }
-        self.take_bytes(place, &bytes[..bytes.len().min(free - place)])
-    }
-
-    /// Bytes inside the window.
-    fn take_bytes(&mut self, place: usize, bytes: &[u8]) -> Text
-        requires unoffered { self.old.offered ≡ None }
-        requires fits { place + length bytes.now ≤ length self.old.received.map }
-        requires small { length self.old.received.map ≤ 2 ^ 30 }
-        ensures text { texted self.new result.advance result.fills result.early ≡ with_bytes_at self.old place bytes.now }
-        ensures small { result.advance ≤ 2 ^ 30 }
-        ensures unoffered { self.new.offered ≡ None }
-    {
-        if place == 0 {
-            let fills = self.received.is_holding();
-            let advance = self.received.store(bytes);
-            self.block.advance(advance);
-            return Text {
-                advance,
-                fills,
-                early: None,
-            };
-        }
-        match self.received.hold(place, bytes) {
-            Ok(()) => Text {
-                advance: 0,
-                fills: false,
-                early: Some(place),
-            },
-            Err(_) => Text::NONE,
-        }
-    }
-
     /// What is told of the runs that are held, where the first byte of a segment is held at a place, if
     /// both SYNs permitted it: the run with this byte, and then the two highest others.
     fn ranges_held(&self, place: usize) -> [Option<(u32, u32)>; 3]
@@ -799,23 +745,6 @@ pub enum Due {
     Ack(u16),
     /// One that tells of the run which is held with its first byte at this place.
     AckHeld(u16, usize),
-}
-
-/// The text of a segment: how far RCV.NXT rose, whether it came in order while other text was held, and
-/// of text that is held early the place of its first byte.
-#[derive(Clone, Copy)]
-struct Text {
-    advance: usize,
-    fills: bool,
-    early: Option<usize>,
-}
-
-impl Text {
-    const NONE: Text = Text {
-        advance: 0,
-        fills: false,
-        early: None,
-    };
 }
 
 /// A reply as it is handed out.

@@ -8,6 +8,7 @@ mod offer;
 mod receive_buffer;
 mod settings;
 mod socket;
+mod text;
 
 pub use arrival::Due;
 pub use offer::OfferedSegment;
