@@ -11,6 +11,7 @@ use Rattle.lan.specs.Worlds.AtLink.Station.{Stations}
 use Rattle.lan.specs.Worlds.Still.{StillRun, seats_of}
 use Rattle.lan_base.specs.Medium.TheVariants as Medium
 use Rattle.stack_laws.specs.Progress.Acquainted.{AreAcquainted}
+use Rattle.stack_laws.specs.Progress.Days.{HasDays}
 use Rattle.stack_laws.specs.Progress.Ends.{AreBoth, AreUnstamped}
 use Rattle.stack_laws.specs.Progress.Events.{MoveBy, clock_in}
 use Rattle.stack_laws.specs.Progress.Hearing.{AreSo}
@@ -61,6 +62,11 @@ pub record GoOnByEvents (starts : Starts) (past : List Entry) (between : Station
       → ((side : Side) → KeepsStreamBy (places side) side past more) → AreAcquainted starts places delay past more hosts still
       → AreSo IsFreshFor (seats_of starts places) moves
       → ComeInTime read wait delay (clock_in past) (seats_of starts places) goes.clocks goes.net moves
+  pub in_time_within_days : (moves : List (ℤ × Happening)) → timed moves ≡ steps → AreNumbered (seats_of starts places) goes.net (moves_of moves)
+      → (read wait : ℕ) → ((side : Side) → AreEventsInTime starts places read wait side past between more hosts still)
+      → ((side : Side) → KeepsStreamBy (places side) side past more) → AreAcquainted starts places 0 past more hosts still
+      → ((side : Side) → HasDays (more ++ past) (places side) side)
+      → ComeInTime read wait 0 (clock_in past) (seats_of starts places) goes.clocks goes.net moves
   pub linked_in_reach : (delay : ℕ) → AreBoth (λ side v. IsOpen v.block) places between
       → AreBoth (λ side v. is_synchronized v.block.state ≡ true) places hosts → AreInReach starts delay past more hosts still
       → AreLinked starts places delay past more hosts still
