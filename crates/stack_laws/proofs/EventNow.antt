@@ -169,11 +169,11 @@ module _ (starts : Starts) (past more : List Entry) (hosts : Stations) (fresh : 
   abbrev ways : MovePlainly starts past between (more ++ past) hosts
   ways = all.them.plainly
 
-  abbrev net : Net
-  net = run (first_net starts) ways.before
+  abbrev mid : Net
+  mid = run (first_net starts) ways.before
 
-  abbrev clocks : Side → ℤ
-  clocks = clocks_in seats at_zero ways.before
+  abbrev shown : Side → ℤ
+  shown = clocks_in seats at_zero ways.before
 
   abbrev Both : List Entry → Type 0
   Both history = ArePartners history A (places A) (places B)
@@ -188,13 +188,13 @@ module _ (starts : Starts) (past more : List Entry) (hosts : Stations) (fresh : 
   those = sym all.them.are_these ∙ these
 
   ends_there : end_in (clock_in past) moves ≡ clock_in (more ++ past)
-  ends_there = end_timed moves (clock_in past) ∙ ap (ends (clock_in past)) is ∙ ends_now starts net past more hosts still all.them.moves all.them.of_events
+  ends_there = end_timed moves (clock_in past) ∙ ap (ends (clock_in past)) is ∙ ends_now starts mid past more hosts still all.them.moves all.them.of_events
 
   keeps_past : (s : Side) → KeepsTime (since s) s (places s) (past ++ [])
   keeps_past s =
       subst (KeepsTime (since s) s (places s)) (sym (append-nil past)) (keeps_before (since s) s (places s) past more (days s).timed)
 
-  onward : KeepOneClock starts places past more → ((s : Side) → clocks s ≤ℤ clock_in past) → AreNumbered seats net (moves_of moves)
+  onward : KeepOneClock starts places past more → ((s : Side) → shown s ≤ℤ clock_in past) → AreNumbered seats mid (moves_of moves)
       → Onward (first_port starts) names (first_net starts) seats news (fresh_net starts fresh) new keys text since (λ s. (days s).begun) ways.before moves
       (clock_in past)
   onward keep low numbered = record {
@@ -203,20 +203,20 @@ module _ (starts : Starts) (past more : List Entry) (hosts : Stations) (fresh : 
     paired = subst Both (sym ways.of.history) partners;
     timed = subst (AllTimed since places (first_net starts)) (sym all.are_these)
         (all_timed since places starts (first_net starts) [] past between all.began.still all.began.moves all.began.by_events keeps_past);
-    may_on = subst (IsRun names net) those ways.may_on;
-    hosted_on = subst (AreHosted seats clocks net) those (ways.hosted_on places);
-    paired_on = subst (λ (ss : List Step). Both (run net ss).history) those
+    may_on = subst (IsRun names mid) those ways.may_on;
+    hosted_on = subst (AreHosted seats shown mid) those (ways.hosted_on places);
+    paired_on = subst (λ (ss : List Step). Both (run mid ss).history) those
         (subst Both (sym ways.of_these.history) (partners_stay past more A (places A) (places B) partners));
-    timed_on = subst (AllTimed since places net) these
-        (all_timed since places starts net past more hosts still all.them.moves all.them.of_events (λ s. (days s).timed));
+    timed_on = subst (AllTimed since places mid) these
+        (all_timed since places starts mid past more hosts still all.them.moves all.them.of_events (λ s. (days s).timed));
     numbered = numbered;
-    moments = at_moments starts net past more hosts moves seats clocks still (subst (MoveBy starts net past more hosts still) (sym is) all.them.of_events) keep;
+    moments = at_moments starts mid past more hosts moves seats shown still (subst (MoveBy starts mid past more hosts still) (sym is) all.them.of_events) keep;
     low = low;
     within = λ s. subst (λ (t : ℤ). t ≤ℤ stamp_end_from (since s)) (sym ends_there) (days s).within;
   }
 
-  pub fresh_within : KeepOneClock starts places past more → ((s : Side) → clocks s ≤ℤ clock_in past) → AreNumbered seats net (moves_of moves)
-      → AreBrought IsAnything seats 0 net moves → AreBrought IsFreshFor seats 0 net moves
+  pub fresh_within : KeepOneClock starts places past more → ((s : Side) → shown s ≤ℤ clock_in past) → AreNumbered seats mid (moves_of moves)
+      → AreBrought IsAnything seats 0 mid moves → AreBrought IsFreshFor seats 0 mid moves
   fresh_within keep low numbered =
       fresh_on (first_port starts) names (first_net starts) seats news (fresh_net starts fresh) new keys text since (λ s. (days s).begun) ways.before moves
       (clock_in past) (onward keep low numbered)
