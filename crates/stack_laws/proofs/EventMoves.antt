@@ -558,7 +558,7 @@ module _ (starts : Starts) (fresh : IsFreshWorld starts) where
 
   -- FROM THE BEGINNING ON
 
-  at_first : (hosts : Stations) → AreTyped [] → StillRun starts [] hosts → At [] hosts
+  abbrev at_first : (hosts : Stations) → AreTyped [] → StillRun starts [] hosts → At [] hosts
   at_first hosts typed still = record {
     net = first_net starts;
     of = subst (λ (h : Stations). IsNetOf (first_net starts) h []) (sym still.0) (record { sockets = first_of starts; history = refl });
