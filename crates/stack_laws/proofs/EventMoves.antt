@@ -1,5 +1,5 @@
 -- Each event of a world whose hosts stay is plain moves of its host.
-use Rattle.std.proofs.Common.{◌≡◌, inl, ℕ, suc, ◌^◌, ◌<◌, ◌≤◌, ℤ, ◌≤ℤ◌, Bool, ◌==◌, if◌then◌else◌, true, false, List, [], ◌∷◌, ◌++◌, length, Option, Some, None}
+use Rattle.std.proofs.Common.{◌≡◌, inl, ℕ, suc, ◌^◌, ◌<◌, ◌≤◌, ℤ, ◌≤ℤ◌, Bool, ◌==◌, if◌then◌else◌, true, false, List, [], ◌∷◌, ◌++◌, append-nil, length, Option, Some, None}
 use Rattle.std.proofs.Common.{refl, sym, ap, ◌∙◌, subst, arith}
 use Rattle.std.specs.Prelude.{pos}
 use Rattle.std.specs.List.{AllByRecursion, list_any}
@@ -48,7 +48,7 @@ use Rattle.lan.specs.Worlds.Still.{AreStill, StillRun, seats_of}
 use Rattle.lan.proofs.Worlds.Acts.{joins_grow}
 use Rattle.lan.proofs.Worlds.AtLink.Extended.{IsRun-append, run-append}
 use Rattle.lan.proofs.Worlds.AtLink.Growing.{happens_stays}
-use Rattle.lan.proofs.Worlds.Beginnings.{firsts}
+use Rattle.lan.proofs.Worlds.Beginnings.{first_joined, firsts, none_yet}
 use Rattle.lan.proofs.Worlds.Events.{plain_joins}
 use Rattle.lan.proofs.Worlds.Hosts.Calling.{call_quiet, setting_quiet}
 use Rattle.lan.proofs.Worlds.Hosts.Polling.{polled as poll_settings}
@@ -61,9 +61,9 @@ use Rattle.lan.proofs.Worlds.Moves.Held.{AreHeld, IsHeld, IsSeenAs, IsShownAt, S
 use Rattle.lan.proofs.Worlds.Moves.Leave.{let_narrowed}
 use Rattle.lan.proofs.Worlds.Moves.Nets.{either_side, step_of}
 use Rattle.lan.specs.Worlds.Moves.Hops.{KnowsHop}
-use Rattle.lan.proofs.Worlds.Moves.Worlds.{fresh_net}
+use Rattle.lan.proofs.Worlds.Moves.Worlds.{first_of, fresh_net}
 use Rattle.lan.proofs.Worlds.PolledJoins as Polled
-use Rattle.lan.proofs.Worlds.Runs.{AreWell, has_come, held_run, numbered_by}
+use Rattle.lan.proofs.Worlds.Runs.{AreWell, numbered_by}
 use Rattle.lan.proofs.Worlds.Settings.{setting_joins}
 use Rattle.lan.proofs.Worlds.StillOnward.{first, moments, now_still, onward, ran, seen_in_run}
 use Rattle.lan.proofs.Worlds.StillPlain.{plain_run}
@@ -523,17 +523,21 @@ module _ (starts : Starts) (fresh : IsFreshWorld starts) where
           );
         }
 
+  -- a net of the hosts behind some events
+  record At (history : List Entry) (hosts : Stations) : Type 0 where
+    pub net : Net
+    pub of : IsNetOf net hosts history
+    pub well : AreWell starts history hosts net
+
   -- the hosts between, and the moves from there on
-  module _ (past : List Entry) where
-    abbrev At : Stations → AreTyped past → (more : List Entry) (hosts : Stations) → StillRun starts (more ++ past) hosts → Type 0
-    At between typed more hosts still =
-        (was : StillRun starts past between)
-        × Went starts past between (run (first_net starts) (has_come starts past between fresh typed (ran starts past between was)).steps) more hosts still
+  module _ (past : List Entry) (base : (between : Stations) → AreTyped past → StillRun starts past between → At past between) where
+    abbrev From : Stations → AreTyped past → (more : List Entry) (hosts : Stations) → StillRun starts (more ++ past) hosts → Type 0
+    From between typed more hosts still = (was : StillRun starts past between) × Went starts past between (base between typed was).net more hosts still
 
     went : (more : List Entry) (hosts : Stations) → AreTyped (more ++ past) → (still : StillRun starts (more ++ past) hosts)
-        → (between : Stations) × (typed : AreTyped past) × At between typed more hosts still
+        → (between : Stations) × (typed : AreTyped past) × From between typed more hosts still
     went [] hosts typed still =
-        let came = has_come starts past hosts fresh typed (ran starts past hosts still) in (
+        let at = base hosts typed still in (
           hosts,
           typed,
           (
@@ -541,17 +545,54 @@ module _ (starts : Starts) (fresh : IsFreshWorld starts) where
             record {
               moves = [];
               may = tt;
-              of = subst (λ (n : Net). IsNetOf n hosts past) (sym came.ends) came.of;
-              well = subst (λ (n : Net). AreWell starts past hosts n) (sym came.ends) came.joined;
+              of = at.of;
+              well = at.well;
               held = λ s. no_earlier (moments starts hosts s);
-              by_events = (refl, subst (λ (n : Net). IsNetOf n hosts past) (sym came.ends) came.of);
+              by_events = (refl, at.of);
             },
           ),
         )
     went (e ∷ more) hosts typed (old, still, leads, all) =
         let (between, typed_past, (was, so_far)) = went more old typed.1 still in
-        let net = run (first_net starts) (has_come starts past between fresh typed_past (ran starts past between was)).steps in
-        (between, typed_past, (was, then_on past between net more e old hosts still leads typed.0 all so_far))
+        (between, typed_past, (was, then_on past between (base between typed_past was).net more e old hosts still leads typed.0 all so_far))
+
+  -- FROM THE BEGINNING ON
+
+  abbrev at_first : (hosts : Stations) → AreTyped [] → StillRun starts [] hosts → At [] hosts
+  at_first hosts typed still = record {
+    net = first_net starts;
+    of = subst (λ (h : Stations). IsNetOf (first_net starts) h []) (sym still.0) (record { sockets = first_of starts; history = refl });
+    well = subst (λ (h : Stations). AreWell starts [] h (first_net starts)) (sym still.0)
+        (record { most = none_yet; joined = first_joined starts fresh; few = λ side. omega arith; numbered = λ side. omega arith });
+  }
+
+  -- the moves of all events so far
+  pub record Began (past : List Entry) (hosts : Stations) : Type 0 where
+    pub still : StillRun starts (past ++ []) hosts
+    pub moves : List (ℤ × Step)
+    pub may : IsRun names (first_net starts) (untimed moves)
+    pub of : IsNetOf (run (first_net starts) (untimed moves)) hosts past
+    pub well : AreWell starts past hosts (run (first_net starts) (untimed moves))
+    pub held : AreAllHeld (first starts) at_zero (first_net starts) (untimed moves) (moments starts hosts)
+    pub by_events : MoveBy starts (first_net starts) [] past hosts still moves
+
+  began : (past : List Entry) (hosts : Stations) → AreTyped past → StillRun starts past hosts → Began past hosts
+  began past hosts typed was =
+      let same : past ++ [] ≡ past = append-nil past in
+      let still : StillRun starts (past ++ []) hosts = subst (λ (h : List Entry). StillRun starts h hosts) (sym same) was in
+      let (unused, none, (at, w)) = went [] at_first past hosts (subst AreTyped (sym same) typed) still in
+      record {
+        still = still;
+        moves = w.moves;
+        may = w.may;
+        of = subst (λ (h : List Entry). IsNetOf (run (first_net starts) (untimed w.moves)) hosts h) same w.of;
+        well = subst (λ (h : List Entry). AreWell starts h hosts (run (first_net starts) (untimed w.moves))) same w.well;
+        held = all-append (first starts) at_zero (moments starts unused) (first_net starts) [] (untimed w.moves) (moments starts hosts) (λ s. (at.1 s).moment.0) w.held;
+        by_events = w.by_events;
+      }
+
+  abbrev so_far : (past : List Entry) (hosts : Stations) → AreTyped past → StillRun starts past hosts → At past hosts
+  so_far past hosts typed was = let b = began past hosts typed was in record { net = run (first_net starts) (untimed b.moves); of = b.of; well = b.well }
 
   -- PLAINLY
 
@@ -620,34 +661,50 @@ module _ (firsts : Side → InnerValue) (seats : Side → Seat) where
       (shown_low (firsts step.side) t (clocks step.side) (in_turn (clocks step.side) (floors step.side) t (low step.side) later) (seats step.side).place net
       step.side step.move held) low) s
 
+-- the moves of all events, and those of the earlier ones among them
+pub record MovesBy (starts : Starts) (fresh : IsFreshWorld starts) (past : List Entry) (between : Stations) (more : List Entry) (hosts : Stations)
+    (still : StillRun starts (more ++ past) hosts) : Type 0 where
+  pub was : StillRun starts past between
+  pub began : Began starts fresh past between
+  pub them : MoveByEvents starts past between more hosts still
+  pub are_these : them.plainly.before ≡ untimed began.moves
+
+pub all_events_move : (starts : Starts) (past more : List Entry) (hosts : Stations) (fresh : IsFreshWorld starts) → AreTyped (more ++ past) →
+    (still : StillRun starts (more ++ past) hosts) → (between : Stations) × MovesBy starts fresh past between more hosts still
+all_events_move starts past more hosts fresh typed still =
+    let (between, typed_past, (was, w)) = went starts fresh past (so_far starts fresh past) more hosts typed still in
+    let one = began starts fresh past between typed_past was in
+    let net = first_net starts in (
+      between,
+      record {
+        was = was;
+        began = one;
+        them = record {
+          plainly = record {
+            before = untimed one.moves;
+            may = one.may;
+            of = one.of;
+            hosted = hosted starts fresh past between was (untimed one.moves) one.may one.held;
+            steps = untimed w.moves;
+            may_on = w.may;
+            of_these = w.of;
+            hosted_on = λ places. hosted_rest (seats_of starts places) at_zero net (untimed one.moves) (untimed w.moves)
+                (hosted starts fresh (more ++ past) hosts still (untimed one.moves ++ untimed w.moves)
+                (IsRun-append names net (untimed one.moves) (untimed w.moves) one.may w.may)
+                (all-append (first starts) at_zero (moments starts between) net (untimed one.moves) (untimed w.moves) (moments starts hosts) one.held w.held) places);
+          };
+          moves = w.moves;
+          are_these = refl;
+          of_events = w.by_events;
+          showed = λ places s.
+              subst (λ (m : ℤ). clocks_in (seats_of starts places) at_zero (untimed one.moves) s ≤ℤ m) (shows starts past between (ran starts past between was) s)
+              (clocks_low (first starts) (seats_of starts places) at_zero at_zero net (untimed one.moves) (moments starts between) one.held (λ side. no_earlier (pos 0)) s);
+        };
+        are_these = refl;
+      },
+    )
+
 pub events_move : (starts : Starts) (past more : List Entry) (hosts : Stations) → IsFreshWorld starts → AreTyped (more ++ past) →
     (still : StillRun starts (more ++ past) hosts) → (between : Stations) × StillRun starts past between × MoveByEvents starts past between more hosts still
 events_move starts past more hosts fresh typed still =
-    let (between, typed_past, (was, w)) = went starts fresh past more hosts typed still in
-    let one = has_come starts past between fresh typed_past (ran starts past between was) in
-    let net = first_net starts in
-    let held = held_run starts past between fresh typed_past was in (
-      between,
-      was,
-      record {
-        plainly = record {
-          before = one.steps;
-          may = one.may;
-          of = subst (λ (n : Net). IsNetOf n between past) (sym one.ends) one.of;
-          hosted = hosted starts fresh past between was one.steps one.may held;
-          steps = untimed w.moves;
-          may_on = w.may;
-          of_these = w.of;
-          hosted_on = λ places. hosted_rest (seats_of starts places) at_zero net one.steps (untimed w.moves)
-              (hosted starts fresh (more ++ past) hosts still (one.steps ++ untimed w.moves)
-              (IsRun-append names net one.steps (untimed w.moves) one.may w.may)
-              (all-append (first starts) at_zero (moments starts between) net one.steps (untimed w.moves) (moments starts hosts) held w.held) places);
-        };
-        moves = w.moves;
-        are_these = refl;
-        of_events = w.by_events;
-        showed = λ places s.
-            subst (λ (m : ℤ). clocks_in (seats_of starts places) at_zero one.steps s ≤ℤ m) (shows starts past between (ran starts past between was) s)
-            (clocks_low (first starts) (seats_of starts places) at_zero at_zero net one.steps (moments starts between) held (λ side. no_earlier (pos 0)) s);
-      },
-    )
+    let (between, all) = all_events_move starts past more hosts fresh typed still in (between, all.was, all.them)

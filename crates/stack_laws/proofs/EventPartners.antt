@@ -34,7 +34,8 @@ use Rattle.stack_laws.proofs.EventHops.{are_let_go_there}
 use Rattle.stack_laws.specs.Progress.Acquainted.{AreAcquainted}
 use Rattle.stack_laws.proofs.EventConnected.{begins, of_one_net}
 use Rattle.stack_laws.proofs.EventLeave.{are_let_go}
-use Rattle.stack_laws.proofs.EventMoves.{events_move}
+use Rattle.stack_laws.proofs.EventMoves.{all_events_move}
+use Rattle.stack_laws.proofs.EventNow.{anything, fresh_within}
 use Rattle.stack_laws.proofs.EventReach.{linked as linked_in_reach}
 use Rattle.stack_laws.proofs.EventSpace.{read_within}
 use Rattle.stack_laws.proofs.EventStamps.{fresh_unstamped}
@@ -42,8 +43,9 @@ use Rattle.stack_laws.proofs.EventStreams.{keep_streams}
 use Rattle.stack_laws.proofs.MovedOn as MovedOn
 use Rattle.stack_laws.proofs.StillPartners.{clocks, mid, on_between, shown, still_partners}
 use Rattle.stack_laws.specs.Progress.ByEvents.{GoOnByEvents}
+use Rattle.stack_laws.specs.Progress.Days.{HasDays}
 use Rattle.stack_laws.specs.Progress.Ends.{AreBoth}
-use Rattle.stack_laws.specs.Progress.Hearing.{AreSo}
+use Rattle.stack_laws.specs.Progress.Hearing.{AreSo, IsAnything}
 use Rattle.stack_laws.specs.Progress.Linked.{AreLinked}
 use Rattle.stack_laws.specs.Progress.Events.{MoveBy, clock_in, shown_in, untimed}
 use Rattle.stack_laws.specs.Progress.Moving.{AreBrought, AreLetGo, ComeFresh, ComeInTime, IsFreshFor, IsHeardBy, IsReadInTime, IsTcp, SocketIs, moves_of}
@@ -89,7 +91,9 @@ pub go_on_by_events : (starts : Starts) (past more : List Entry) (hosts : Statio
     HaveKeys (seats_of starts places) → HoldText (seats_of starts places) → ArePartners past A (places A) (places B)
     → (between : Stations) × GoOnByEvents starts past between more hosts still places
 go_on_by_events starts past more hosts places news fresh typed still new keys text partners =
-    let (between, was, them) = events_move starts past more hosts fresh typed still in
+    let (between, all) = all_events_move starts past more hosts fresh typed still in
+    let was = all.was in
+    let them = all.them in
     let seats = seats_of starts places in
     let net = first_net starts in
     let ways = them.plainly in
@@ -146,6 +150,17 @@ go_on_by_events starts past more hosts places news fresh typed still new keys te
     anywhere moves is read wait delay so streams
     (are_let_go_there starts places they.own they.pairs at past more hosts still moves (by moves is) they.leave they.connected they.known)
     (brought_there starts ways.before past more hosts still places moves delay IsFreshFor fresh typed ways.may partners (by moves is) they fit) in
+    let within_days : (moves : List (ℤ × Happening)) → timed moves ≡ them.moves → AreNumbered seats at (moves_of moves) → (read wait : ℕ)
+    → ((s : Side) → AreEventsInTime starts places read wait s past between more hosts still) → ((s : Side) → KeepsStreamBy (places s) s past more)
+    → AreAcquainted starts places 0 past more hosts still → ((s : Side) → HasDays (more ++ past) (places s) s)
+    → ComeInTime read wait 0 (clock_in past) seats at_clocks at moves =
+    λ moves is numbered read wait so streams they days.
+    anywhere moves is read wait 0 so streams
+    (are_let_go_there starts places they.own they.pairs at past more hosts still moves (by moves is) they.leave they.connected they.known)
+    (fresh_within starts past more hosts fresh still places news new keys text partners between all days moves is (so A).one_clock
+    (λ s. upto (at_clocks s) (shown_in starts past s) (clock_in past) (them.showed places s) (so s).clock) numbered
+    (brought_there starts ways.before past more hosts still places moves 0 IsAnything fresh typed ways.may partners (by moves is) they
+    (anything seats moves))) in
     let in_reach : (delay : ℕ) → AreBoth (λ s v. IsOpen v.block) places between → AreBoth (λ s v. is_synchronized v.block.state ≡ true) places hosts
     → AreInReach starts delay past more hosts still → AreLinked starts places delay past more hosts still =
     λ delay opened stay reach.
@@ -184,6 +199,7 @@ go_on_by_events starts past more hosts places news fresh typed still new keys te
         fresh_without_timestamps = λ moves is unstamped. fresh_unstamped starts at past more hosts still places moves (by moves is) unstamped;
         in_time_over_links = over_links;
         in_time_where_known = where_known;
+        in_time_within_days = within_days;
         linked_in_reach = in_reach;
         in_time_in_reach = λ moves is read wait delay so streams reach fit.
             over_links moves is read wait delay so streams (in_reach delay (so A).opened (so A).stay reach) fit;

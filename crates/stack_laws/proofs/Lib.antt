@@ -39,6 +39,7 @@ pub mod EventTold
 pub mod EventItems
 pub mod EventWaitless
 pub mod EventFacts
+pub mod EventEnds
 pub mod EventComes
 pub mod EventStamps
 pub mod EventStreams
@@ -51,5 +52,9 @@ pub mod Rounds
 pub mod Blocks
 pub mod MovedEvents
 pub mod Moved
+pub mod SentNow
+pub mod MovedNow
+pub mod EventDays
+pub mod EventNow
 pub mod MovedOn
 pub mod AtEdges

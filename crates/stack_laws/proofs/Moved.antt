@@ -420,7 +420,7 @@ module _ (seats : Side → Seat) (who : Pairs.Side) where
   shown_upto last now place (Resets x) before is = before
   shown_upto last now place (Changes at old new) before is = before
 
-  clock_upto : (clocks : Side → ℤ) (old now : ℤ) (r side : Side) (move : Move) → clocks side ≤ℤ old → old ≤ℤ now
+  pub clock_upto : (clocks : Side → ℤ) (old now : ℤ) (r side : Side) (move : Move) → clocks side ≤ℤ old → old ≤ℤ now
       → IsAtMoment now (clocks r) (seats r).place move → clocks_after seats clocks (record { side = r; move = move }) side ≤ℤ now
   clock_upto clocks old now A A move clock later is = shown_upto (clocks A) now (seats A).place move (upto (clocks A) old now clock later) is
   clock_upto clocks old now B B move clock later is = shown_upto (clocks B) now (seats B).place move (upto (clocks B) old now clock later) is

@@ -56,13 +56,13 @@ clock_mtu p Of.A Of.B m = refl
 clock_mtu p Of.B Of.A m = refl
 clock_mtu p Of.B Of.B m = refl
 
-clock_sent : (p : PairValue) (side d : Pairs.Side) (m : ℤ) → (at (takes p (Ev.Clock side m)).sides d).sent ≡ (at p.sides d).sent
+pub clock_sent : (p : PairValue) (side d : Pairs.Side) (m : ℤ) → (at (takes p (Ev.Clock side m)).sides d).sent ≡ (at p.sides d).sent
 clock_sent p Of.A Of.A m = refl
 clock_sent p Of.A Of.B m = refl
 clock_sent p Of.B Of.A m = refl
 clock_sent p Of.B Of.B m = refl
 
-clock_past : (p : PairValue) (side d : Pairs.Side) (m : ℤ) → at (pasts (takes p (Ev.Clock side m)).history) d ≡ at (pasts p.history) d
+pub clock_past : (p : PairValue) (side d : Pairs.Side) (m : ℤ) → at (pasts (takes p (Ev.Clock side m)).history) d ≡ at (pasts p.history) d
 clock_past p Of.A Of.A m = refl
 clock_past p Of.A Of.B m = refl
 clock_past p Of.B Of.A m = refl

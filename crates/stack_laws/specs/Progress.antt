@@ -30,6 +30,7 @@ pub mod OneClock
 pub mod Serving
 pub mod AtOnce
 pub mod Unread
+pub mod Days
 pub mod Carried
 pub mod Ends
 pub mod Hearing

@@ -1,6 +1,6 @@
 -- A world on numerals in which rounds may begin, and the one behind its events.
 use Rattle.std.proofs.Common.{◌≡◌, inl, leb-true, ltb-true, true, false, ℤ, [], None, Some, refl, arith}
-use Rattle.std.specs.Prelude.{◌≤ℤ◌, IsTrue, pos}
+use Rattle.std.specs.Prelude.{◌+ℤ◌, ◌≤ℤ◌, IsTrue, pos}
 use Rattle.std.proofs.lemmas.Int.{ints}
 use Rattle.tcp_model.specs.Value.{TcpValue}
 use Rattle.tcp_progress.specs.Exchange.{IsOpen}
@@ -18,6 +18,7 @@ use Rattle.lan.specs.Worlds.AtLink.Station.{station}
 use Rattle.lan.proofs.Worlds.StillOnward.{ran}
 use Rattle.lan_base.specs.Port.{has_leave}
 use Rattle.stack_laws.specs.Progress.AtOnce.{AreUnmarked}
+use Rattle.stack_laws.specs.Progress.Days.{HasDays, KeepsTime}
 use Rattle.stack_laws.specs.Progress.Events.{clock_in, shown_in}
 use Rattle.stack_laws.specs.Progress.SettledNumerals.{history, hosts, news, opened, place, starts, told_to_send, writing}
 use Rattle.stack_laws.specs.Progress.Unread.{HasRoomForAll}
@@ -106,7 +107,7 @@ may_settle = record {
   partners = partners;
   are = are;
   opened = open_now;
-  unstamped = no_stamps;
+  stamps = inl no_stamps;
   streams = streams;
   rooms = rooms;
   clocks = clocks;
@@ -114,3 +115,37 @@ may_settle = record {
   stay = both_stay;
   leave = leaves;
 }
+
+-- 24 DAYS aren't over since either host was first polled
+
+later_on : pos 0 ≤ℤ pos 10_000
+later_on = omega (arith, ints)
+
+in_days : pos 10_000 ≤ℤ (pos 0 +ℤ pos 2_073_600_000_000)
+in_days = first_of (omega (arith, ints), grind (arith, ints))
+
+keeps : (side : Side) → KeepsTime (pos 0) side (place side) history
+keeps side = (
+  tt,
+  tt,
+  λ own. later_on,
+  tt,
+  λ own. later_on,
+  λ own. now,
+  tt,
+  λ own. now,
+  λ own here. tt,
+  λ own. now,
+  tt,
+  λ own. now,
+  tt,
+  λ own. now,
+  tt,
+  λ own. now,
+  λ own here. tt,
+  λ own here. tt,
+  tt,
+)
+
+pub has_days : (side : Side) → HasDays history (place side) side
+has_days side = record { since = pos 0; begun = now; timed = keeps side; within = in_days }

@@ -1,5 +1,5 @@
 -- Where the clock of rounds goes on far enough, all has arrived.
-use Rattle.std.proofs.Common.{◌≡◌, inl, inr, ℕ, suc, ◌+◌, ◌-◌, ◌*◌, ◌<◌, ◌≤◌, ℤ, pos, ◌+ℤ◌, ◌<ℤ◌, true, false, List, [], ◌∷◌, ◌++◌, length, Option, Some, None, refl, sym, ap, ◌∙◌, subst, arith}
+use Rattle.std.proofs.Common.{◌≡◌, ◌⊎◌, inl, inr, ℕ, suc, ◌+◌, ◌-◌, ◌*◌, ◌<◌, ◌≤◌, ℤ, pos, ◌+ℤ◌, ◌<ℤ◌, true, false, List, [], ◌∷◌, ◌++◌, Option, Some, None, refl, sym, ap, ◌∙◌, subst, arith}
 use Rattle.std.specs.Prelude.{max, slice_index_or}
 use Rattle.std.proofs.lemmas.Int.{ints}
 use Rattle.std.proofs.lemmas.List.{append_cancel_right}
@@ -44,16 +44,18 @@ use Rattle.lan.proofs.Worlds.StillOnward.{ran}
 use Rattle.stack_laws.specs.Progress.Acquainted.{AreAcquainted}
 use Rattle.stack_laws.specs.Progress.ByEvents.{GoOnByEvents}
 use Rattle.stack_laws.specs.Progress.Edges.{edge_span}
+use Rattle.stack_laws.specs.Progress.Days.{HasDays}
 use Rattle.stack_laws.specs.Progress.Ends.{AreBoth, AreThroughout, AreUnstamped, IsConnected}
-use Rattle.stack_laws.specs.Progress.Events.{MoveBy, all_at, clock_in, untimed}
+use Rattle.stack_laws.specs.Progress.Events.{clock_in, untimed}
 use Rattle.stack_laws.specs.Progress.KnownHops.{IsUnmarkedAt, KnowEachOther}
 use Rattle.stack_laws.specs.Progress.Moving.{ComeInTime, GoOnByMoves, IsTcp, end_in, moves_of}
 use Rattle.stack_laws.specs.Progress.OneClock.{timed}
 use Rattle.stack_laws.specs.Progress.Reach.{hosts_before}
-use Rattle.stack_laws.specs.Progress.Serving.{AreEventsInTime, HasSpace, HasSpaceThroughout, IsAtHost}
+use Rattle.stack_laws.specs.Progress.Serving.{AreEventsInTime, HasSpace, HasSpaceThroughout, IsAtHost, KeepsStreamBy}
 use Rattle.stack_laws.specs.Progress.Settled.{HasArrived}
 use Rattle.stack_laws.specs.Progress.Within.{AskForNone, GoAtOnce, MayBegin, MaySettle, NobodyWaits, StayAcquainted, enough_for, minutes_for, positions_in}
 use Rattle.stack_laws.proofs.EventConnected.{StaysConnected, begins, of_one_net, stays_connected}
+use Rattle.stack_laws.proofs.EventEnds.{end_timed, ends, ends_now}
 use Rattle.stack_laws.proofs.EventFacts.{both_now, net_at}
 use Rattle.stack_laws.proofs.EventHops.{all_know, no_address}
 use Rattle.stack_laws.proofs.EventIdle.{first_unmarked, none_wait}
@@ -71,44 +73,6 @@ use Rattle.stack_laws.proofs.StillPartners.{partners_stay}
 
 upto : (a b c : ℕ) → a ≤ b → b ≤ c → a ≤ c
 upto a b c one two = omega (arith, one, two)
-
--- THE LAST MOVE is made when the clock shows what it shows in the end
-
-abbrev ends : ℤ → List (ℤ × Step) → ℤ
-ends now [] = now
-ends now (x ∷ more) = ends x.0 more
-
-end_timed : (moves : List (ℤ × Happening)) (now : ℤ) → end_in now moves ≡ ends now (timed moves)
-end_timed [] now = refl
-end_timed (x ∷ moves) now = end_timed moves x.0
-
-ends_rest : (t : ℤ) (steps : List Step) → ends t (all_at t steps) ≡ t
-ends_rest t [] = refl
-ends_rest t (step ∷ steps) = ends_rest t steps
-
-ends_all : (t : ℤ) (steps : List Step) (now : ℤ) → (steps ≡ [] → ⊥) → ends now (all_at t steps) ≡ t
-ends_all t [] now some = absurd (some refl)
-ends_all t (step ∷ steps) now some = ends_rest t steps
-
-ends_at : (t : ℤ) (steps : List Step) (before : List (ℤ × Step)) (now : ℤ) → (steps ≡ [] → ⊥) → ends now (before ++ all_at t steps) ≡ t
-ends_at t steps [] now some = ends_all t steps now some
-ends_at t steps (x ∷ before) now some = ends_at t steps before x.0 some
-
--- an event is kept, so it is some move
-some_step : (net : Net) (steps : List Step) (hosts new : Stations) (history : List Entry) (e : Entry) → IsNetOf net hosts history
-    → IsNetOf (run net steps) new (e ∷ history) → steps ≡ [] → ⊥
-some_step net steps hosts new history e of then none =
-    let count : length (e ∷ history) ≡ length history =
-    ap (λ (h : List Entry). length h) (sym then.history ∙ ap (λ (ss : List Step). (run net ss).history) none ∙ of.history) in
-    omega (arith, count)
-
-ends_now : (starts : Starts) (net : Net) (past more : List Entry) (hosts : Stations) (still : StillRun starts (more ++ past) hosts) (moves : List (ℤ × Step))
-    → MoveBy starts net past more hosts still moves → ends (clock_in past) moves ≡ clock_in (more ++ past)
-ends_now starts net past [] hosts still moves by = ap (ends (clock_in past)) by.0
-ends_now starts net past (e ∷ more) hosts still moves (before, these, is, by, happens) =
-    ap (ends (clock_in past)) is
-    ∙ ends_at (clock_in (e ∷ more ++ past)) these before (clock_in past)
-    (some_step (run net (untimed before)) these still.0 hosts (more ++ past) e (net_at starts net past more still.0 still.1 before by) happens.of)
 
 -- WHAT WAS ACKNOWLEDGED STAYS SO, where nothing more is written
 
@@ -311,10 +275,10 @@ module _ (once : Once) (places : Side → ℕ) (news : Side → NewSocket) (from
         fills = fills_itself (sockets s).received;
       }))
 
-  unstamped : AreUnstamped starts places past more hosts still
-  unstamped =
+  unstamped : ((s : Side) → (sockets s).block.peer.timestamps ≡ false) → AreUnstamped starts places past more hosts still
+  unstamped none =
       both_throughout (Stays places sockets) (λ s. IsConnected (connection.pairs s)) (λ s v. (is_synchronized v.block.state ≡ true) × (v.block.peer.timestamps ≡ false))
-      (λ s v stay connected. (connected.0, stay.stamps ∙ may.unstamped s)) starts places past more hosts still stays connection.connected
+      (λ s v stay connected. (connected.0, stay.stamps ∙ none s)) starts places past more hosts still stays connection.connected
 
   abbrev rooms : Side → ℕ
   rooms s = room_of (sockets s).received
@@ -367,10 +331,18 @@ module _ (once : Once) (places : Side → ℕ) (news : Side → NewSocket) (from
   abbrev seats : Side → Seat
   seats = seats_of starts places
 
+  keep : (s : Side) → KeepsStreamBy (places s) s past more
+  keep s = streams_stay past more s (places s) services (may.streams s)
+
   come : ComeInTime 0 0 0 (clock_in past) seats by.goes.clocks net moves
-  come =
-      by.in_time_where_known moves by.numbers.1 0 0 0 events_in_time (λ s. streams_stay past more s (places s) services (may.streams s)) acquainted
-      (by.fresh_without_timestamps moves by.numbers.1 unstamped)
+  come = by_stamps may.stamps where
+    by_stamps : ((s : Side) → (sockets s).block.peer.timestamps ≡ false) ⊎ ((s : Side) → HasDays new.history (places s) s)
+        → ComeInTime 0 0 0 (clock_in past) seats by.goes.clocks net moves
+    by_stamps (inl none) =
+        by.in_time_where_known moves by.numbers.1 0 0 0 events_in_time keep acquainted (by.fresh_without_timestamps moves by.numbers.1 (unstamped none))
+    by_stamps (inr days) =
+        by.in_time_within_days moves by.numbers.1 by.numbers.2 0 0 events_in_time keep acquainted
+        (λ s. subst (λ (h : List Entry). HasDays h (places s) s) they.history (days s))
 
   abbrev p : PairValue
   p = by.goes.reached.pair

@@ -11,6 +11,7 @@ use Rattle.lan.specs.Worlds.AtLink.Station.{Stations}
 use Rattle.lan.specs.Worlds.Still.{StillRun, seats_of}
 use Rattle.lan_base.specs.Medium.TheVariants as Medium
 use Rattle.stack_laws.specs.Progress.Acquainted.{AreAcquainted}
+use Rattle.stack_laws.specs.Progress.Days.{HasDays}
 use Rattle.stack_laws.specs.Progress.Ends.{AreBoth, AreUnstamped}
 use Rattle.stack_laws.specs.Progress.Events.{MoveBy, clock_in}
 use Rattle.stack_laws.specs.Progress.Hearing.{AreSo}
@@ -27,7 +28,8 @@ use Rattle.stack_laws.specs.Progress.Serving.{AreEventsInTime, GiveLeave, KeepsS
 -- for both, and both streams stay no empty ones, it is enough that each segment comes in time, wherever it lies. Over links that bring what is sent in time
 -- each does: so of the moves nothing else is asked than that no segment which comes has a timestamp that is older than TS.Recent, as none has where no
 -- timestamps were agreed on; or that each that comes is heard. So it is on any medium, where the hosts know
--- each other throughout. Partners that are open, and stay, are linked so where their hosts reach each other.
+-- each other throughout. Where each frame is taken before the clock goes on, nothing is asked of timestamps within 24 days since either host was
+-- first polled. Partners that are open, and stay, are linked so where their hosts reach each other.
 pub record GoOnByEvents (starts : Starts) (past : List Entry) (between : Stations) (more : List Entry) (hosts : Stations)
     (still : StillRun starts (more ++ past) hosts) (places : Side → ℕ) : Type 0 where
   pub goes : GoOnBetween starts past between (more ++ past) hosts (seats_of starts places)
@@ -61,6 +63,11 @@ pub record GoOnByEvents (starts : Starts) (past : List Entry) (between : Station
       → ((side : Side) → KeepsStreamBy (places side) side past more) → AreAcquainted starts places delay past more hosts still
       → AreSo IsFreshFor (seats_of starts places) moves
       → ComeInTime read wait delay (clock_in past) (seats_of starts places) goes.clocks goes.net moves
+  pub in_time_within_days : (moves : List (ℤ × Happening)) → timed moves ≡ steps → AreNumbered (seats_of starts places) goes.net (moves_of moves)
+      → (read wait : ℕ) → ((side : Side) → AreEventsInTime starts places read wait side past between more hosts still)
+      → ((side : Side) → KeepsStreamBy (places side) side past more) → AreAcquainted starts places 0 past more hosts still
+      → ((side : Side) → HasDays (more ++ past) (places side) side)
+      → ComeInTime read wait 0 (clock_in past) (seats_of starts places) goes.clocks goes.net moves
   pub linked_in_reach : (delay : ℕ) → AreBoth (λ side v. IsOpen v.block) places between
       → AreBoth (λ side v. is_synchronized v.block.state ≡ true) places hosts → AreInReach starts delay past more hosts still
       → AreLinked starts places delay past more hosts still

@@ -1,5 +1,5 @@
 -- By when all has arrived where a world ran rounds.
-use Rattle.std.specs.Prelude.{◌≡◌, ℕ, suc, ◌+◌, ◌*◌, max, ℤ, ◌≤ℤ◌, true, false, IsTrue, List, [], ◌∷◌, ◌++◌, length, Some}
+use Rattle.std.specs.Prelude.{◌≡◌, ◌⊎◌, ℕ, suc, ◌+◌, ◌*◌, max, ℤ, ◌≤ℤ◌, true, false, IsTrue, List, [], ◌∷◌, ◌++◌, length, Some}
 use Rattle.ip_wire.specs.HardwareAddress.{HardwareAddress}
 use Rattle.tcp_control.specs.declared.endpoints.EndpointPair.{EndpointPair}
 use Rattle.tcp_model.specs.Blocks.{one_if}
@@ -26,6 +26,7 @@ use Rattle.lan.specs.Worlds.Moves.Joined.{first_net}
 use Rattle.lan.specs.Worlds.Still.{StillRun, seats_of}
 use Rattle.stack_laws.specs.Progress.AtOnce.{AreUnmarked}
 use Rattle.stack_laws.specs.Progress.Carried.{AreCarried}
+use Rattle.stack_laws.specs.Progress.Days.{HasDays}
 use Rattle.stack_laws.specs.Progress.Ends.{AreBoth}
 use Rattle.stack_laws.specs.Progress.Events.{clock_in, shown_in}
 use Rattle.stack_laws.specs.Progress.KnownHops.{IsUnmarkedAt, KnowEachOther}
@@ -99,9 +100,10 @@ enough_for history places sockets =
 
 -- WHAT IS ASKED
 
--- Rounds begin at this moment in the old world, in which two partners, each a new socket at first, have these values. Both are open, without timestamps and
--- with streams that are no empty ones, and each has a receive buffer for all that the other's user wrote; no host's clock is ahead. In the new world both
--- have their connection, and their links give leave to send; and the hosts were still throughout.
+-- Rounds begin at this moment in the old world, in which two partners, each a new socket at first, have these values. Both are open, with streams that are no
+-- empty ones, and each has a receive buffer for all that the other's user wrote; no host's clock is ahead. In the new world both have their connection, and
+-- their links give leave to send; and the hosts were still throughout. Either no timestamps were agreed on, or in the new world 24 days aren't over since
+-- either host was first polled.
 pub record MaySettle (places : Side → ℕ) (news : Side → NewSocket) (from : ℤ) (sockets : Side → TcpValue) (old new : WorldValue) : Type 0 where
   pub begins : MayBegin places from old
   pub keys : HaveKeys (seats_of old.starts places)
@@ -110,7 +112,7 @@ pub record MaySettle (places : Side → ℕ) (news : Side → NewSocket) (from :
   pub partners : ArePartners old.history A (places A) (places B)
   pub are : (side : Side) → IsTcpAt (net_of old) side (places side) (sockets side)
   pub opened : (side : Side) → IsOpen (sockets side).block
-  pub unstamped : (side : Side) → (sockets side).block.peer.timestamps ≡ false
+  pub stamps : ((side : Side) → (sockets side).block.peer.timestamps ≡ false) ⊎ ((side : Side) → HasDays new.history (places side) side)
   pub streams : (side : Side) → HasStream (told old.history side (places side))
   pub rooms : (side : Side) → HasRoomForAll old.history places side (sockets side)
   pub clocks : (side : Side) → shown_in old.starts old.history side ≤ℤ clock_in old.history

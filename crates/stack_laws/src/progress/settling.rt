@@ -16,6 +16,7 @@ ghost use Rattle.lan.specs.Worlds.AtLink.Steps.{PollsAt};
 ghost use Rattle.lan.specs.Worlds.Events.{AreTyped};
 ghost use Rattle.lan.specs.Worlds.Settling.{AreAtRest, IsService, Settles};
 ghost use Rattle.lan.specs.Worlds.Still.{StillRun};
+ghost use Rattle.stack_laws.specs.Progress.Days.{HasDays};
 ghost use Rattle.stack_laws.specs.Progress.Events.{clock_in};
 ghost use Rattle.stack_laws.specs.Progress.Settled.{HasArrived};
 ghost use Rattle.stack_laws.specs.Progress.SettledNumerals as Numerals;
@@ -116,6 +117,7 @@ pub fn what_settles_arrives_at_rest_or_in_time()
 /// Law: there are two worlds that meet all that this asks for of worlds: as A's user has written in the world on numerals that settles, and as all has come.
 pub fn a_world_that_settles_may_settle()
     ensures { (old new : WorldValue) × (sockets : Side → TcpValue) × MaySettle place news (pos 0) sockets old new × AskForNone old.starts
+        × ((side : Side) → HasDays new.history (place side) side)
         × (new.history ≡ Numerals.history) × (old.history ≡ Numerals.told_to_send) }
 {}
 
