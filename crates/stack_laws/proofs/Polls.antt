@@ -70,6 +70,15 @@ pub mod SomeWorld
 pub mod SomeLinked
 pub mod SomeSettling
 pub mod SomeRests
+pub mod SomeKept
+pub mod SomeKeptSends
+pub mod SomeKeptLearns
+pub mod SomeKeptAlive
+pub mod SomeKeptAsks
+pub mod SomeKeptAnswers
+pub mod SomeKeptWorld
+pub mod SomeKeptRounds
+pub mod SomeKeptSettling
 pub mod NextAtPorts
 pub mod SomeNeighbors
 pub mod SomeExchange

@@ -19,6 +19,7 @@ pub mod Numerals
 pub mod InARow
 pub mod SegmentNumerals
 pub mod SettledNumerals
+pub mod LateNumerals
 pub mod OnEthernet
 pub mod Partners
 pub mod Moving

@@ -183,7 +183,7 @@ Unstamped side v = (is_synchronized v.block.state ≡ true) × (v.block.peer.tim
 
 -- both sockets, wherever their stations are
 module _ (IsSo : Side → TcpValue → Type 0) where
-  both_are : (a b : StationValue) → IsAtHost 0 a (IsSo A) → IsAtHost 0 b (IsSo B) → AreBoth IsSo place (record { a = a; b = b })
+  pub both_are : (a b : StationValue) → IsAtHost 0 a (IsSo A) → IsAtHost 0 b (IsSo B) → AreBoth IsSo place (record { a = a; b = b })
   both_are a b is_a is_b A = is_a
   both_are a b is_a is_b B = is_b
 

@@ -72,7 +72,7 @@ quiet_a = record { port = port_of through_a; port_after = port_of through_a; bef
 abbrev again_b : TcpValue
 again_b = asked_by (with_next_ident b_later) (through B)
 
-abbrev still_b : StationValue
+abbrev pub still_b : StationValue
 still_b = record through_b { places = unmarked (Kind.Tcp again_b) ∷ [] }
 
 abbrev found_b : State PortValue
@@ -109,7 +109,7 @@ rests_b = (
 polls_b : Polls PortMove later 1 (state_of through_b) false rested_b
 polls_b = (found_b, false, inl (none_b, refl), inl (rests_b, refl))
 
-quiet_b : PollsAt through_b later 1 false still_b
+pub quiet_b : PollsAt through_b later 1 false still_b
 quiet_b = record { port = port_of through_b; port_after = port_of through_b; before = refl; after = refl; polls = polls_b; none_denied = refl }
 
 -- THE ROUND

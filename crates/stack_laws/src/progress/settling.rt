@@ -1,10 +1,11 @@
 //! What rounds of a world bring, and by when.
 
-ghost use Rattle.std.specs.Prelude.{◌≡◌, ◌⊎◌, ◌++◌, ℕ, ◌≤◌, ℤ, pos, ◌+ℤ◌, ◌<ℤ◌, Bool, true, false, List, length, Option, Some};
+ghost use Rattle.std.specs.Prelude.{◌≡◌, ◌⊎◌, ◌++◌, ℕ, ◌≤◌, ℤ, pos, ◌+ℤ◌, ◌<ℤ◌, Bool, true, false, List, length, Option, Some, None};
 ghost use Rattle.std.specs.List.{AllByRecursion};
 ghost use Rattle.interface.specs.Ingress.{is_read};
 ghost use Rattle.tcp_model.specs.Value.{TcpValue};
 ghost use Rattle.lan.specs.declared.at_link.history.event.Side.{Side};
+ghost use Rattle.lan.specs.declared.at_link.history.event.Side.TheVariants.{A, B};
 ghost use Rattle.lan.specs.Worlds.AtLink.History.{Entry};
 ghost use Rattle.lan.specs.Worlds.AtLink.Kinds.{other};
 ghost use Rattle.lan.specs.Worlds.AtLink.PacketsSafe.{IsTcpAt};
@@ -18,10 +19,12 @@ ghost use Rattle.lan.specs.Worlds.Settling.{AreAtRest, IsService, Settles};
 ghost use Rattle.lan.specs.Worlds.Still.{StillRun};
 ghost use Rattle.stack_laws.specs.Progress.Days.{HasDays};
 ghost use Rattle.stack_laws.specs.Progress.Events.{clock_in};
+ghost use Rattle.stack_laws.specs.Progress.LateNumerals as Late;
 ghost use Rattle.stack_laws.specs.Progress.Settled.{HasArrived};
 ghost use Rattle.stack_laws.specs.Progress.SettledNumerals as Numerals;
 ghost use Rattle.stack_laws.specs.Progress.SettledNumerals.{news, place};
 ghost use Rattle.stack_laws.specs.Progress.Within.{AskForNone, GoAtOnce, MayBegin, MaySettle, NobodyWaits, StayAcquainted, enough_for};
+ghost use Rattle.stack_laws.specs.Worlds.Hosts.{text};
 
 use super::at_once::nobody_waits_without_hardware_addresses;
 use super::events::partners_go_on_by_their_events;
@@ -127,3 +130,18 @@ pub fn a_world_at_rest_settles()
     ensures { (new : WorldValue) × Settles 1 Numerals.later 1 (Some Numerals.later)
         (record { hosts = Numerals.hosts; starts = Numerals.starts; history = Numerals.history }) new }
 {}
+
+/// Law: there are worlds of which it is all so at once. A's user has written abc, which hasn't gone yet, and asked for a keep-alive every seven hours. Four
+/// rounds begin there, the first three within ten milliseconds, and the fourth at seven hours: that is further on than what is enough, which is 364
+/// minutes. So abc has come to B by what is said of rounds whose clock went on so far; they are over before the world is at rest.
+pub fn a_world_settles_in_time()
+    ensures under_way { Late.kept.queued.queue ≡ text }
+    ensures may { MaySettle place news (pos 0) Late.sockets Late.before Late.behind }
+    ensures none { AskForNone Late.before.starts }
+    ensures settles { Settles 1 (pos 0) 4 None Late.before Late.behind }
+    ensures enough { enough_for Late.before.history place Late.sockets ≡ 364 * 60_000_000 }
+    ensures clock { (clock_in Late.before.history +ℤ pos (enough_for Late.before.history place Late.sockets)) <ℤ clock_in Late.behind.history }
+    ensures arrived { HasArrived (net_of Late.behind) A (place A) (place B) Late.kept_asking Late.answering }
+{
+    what_settles_arrives_in_time();
+}

@@ -1,0 +1,30 @@
+-- The hosts between the events of rounds on numerals, where A's user asked for keep-alives.
+use Rattle.std.proofs.Common.{List, [], ◌∷◌, ℕ}
+use Rattle.std.specs.Prelude.{pos}
+use Rattle.interface.specs.Host.{maintained}
+use Rattle.interface_tables.specs.Inner.{with_next_ident}
+use Rattle.lan.specs.declared.at_link.history.event.Side.TheVariants.{A, B}
+use Rattle.lan.specs.Worlds.AtLink.Station.{StationValue}
+use Rattle.stack_laws.specs.Progress.LateNumerals.{a_late, acknowledging, keep_alive_frame, kept_asking, kept_through, kept_waiting}
+use Rattle.stack_laws.specs.Progress.LateNumerals.{kept_written, polled_late}
+use Rattle.stack_laws.specs.Progress.SettledNumerals.{a_later, a_third, ack_frame, b_later, first_host, last_frame, polled_later, push_frame, station_with}
+use Rattle.stack_laws.specs.Progress.SettledNumerals.{syn_ack_frame, syn_frame}
+
+-- A as abc has gone, as it was polled in vain, as abc is acknowledged, and as a keep-alive has gone
+abbrev pub kept_written_a : StationValue
+kept_written_a =
+    station_with (record (maintained (pos 0) (first_host A)) { inner = a_third }) kept_written [] (syn_frame ∷ ack_frame ∷ push_frame ∷ [])
+
+abbrev pub kept_waiting_a : List (List ℕ) → StationValue
+kept_waiting_a waiting = station_with (polled_later A a_later) kept_waiting waiting (syn_frame ∷ ack_frame ∷ push_frame ∷ [])
+
+abbrev pub kept_through_a : StationValue
+kept_through_a = station_with (polled_later A a_later) kept_through [] (syn_frame ∷ ack_frame ∷ push_frame ∷ [])
+
+abbrev pub kept_asking_a : List (List ℕ) → StationValue
+kept_asking_a waiting =
+    station_with (polled_late A (with_next_ident a_late)) kept_asking waiting (syn_frame ∷ ack_frame ∷ push_frame ∷ keep_alive_frame ∷ [])
+
+-- B as it was polled in vain, and behind the poll that reads the keep-alive
+abbrev pub acknowledging_b : List (List ℕ) → StationValue
+acknowledging_b waiting = station_with (polled_later B (with_next_ident b_later)) acknowledging waiting (syn_ack_frame ∷ last_frame ∷ [])
