@@ -72,7 +72,7 @@ def settled(lan, script):
     """The same of a case of two sockets (docs/PROGRAM.md), each cut in a pair of its own, which `settle` closes."""
     events = [line for line in script if line.startswith(("sockets ", "> "))]
     cuts = [(cut, LONGEST) for cut in range(1, len(events) + 1)]
-    spans = [(len(events), seconds * SECOND) for seconds in range(LONGEST // SECOND)]
+    spans = [(len(events), seconds * SECOND) for seconds in range(LONGEST // SECOND + 1)]
     cases = [f"== {cut}\n" + "\n".join([*events[:cut], f"> settle {span}"]) + "\n" for cut, span in cuts + spans]
     ran = subprocess.run([lan], input="".join(cases), stdout=subprocess.PIPE, text=True)
     ends = [case.rsplit("\n= ", 1)[-1].split("\n")[0] for case in ran.stdout.split("\n== ")]
