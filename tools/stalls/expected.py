@@ -1,4 +1,5 @@
 """What must come of a course, by its name: in words, and as a test of what the hosts sent and read."""
+import subprocess
 from collections import namedtuple
 
 from play import ACK, FIN, OTHER, RST, SYN, Course, Ended
@@ -65,6 +66,23 @@ def standstill(lan, script):
         cuts += 1
         longest = max(longest, (took, cut))
     return None, f"read {in_seconds(took)} behind its end; cut off behind each of {cuts} lines, at most {in_seconds(longest[0])} behind line {longest[1]}"
+
+
+def settled(lan, script):
+    """The same of a case of two sockets (docs/PROGRAM.md), each cut in a pair of its own, which `settle` closes."""
+    events = [line for line in script if line.startswith(("sockets ", "> "))]
+    cuts = [(cut, LONGEST) for cut in range(1, len(events) + 1)]
+    spans = [(len(events), seconds * SECOND) for seconds in range(LONGEST // SECOND + 1)]
+    cases = [f"== {cut}\n" + "\n".join([*events[:cut], f"> settle {span}"]) + "\n" for cut, span in cuts + spans]
+    ran = subprocess.run([lan], input="".join(cases), stdout=subprocess.PIPE, text=True)
+    ends = [case.rsplit("\n= ", 1)[-1].split("\n")[0] for case in ran.stdout.split("\n== ")]
+    if ran.returncode or len(ends) != len(cases):
+        return f"the program ended with status {ran.returncode}", "ended"
+    for (cut, _), end in zip(cuts, ends):
+        if end != "all read":
+            return f"cut behind event {cut - 1}, after {in_seconds(LONGEST)} of a good link: {end}", f"{cut - 1} cuts before it"
+    took = next(span for (_, span), end in zip(spans, ends[len(cuts) :]) if end == "all read")
+    return None, f"read within {in_seconds(took)} behind its end; cut off behind each of {len(cuts)} lines, within {in_seconds(LONGEST)}"
 
 
 def read_soon(course, limit=LONGEST, delay=DELAY):
@@ -228,6 +246,9 @@ EXPECTED = {
     "two_sides": STANDSTILL,
     "bulk": STANDSTILL,
     "probes": STANDSTILL,
+    "probes_cross": STANDSTILL,
+    "text_both_ways": STANDSTILL,
+    "nagle_holds_the_rest": STANDSTILL._replace(check=settled),
     "karn": Expected(
         "A round trip is taken of segments alone that went once, and a timeout that was doubled stays so until one is taken (RFC 6298, 3 and "
         "5): at a round trip of 1.3 s nothing goes twice once one was taken.",
