@@ -42,3 +42,7 @@ pub next_fits : {T : Type 0} (idle : T → Bool) (ps : List (SocketStorage T)) (
     → length ps ≤ n → n < 2 ^ 64 → (at : ℕ) → next ≡ Some at → at + 1 < 2 ^ 64
 next_fits idle ps from n None is few fits at same = absurd (cc)
 next_fits idle ps from n (Some x) is few fits at same = let here : x ≡ at = cc in omega (arith, is.1, few, fits, here)
+
+-- nothing lies behind the last place
+pub none_behind : {T : Type 0} (idle : T → Bool) (ps : List (SocketStorage T)) (from : ℕ) → length ps ≤ from → IsNextBusy idle from ps None
+none_behind idle ps from behind = λ i place since got. absurd (omega (arith, behind, since, slice_get_within ps i place got))

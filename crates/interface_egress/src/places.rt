@@ -117,7 +117,20 @@ impl<T: Idle> Places<T> {
     }
 
     /// The first place from this one on that isn't known to be at rest.
+    #[tactic(auto, using(crate::proofs::Resting::none_behind))]
     pub fn next_busy(&self, from: usize) -> Option<usize>
+        ensures next { IsNextBusy T.idle from self.now result }
+        ensures fits { ForSome result (λ at. at + 1 < 2 ^ 64) }
+    {
+        if from < self.storage.len() {
+            self.next_from(from)
+        } else {
+            None
+        }
+    }
+
+    /// The same where there is such a place.
+    fn next_from(&self, from: usize) -> Option<usize>
         ensures next { IsNextBusy T.idle from self.now result }
         ensures fits { ForSome result (λ at. at + 1 < 2 ^ 64) }
     {

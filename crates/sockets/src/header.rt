@@ -32,33 +32,58 @@ pub fn header_between(
 ) -> Option<IpRepr>
     ensures { result ≡ header_between source.now destination.now next_header payload_len hop_limit }
 {
-    match (*source, *destination) {
-        (IpAddress::Ipv4(src_addr), IpAddress::Ipv4(dst_addr)) => {
+    let mut header = None;
+    write_between(
+        source,
+        destination,
+        next_header,
+        payload_len,
+        hop_limit,
+        &mut header,
+    );
+    header
+}
+
+/// Writes this header, or that there is none, where it is wanted.
+pub fn write_between(
+    source: &IpAddress,
+    destination: &IpAddress,
+    next_header: IpProtocol,
+    payload_len: usize,
+    hop_limit: u8,
+    header: &mut Option<IpRepr>,
+)
+    ensures { header.new ≡ header_between source.now destination.now next_header payload_len hop_limit }
+{
+    match (source, destination) {
+        (IpAddress::Ipv4(source), IpAddress::Ipv4(destination)) => {
             if payload_len > LAST_LENGTH - IPV4_HEADER_LEN {
-                return None;
+                *header = None;
+                return;
             }
-            Some(IpRepr::Ipv4(Ipv4Repr {
-                src_addr,
-                dst_addr,
+            *header = Some(IpRepr::Ipv4(Ipv4Repr {
+                src_addr: *source,
+                dst_addr: *destination,
                 next_header,
                 payload_len,
                 hop_limit,
                 ident: 0,
                 dont_frag: false,
-            }))
+            }));
         }
-        (IpAddress::Ipv6(src_addr), IpAddress::Ipv6(dst_addr)) => {
+        (IpAddress::Ipv6(source), IpAddress::Ipv6(destination)) => {
             if payload_len > LAST_LENGTH {
-                return None;
+                *header = None;
+                return;
             }
-            Some(IpRepr::Ipv6(Ipv6Repr {
-                src_addr,
-                dst_addr,
+            *header = Some(IpRepr::Ipv6(Ipv6Repr {
+                src_addr: *source,
+                dst_addr: *destination,
                 next_header,
                 payload_len,
                 hop_limit,
-            }))
+            }));
         }
-        _ => None,
+        _ => *header = None,
     }
 }

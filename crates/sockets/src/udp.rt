@@ -13,6 +13,7 @@ ghost use Rattle.socket_base.specs.Packet.{PacketValue, IsSendable, option_value
 ghost use Rattle.socket_base.specs.declared.offer.Offer.{Offer};
 ghost use Rattle.socket_base.specs.declared.offer.Offer.TheVariants as Answer;
 ghost use Rattle.sockets.specs.Udp.{UdpValue, made, metadata_to, is_open, bind_answer, bind_after, closed, with_hop_limit, is_unaddressable};
+ghost use Rattle.sockets.specs.Header.{header_between, hops};
 ghost use Rattle.sockets.specs.Udp.{send_answer, send_after, accepts, process_after, header_for, settings_of, IsHeaderToSend, Offers};
 ghost use Rattle.sockets.specs.Udp.{offered_in, header_at_once, TakesAtOnce};
 ghost use Rattle.sockets.specs.Lent.{lent_value};
@@ -24,7 +25,7 @@ ghost use Rattle.sockets.specs.declared.error.SendError.TheVariants as Send;
 ghost use Rattle.sockets.specs.declared.error.RecvError.TheVariants as Recv;
 
 pub use crate::error::{BindError, RecvError, SendError};
-use crate::header::{DEFAULT_HOP_LIMIT, forget_offer, header_between};
+use crate::header::{DEFAULT_HOP_LIMIT, forget_offer, write_between};
 use crate::queues::Queues;
 use ip_address::{IpAddress, IpEndpoint, IpListenEndpoint, IpProtocol, Ipv4Address, Ipv6Address};
 use ip_packet::udp::field::HEADER_LEN as UDP_HEADER_LEN;
@@ -281,32 +282,66 @@ fn header_for<C: Context>(
     requires { 8 + size < 2 ^ 64 }
     ensures { result ≡ header_for (C.context cx.now) (settings_of bound.now hop_limit) metadata.now size }
 {
-    let destination = metadata.endpoint.addr;
-    let source = match (metadata.local_address, bound.addr) {
-        (Some(address), _) => address,
-        (None, Some(address)) => address,
-        (None, None) => cx.get_source_address(&destination)?,
-    };
-    header_between(
-        &source,
-        &destination,
+    let mut header = None;
+    write_header(cx, bound, hop_limit, metadata, size, &mut header);
+    header
+}
+
+/// Writes this header, or that there is none, where it is wanted.
+fn write_header<C: Context>(
+    cx: &C,
+    bound: &IpListenEndpoint,
+    hop_limit: Option<u8>,
+    metadata: &UdpMetadata,
+    size: usize,
+    header: &mut Option<IpRepr>,
+)
+    requires { 8 + size < 2 ^ 64 }
+    ensures { header.new ≡ header_for (C.context cx.now) (settings_of bound.now hop_limit) metadata.now size }
+{
+    match (&metadata.local_address, &bound.addr) {
+        (Some(source), _) => write_from(source, hop_limit, metadata, size, header),
+        (None, Some(source)) => write_from(source, hop_limit, metadata, size, header),
+        (None, None) => match cx.get_source_address(&metadata.endpoint.addr) {
+            Some(source) => write_from(&source, hop_limit, metadata, size, header),
+            None => *header = None,
+        },
+    }
+}
+
+/// The same of a datagram from this address.
+fn write_from(
+    source: &IpAddress,
+    hop_limit: Option<u8>,
+    metadata: &UdpMetadata,
+    size: usize,
+    header: &mut Option<IpRepr>,
+)
+    requires { 8 + size < 2 ^ 64 }
+    ensures { header.new ≡ header_between source.now metadata.now.endpoint.addr IpProtocol.Udp (8 + size) (hops hop_limit) }
+{
+    write_between(
+        source,
+        &metadata.endpoint.addr,
         IpProtocol::Udp,
         UDP_HEADER_LEN + size,
         hop_limit.unwrap_or(DEFAULT_HOP_LIMIT),
-    )
+        header,
+    );
 }
 
-/// The header of the packet that takes a datagram, if one can.
-fn header_to_send<C: Context>(
+/// Writes the header of the packet that takes a datagram, or none where no packet can.
+fn write_to_send<C: Context>(
     cx: &C,
     bound: &IpListenEndpoint,
     hop_limit: Option<u8>,
     metadata: &UdpMetadata,
     bytes: &[u8],
-) -> Option<IpRepr>
-    ensures { IsHeaderToSend (C.context cx.now) (settings_of bound.now hop_limit) (metadata.now, bytes.now) result }
+    header: &mut Option<IpRepr>,
+)
+    ensures { IsHeaderToSend (C.context cx.now) (settings_of bound.now hop_limit) (metadata.now, bytes.now) header.new }
 {
-    header_for(cx, bound, hop_limit, metadata, bytes.len())
+    write_header(cx, bound, hop_limit, metadata, bytes.len(), header);
 }
 
 impl Socket {
@@ -584,13 +619,21 @@ impl Socket {
         let Ok((metadata, bytes)) = self.queues.queued.peek() else {
             return Offer::Silent { changed: false };
         };
-        let found = header_to_send(cx, &self.endpoint, self.hop_limit, metadata, bytes);
-        let Some(header) = found else {
-            self.queues.queued.drop_first();
-            return Offer::Silent { changed: true };
-        };
-        self.offered = Some(header);
-        Offer::Packet { changed: false }
+        write_to_send(
+            cx,
+            &self.endpoint,
+            self.hop_limit,
+            metadata,
+            bytes,
+            &mut self.offered,
+        );
+        match &self.offered {
+            Some(_) => Offer::Packet { changed: false },
+            None => {
+                self.queues.queued.drop_first();
+                Offer::Silent { changed: true }
+            }
+        }
     }
 
     /// The packet of the open offer, lent from where it lies.

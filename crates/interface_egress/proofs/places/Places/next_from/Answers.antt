@@ -2,7 +2,7 @@ use Rattle.std.proofs.Common.{rules, arith, ◌≡◌, ◌+◌, ◌<◌, ◌^◌
 use Rattle.std.specs.Option.{ForSome}
 use Rattle.interface_egress.specs.AtRest.{IsNextBusy, first_of}
 use Rattle.interface_egress.proofs.Resting.{next_busy_of, next_fits}
-use Rattle.interface_egress.proofs.places.Places.next_busy.Goals as goal
+use Rattle.interface_egress.proofs.places.Places.next_from.Goals as goal
 
 pub returns-clause-next : goal.returns-clause-next
 returns-clause-next g c =
