@@ -15,7 +15,7 @@ ghost use Rattle.socket_base.specs.declared.offer.Offer.{Offer};
 ghost use Rattle.socket_base.specs.declared.offer.Offer.TheVariants as Answer;
 ghost use Rattle.sockets.specs.Icmp.{IcmpValue, made, is_specified, is_open, with_hop_limit, bind_answer, bind_after, send_answer, send_after};
 ghost use Rattle.sockets.specs.Icmp.{takes_echo, takes_quoted, takes_error, accepts_v4, accepts_v6, fits_v4, fits_v6, process_v4_after};
-ghost use Rattle.sockets.specs.Icmp.{process_v6_after, IsPacketFrom, Offers};
+ghost use Rattle.sockets.specs.Icmp.{process_v6_after, Offers};
 ghost use Rattle.sockets.specs.IcmpKept.{IsKeptFrom};
 ghost use Rattle.sockets.specs.SocketValue.{can_send, can_recv, with_queued, is_done, recv_answer, recv_after, recv_written, settled, poll_of};
 ghost use Rattle.sockets.specs.Offers.{HasPacket, IsSameButForPlaces, changed_by};

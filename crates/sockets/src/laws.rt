@@ -1,5 +1,5 @@
 //! Laws of sockets of any kind, and those of each kind.
-ghost use Rattle.std.specs.Prelude.{◌≡◌, ◌⊎◌, ◌↔◌, ℕ, ℤ, List, false, true, IsSome, IsTrue};
+ghost use Rattle.std.specs.Prelude.{◌≡◌, ◌⊎◌, ◌↔◌, ℕ, List, false, true, IsSome, IsTrue};
 ghost use Rattle.icmpv4.specs.declared.header.Icmpv4Header.{Icmpv4Header};
 ghost use Rattle.icmpv6.specs.Icmpv6.{MessageValue};
 ghost use Rattle.ip_wire.specs.IpAddress.{IpAddress};

@@ -10,10 +10,10 @@ ghost use Rattle.socket_base.specs.Packet.{PacketValue, IsSendable, option_value
 ghost use Rattle.ip_packet.specs.Ip as Ip;
 ghost use Rattle.socket_base.specs.declared.offer.Offer.{Offer};
 ghost use Rattle.socket_base.specs.declared.offer.Offer.TheVariants as Answer;
-ghost use Rattle.sockets.specs.Raw.{RawValue, filters, send_answer, send_after, counted, passes, fits, process_after, may_send, carried_by};
+ghost use Rattle.sockets.specs.Raw.{RawValue, filters, send_answer, send_after, counted, passes, fits, process_after, carried_by};
 ghost use Rattle.sockets.specs.Raw.{IsHeaderToSend, Offers};
-ghost use Rattle.sockets.specs.Same.{is_version, is_protocol};
-ghost use Rattle.sockets.specs.SocketValue.{fresh, taken_in, can_send, can_recv, with_queued, is_done, recv_answer, recv_after, recv_written, peeked};
+ghost use Rattle.sockets.specs.Same.{is_protocol};
+ghost use Rattle.sockets.specs.SocketValue.{fresh, can_send, can_recv, with_queued, is_done, recv_answer, recv_after, recv_written, peeked};
 ghost use Rattle.sockets.specs.SocketValue.{settled, poll_of};
 ghost use Rattle.sockets.specs.Offers.{HasPacket, IsSameButForPlaces, changed_by};
 ghost use Rattle.sockets.specs.Dispatch.{TakesOffered, Dispatches};

@@ -1,5 +1,5 @@
 //! Sockets for user datagrams (RFC 768).
-ghost use Rattle.std.specs.Prelude.{◌≡◌, ◌≢◌, ◌+◌, ◌<◌, ◌≤◌, ◌^◌, ◌↔◌, ℕ, List, length, take, false, true, IfOk, IfErr, IsErr, IfSome, OnErr, OnOk, Result, Ok, Err};
+ghost use Rattle.std.specs.Prelude.{◌≡◌, ◌≢◌, ◌+◌, ◌<◌, ◌≤◌, ◌^◌, ◌↔◌, ℕ, List, length, take, false, true, IfOk, IfErr, IsErr, IfSome, OnErr, Result, Ok, Err};
 ghost use Rattle.std.specs.Prelude.{Option, None, Some, IsSome, if◌then◌else◌};
 ghost use Rattle.std.specs.Borrow.{sem};
 ghost use Rattle.std.specs.Fn.{FnOnceTakesAtMut, FnOnceReturnsAtMut};

@@ -1,5 +1,5 @@
 //! What the messages of the client carry beside its own options.
-ghost use Rattle.std.specs.Prelude.{◌≡◌, ◌<◌, ◌≤◌, ◌+◌, ◌-◌, ℕ, [], ◌∷◌, ◌++◌, OnOk, IfOk, is_ok, if◌then◌else◌, length};
+ghost use Rattle.std.specs.Prelude.{◌≡◌, ◌<◌, ◌≤◌, ◌+◌, ◌-◌, [], ◌∷◌, ◌++◌, OnOk, is_ok, if◌then◌else◌, length};
 ghost use Rattle.dhcp_wire.specs.Options.{seen};
 ghost use Rattle.dhcp_wire.specs.Written.{encoded};
 ghost use Rattle.sockets.specs.DhcpClient.Extras.{AreExtras, asked_inside, asked_len, room, is_reserved, room_behind, verdict, list_verdict};

@@ -1,5 +1,5 @@
 //! Laws of the client.
-ghost use Rattle.std.specs.Prelude.{◌≡◌, ◌≤ℤ◌, ◌<ℤ◌, ℤ, ℕ, List, Bool, true, false, Option, None, Some};
+ghost use Rattle.std.specs.Prelude.{◌≡◌, ◌≤ℤ◌, ◌<ℤ◌, ℤ, ℕ, List, Bool, false, Some};
 ghost use Rattle.ip_wire.specs.IpRepr.{IpRepr};
 ghost use Rattle.ip_wire.specs.UdpRepr.{UdpRepr};
 ghost use Rattle.socket_base.specs.Context.{ContextValue};
@@ -7,11 +7,11 @@ ghost use Rattle.socket_base.specs.Offers.{IsBefore};
 ghost use Rattle.socket_base.specs.declared.offer.Offer.{Offer};
 ghost use Rattle.socket_base.specs.declared.offer.Offer.TheVariants as Answer;
 ghost use Rattle.sockets.specs.DhcpClient.Answers.{Processed};
-ghost use Rattle.sockets.specs.DhcpClient.Events.{event_of, fresh, untold};
+ghost use Rattle.sockets.specs.DhcpClient.Events.{event_of, fresh};
 ghost use Rattle.sockets.specs.DhcpClient.Laws.{IsGiven, IsKept};
 ghost use Rattle.sockets.specs.DhcpClient.Offers.{Offers};
 ghost use Rattle.sockets.specs.DhcpClient.States.{lease_of, poll_of};
-ghost use Rattle.sockets.specs.DhcpClient.Value.{DhcpValue, begun, settled, unoffered};
+ghost use Rattle.sockets.specs.DhcpClient.Value.{DhcpValue, begun, settled};
 ghost use Rattle.sockets.specs.declared.dhcpv4.config.Config.{Config};
 ghost use Rattle.sockets.specs.declared.dhcpv4.config.Event.TheVariants as Told;
 ghost use Rattle.sockets.specs.declared.dhcpv4.lease.Lease.{Lease};

@@ -1,5 +1,5 @@
 //! Leases, and what acknowledgements say of them.
-ghost use Rattle.std.specs.Prelude.{◌≡◌, ℕ, ◌<◌, ◌^◌, Option, None, Some};
+ghost use Rattle.std.specs.Prelude.{◌≡◌, ◌<◌, ◌^◌, Option, None, Some};
 ghost use Rattle.net_base.specs.Time.{IsMoment};
 ghost use Rattle.sockets.specs.DhcpClient.Leases.{IsBlockOf, server_in, lease_span, micros_of, spans_of, default_spans, lease_in, is_usable};
 

@@ -1,5 +1,5 @@
 //! Moments and waits.
-ghost use Rattle.std.specs.Prelude.{◌≡◌, ℕ};
+ghost use Rattle.std.specs.Prelude.{◌≡◌};
 ghost use Rattle.net_base.specs.Time.{IsMoment};
 ghost use Rattle.sockets.specs.DhcpClient.Moments.{later, earlier, doubled, first_wait, spread, renew_wait};
 

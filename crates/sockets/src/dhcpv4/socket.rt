@@ -1,5 +1,5 @@
 //! The socket.
-ghost use Rattle.std.specs.Prelude.{◌≡◌, ◌≤◌, ◌-◌, ℕ, IfSome, None, is_ok, length};
+ghost use Rattle.std.specs.Prelude.{◌≡◌, ◌≤◌, ◌-◌, IfSome, None, is_ok, length};
 ghost use Rattle.net_base.specs.Time.{IsMoment};
 ghost use Rattle.socket_base.specs.Packet.{IsSendable, option_value};
 ghost use Rattle.dhcp_wire.specs.Written.{Fits, buffer_len, written};
@@ -13,7 +13,7 @@ ghost use Rattle.sockets.specs.DhcpClient.Value.{made, default_retry, settled, b
 use crate::dhcpv4::config::{Event, RetryConfig, ServerInfo, Settings};
 use crate::dhcpv4::error::OptionsError;
 use crate::dhcpv4::extras::Extras;
-use crate::dhcpv4::lease::{Lease, block_of, is_usable, lease_in, server_in};
+use crate::dhcpv4::lease::{block_of, is_usable, lease_in, server_in};
 use crate::dhcpv4::moments::{doubled, first_wait, later, renew_wait, spread};
 use crate::dhcpv4::request::{Kind, MESSAGE_LEN};
 use crate::dhcpv4::state::{ClientState, Requesting, Selecting, Turn};

@@ -1,5 +1,5 @@
 //! The socket.
-ghost use Rattle.std.specs.Prelude.{◌≡◌, ◌≢◌, ◌<◌, ◌≤◌, ℕ, IfSome, None, Some, length, is_ok, if◌then◌else◌};
+ghost use Rattle.std.specs.Prelude.{◌≡◌, ◌≢◌, ◌<◌, ◌≤◌, IfSome, None, Some, length, is_ok, if◌then◌else◌};
 ghost use Rattle.net_base.specs.Time.{IsMoment};
 ghost use Rattle.socket_base.specs.Packet.{IsSendable, option_value};
 ghost use Rattle.dns_wire.specs.Codes.{opcode_number};
