@@ -82,7 +82,7 @@ fn read_frame<D: Device>(
     same_settings();
     let mut reply = None;
     if take_short(inner, places, frame, &mut reply) {
-        answer(inner, fragmenter, device, token, places, &reply);
+        answer_if_any(inner, fragmenter, device, token, places, &reply);
     } else {
         read_any(
             inner, fragmenter, slots, timeout, device, token, places, frame,
@@ -176,6 +176,28 @@ fn answer<D: Device>(
             }
             let _ = dispatch_by(inner, fragmenter, device, token, packet, plan);
         }
+        None => {}
+    }
+}
+
+/// The same where mostly there is no answer: then nothing is called.
+fn answer_if_any<D: Device>(
+    inner: &mut InterfaceInner,
+    fragmenter: &mut Fragmenter,
+    device: &mut D,
+    token: D::TxToken,
+    places: &Places<Socket>,
+    reply: &Option<Reply<'_>>,
+)
+    requires room { D.refused device.old + 1 < 2 ^ 64 }
+    requires fits { IfCanGo (reply_of reply.now) }
+    ensures replied { Replied D.moves (is_some (turn_of inner.old places.now)) (reply_of reply.now) (sender device.old inner.old fragmenter.old)
+        (sender device.new inner.new fragmenter.new) }
+    ensures settings { KeepsSettings inner.old inner.new }
+    ensures capabilities { D.described device.new ≡ D.described device.old }
+{
+    match reply {
+        Some(_) => answer(inner, fragmenter, device, token, places, reply),
         None => {}
     }
 }

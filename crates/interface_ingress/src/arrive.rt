@@ -39,7 +39,7 @@ fn sender_of(header: &IpRepr) -> IpAddress
 }
 
 /// Believes the sender of a packet for one host anew, if its hardware address is the one that is known.
-pub(crate) fn renew(inner: &mut InterfaceInner, link: &Option<EthernetRepr>, header: &IpRepr)
+fn renew(inner: &mut InterfaceInner, link: &Option<EthernetRepr>, header: &IpRepr)
     ensures { inner.new ≡ renewed inner.old link.now header.now }
 {
     if let Some(link) = link {
@@ -49,7 +49,7 @@ pub(crate) fn renew(inner: &mut InterfaceInner, link: &Option<EthernetRepr>, hea
 
 /// The same where there is a link header. It stands apart, so that a packet without one goes past it.
 #[inline(never)]
-fn renew_at(inner: &mut InterfaceInner, link: &EthernetRepr, header: &IpRepr)
+pub(crate) fn renew_at(inner: &mut InterfaceInner, link: &EthernetRepr, header: &IpRepr)
     ensures { inner.new ≡ renewed inner.old (Some link.now) header.now }
 {
     if is_direct(inner, header) {

@@ -586,6 +586,36 @@ pub(crate) fn hand_bare<'a>(
     hand_upper(inner, places, header, payload, is_taken, &upper, reply);
 }
 
+/// Hands on the payload of an IPv4 packet for the host, whose header says what that is: its family isn't asked for again.
+pub(crate) fn hand_v4<'a>(
+    inner: &mut InterfaceInner,
+    places: &mut Places<Socket>,
+    protocol: IpProtocol,
+    header: &IpRepr,
+    payload: &'a [u8],
+    is_taken: bool,
+    reply: &mut Option<Reply<'a>>,
+)
+    requires protocol { protocol ≡ carried_in header.now }
+    requires bare { IsTrue (is_bare header.now) }
+    requires fits { Fits header.now }
+    requires len { length payload.now ≡ payload_len_of header.now }
+    requires short { length payload.now < 2 ^ 16 }
+    requires none { reply.old ≡ None }
+    ensures hands { Hands inner.old places.old header.now payload.now is_taken (arrived inner.new places.new (reply_of reply.new)) }
+    ensures sendable { IfCanGo (reply_of reply.new) }
+{
+    let upper = Upper {
+        header,
+        bytes: payload,
+    };
+    match protocol {
+        IpProtocol::Udp => hand_udp(inner, places, header, payload, is_taken, &upper, reply),
+        IpProtocol::Tcp => hand_tcp(inner, places, header, payload, is_taken, &upper, reply),
+        _ => hand_control(inner, places, header, payload, is_taken, &upper, reply),
+    }
+}
+
 /// Goes through the extension headers of an IPv6 packet for the host, and hands on what stands behind them.
 fn hand_behind<'a>(
     inner: &mut InterfaceInner,

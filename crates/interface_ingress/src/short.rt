@@ -10,9 +10,9 @@ ghost use Rattle.interface_ingress.specs.Delivered.{is_taken_raw, packet_deliver
 ghost use Rattle.interface_ingress.specs.Reassembled.{Slots};
 ghost use Rattle.interface_ingress.specs.Short.{StandsBehind, StandsIn, goes_short, is_plain, TakesPacket};
 
-use crate::arrive::renew;
+use crate::arrive::renew_at;
 use crate::deliver::deliver_packet;
-use crate::hand::hand_bare;
+use crate::hand::hand_v4;
 use crate::reassemble::{is_heard, is_piece, is_sender};
 use crate::reply::Reply;
 use interface_egress::{InterfaceInner, Places};
@@ -121,8 +121,26 @@ fn arrive_plain<'a>(
 {
     let ip = IpRepr::Ipv4(*header);
     let is_taken = deliver_packet(places, &ip, payload);
-    renew(inner, link, &ip);
-    hand_bare(inner, places, &ip, payload, is_taken, reply);
+    renew_behind(inner, link, &ip);
+    hand_v4(
+        inner,
+        places,
+        header.next_header,
+        &ip,
+        payload,
+        is_taken,
+        reply,
+    );
+}
+
+/// Believes the sender of a packet behind a link header anew, as `renew` does. It stands here, so that a packet without one goes past it
+/// without a call.
+fn renew_behind(inner: &mut InterfaceInner, link: &Option<EthernetRepr>, header: &IpRepr)
+    ensures { inner.new ≡ renewed inner.old link.now header.now }
+{
+    if let Some(link) = link {
+        renew_at(inner, link, header);
+    }
 }
 
 /// Whether a packet is whole and plain.

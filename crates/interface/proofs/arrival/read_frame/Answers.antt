@@ -14,7 +14,7 @@ pub returns-then-take_short-clause-reads : goal.returns-then-take_short-clause-r
 returns-then-take_short-clause-reads g c =
     let a = arrived c.take_short.new.inner c.take_short.new.places (reply_of c.take_short.new.reply) in
     let came = c.if-take_short.ensures.taken refl c.args.timeout c.args.slots.now in
-    (came.0, came.1, (a, came.2, refl, c.answer.ensures.replied, refl))
+    (came.0, came.1, (a, came.2, refl, c.answer_if_any.ensures.replied, refl))
 
 pub returns-then-take_short-clause-settings : goal.returns-then-take_short-clause-settings
 returns-then-take_short-clause-settings g c =
@@ -22,8 +22,8 @@ returns-then-take_short-clause-settings g c =
     let a = arrived c.take_short.new.inner c.take_short.new.places (reply_of c.take_short.new.reply) in
     let came = c.if-take_short.ensures.taken refl c.args.timeout c.args.slots.now in
     let whole = whole_after i c.args.timeout c.args.slots.now (taken_in i came.0) in
-    keeps_then i c.take_short.new.inner c.answer.new.inner
-    (keeps_in i c.take_short.new.inner (c.same_settings.ensures i c.args.places.now whole a came.2.1)) c.answer.ensures.settings
+    keeps_then i c.take_short.new.inner c.answer_if_any.new.inner
+    (keeps_in i c.take_short.new.inner (c.same_settings.ensures i c.args.places.now whole a came.2.1)) c.answer_if_any.ensures.settings
 
 -- it didn't, and changed nothing
 pub returns-else-take_short-clause-reads : goal.returns-else-take_short-clause-reads
