@@ -125,27 +125,8 @@ in_days : pos 10_000 ≤ℤ (pos 0 +ℤ pos 2_073_600_000_000)
 in_days = first_of (omega (arith, ints), grind (arith, ints))
 
 keeps : (side : Side) → KeepsTime (pos 0) side (place side) history
-keeps side = (
-  tt,
-  tt,
-  λ own. later_on,
-  tt,
-  λ own. later_on,
-  λ own. now,
-  tt,
-  λ own. now,
-  λ own here. tt,
-  λ own. now,
-  tt,
-  λ own. now,
-  tt,
-  λ own. now,
-  tt,
-  λ own. now,
-  λ own here. tt,
-  λ own here. tt,
-  tt,
-)
+keeps side =
+    (tt, (tt, (λ own. later_on, (tt, (λ own. later_on, (λ own. now, (tt, (λ own. now, (λ own here. tt, (λ own. now, (tt, (λ own. now, (tt, (λ own. now, (tt, (λ own. now, (λ own here. tt, (λ own here. tt, tt))))))))))))))))))
 
 pub has_days : (side : Side) → HasDays history (place side) side
 has_days side = record { since = pos 0; begun = now; timed = keeps side; within = in_days }
