@@ -32,7 +32,7 @@ abbrev pub interval : ℕ
 interval = 25_200_000_000
 
 abbrev pub late : ℤ
-late = pos 25_200_000_000
+late = pos interval
 
 -- THE HOSTS THEN
 

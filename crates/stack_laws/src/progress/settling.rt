@@ -143,5 +143,6 @@ pub fn a_world_settles_in_time()
     ensures clock { (clock_in Late.before.history +ℤ pos (enough_for Late.before.history place Late.sockets)) <ℤ clock_in Late.behind.history }
     ensures arrived { HasArrived (net_of Late.behind) A (place A) (place B) Late.kept_asking Late.answering }
 {
+    one_outcome();
     what_settles_arrives_in_time();
 }
