@@ -4,11 +4,14 @@ use Rattle.std.specs.Prelude.{pos}
 use Rattle.interface.specs.Host.{maintained}
 use Rattle.interface_tables.specs.Inner.{with_next_ident}
 use Rattle.lan.specs.declared.at_link.history.event.Side.TheVariants.{A, B}
-use Rattle.lan.specs.Worlds.AtLink.Station.{StationValue}
+use Rattle.lan.specs.Worlds.AtLink.Station.{StationValue, Stations}
 use Rattle.stack_laws.specs.Progress.LateNumerals.{a_late, acknowledging, keep_alive_frame, kept_asking, kept_through, kept_waiting}
 use Rattle.stack_laws.specs.Progress.LateNumerals.{kept_written, polled_late}
 use Rattle.stack_laws.specs.Progress.SettledNumerals.{a_later, a_third, ack_frame, b_later, first_host, last_frame, polled_later, push_frame, station_with}
 use Rattle.stack_laws.specs.Progress.SettledNumerals.{syn_ack_frame, syn_frame}
+
+abbrev pub both : StationValue → StationValue → Stations
+both a b = record { a = a; b = b }
 
 -- A as abc has gone, as it was polled in vain, as abc is acknowledged, and as a keep-alive has gone
 abbrev pub kept_written_a : StationValue

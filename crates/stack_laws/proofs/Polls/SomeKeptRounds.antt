@@ -6,17 +6,17 @@ use Rattle.lan.specs.declared.at_link.history.event.Side.TheVariants.{A, B}
 use Rattle.lan.specs.Worlds.AtLink.History.{Entry}
 use Rattle.lan.specs.Worlds.AtLink.Runs.{Leads, Step, WorldValue}
 use Rattle.lan.specs.Worlds.AtLink.Station.{Stations}
-use Rattle.lan.specs.Worlds.Settling.{Handed, IsRound, IsServed, Rounds, Settles}
+use Rattle.lan.specs.declared.world.settle.Handed.{Handed}
+use Rattle.lan.specs.Worlds.Settling.{IsRound, IsServed, Rounds, Settles}
 use Rattle.stack_laws.specs.Progress.LateNumerals.{answer_frame, before, behind, first_round, keep_alive_frame, kept_a, late, late_a, late_b, second_round}
 use Rattle.stack_laws.specs.Progress.LateNumerals.{third_round, told_to_keep}
 use Rattle.stack_laws.specs.Progress.SettledNumerals.{last_frame, later, push_frame, starts, through_b}
-use Rattle.stack_laws.proofs.Polls.SomeKept.{acknowledging_b, kept_asking_a, kept_through_a, kept_waiting_a, kept_written_a}
+use Rattle.stack_laws.proofs.Polls.SomeKept.{acknowledging_b, both, kept_asking_a, kept_through_a, kept_waiting_a, kept_written_a}
 use Rattle.stack_laws.proofs.Polls.SomeKeptWorld.{a_is_asked, a_is_asked_then, a_learns, a_waits, alive_comes, alive_goes, answer_comes, answers_so}
 use Rattle.stack_laws.proofs.Polls.SomeKeptWorld.{asked_a_first, asked_a_then, asked_b_first, asked_b_then, b_answers, b_is_asked, b_is_asked_then, b_rests}
 use Rattle.stack_laws.proofs.Polls.SomeKeptWorld.{b_tells, brought_alive, brought_answer, brought_back, brought_text, goes_alive, goes_text, last_comes}
 use Rattle.stack_laws.proofs.Polls.SomeKeptWorld.{learned_so, read_text, rests_so, text_comes, text_goes, text_is_read, told_back, waits_so}
 use Rattle.stack_laws.proofs.Polls.SomeStations.{heard_b, open_b}
-use Rattle.stack_laws.proofs.Polls.SomeWorld.{both}
 
 abbrev handed : ℕ → ℕ → Handed
 handed a b = record { a = a; b = b }

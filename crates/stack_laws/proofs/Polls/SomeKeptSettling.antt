@@ -1,5 +1,5 @@
 -- Rounds on numerals meet all that is asked, where A's user asked for keep-alives, and go on past what is enough.
-use Rattle.std.proofs.Common.{◌≡◌, inl, leb-true, ltb-true, true, false, ℕ, ℤ, None, Some, refl, arith}
+use Rattle.std.proofs.Common.{◌≡◌, inl, leb-true, ltb-true, true, false, ℕ, ℤ, [], None, Some, refl, arith}
 use Rattle.std.specs.Prelude.{◌≤ℤ◌, ◌<ℤ◌, ◌+ℤ◌, IsTrue, pos}
 use Rattle.std.proofs.lemmas.Int.{ints}
 use Rattle.tcp_progress.specs.Arrivals.{is_synchronized}
@@ -22,11 +22,12 @@ use Rattle.stack_laws.specs.Progress.LateNumerals.{answering, before, behind, ke
 use Rattle.stack_laws.specs.Progress.SettledNumerals.{news, opened, place, starts}
 use Rattle.stack_laws.specs.Progress.Unread.{HasRoomForAll}
 use Rattle.stack_laws.specs.Progress.Within.{MayBegin, MaySettle, enough_for}
+use Rattle.stack_laws.proofs.Polls.SomeKept.{both}
 use Rattle.stack_laws.proofs.Polls.SomeKeptWorld.{fourth_still, kept_still}
 use Rattle.stack_laws.proofs.Polls.SomeLinked.{both_are}
 use Rattle.stack_laws.proofs.Polls.SomeStarts.{are_new, have_keys, hold_text, is_fresh}
 use Rattle.stack_laws.proofs.Polls.SomeStations.{open_b}
-use Rattle.stack_laws.proofs.Polls.SomeWorld.{are_typed, both}
+use Rattle.stack_laws.proofs.Polls.SomeWorld.{are_typed}
 
 now : pos 0 ≤ℤ pos 0
 now = omega (arith, ints)

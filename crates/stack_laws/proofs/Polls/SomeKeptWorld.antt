@@ -21,7 +21,7 @@ use Rattle.stack_laws.specs.Progress.LateNumerals.{late_b, second_round, third_r
 use Rattle.stack_laws.specs.Progress.SettledNumerals.{counts, entry, first_host, last_frame, later, push_frame, starts, syn_ack_frame}
 use Rattle.stack_laws.specs.Progress.SettledNumerals.{through_b, told_to_send}
 use Rattle.stack_laws.proofs.Polls.SomeHears.{hears}
-use Rattle.stack_laws.proofs.Polls.SomeKept.{acknowledging_b, kept_asking_a, kept_through_a, kept_waiting_a, kept_written_a}
+use Rattle.stack_laws.proofs.Polls.SomeKept.{acknowledging_b, both, kept_asking_a, kept_through_a, kept_waiting_a, kept_written_a}
 use Rattle.stack_laws.proofs.Polls.SomeKeptAnswers.{answers}
 use Rattle.stack_laws.proofs.Polls.SomeKeptAsks.{asks}
 use Rattle.stack_laws.proofs.Polls.SomeKeptLearns.{learns}
@@ -30,7 +30,7 @@ use Rattle.stack_laws.proofs.Polls.SomeRests.{quiet_b}
 use Rattle.stack_laws.proofs.Polls.SomeStarts.{both_stay, stays_a, stays_b}
 use Rattle.stack_laws.proofs.Polls.SomeStations.{heard_b, open_b, writing_a}
 use Rattle.stack_laws.proofs.Polls.SomeTells.{tells}
-use Rattle.stack_laws.proofs.Polls.SomeWorld.{a_at_last, a_behind_three, a_behind_two, b_at_last, b_behind_one, both, few, wrote}
+use Rattle.stack_laws.proofs.Polls.SomeWorld.{a_at_last, a_behind_three, a_behind_two, b_at_last, b_behind_one, few, wrote}
 
 -- THE HOSTS STAY
 

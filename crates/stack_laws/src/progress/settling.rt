@@ -139,10 +139,9 @@ pub fn a_world_settles_in_time()
     ensures may { MaySettle place news (pos 0) Late.sockets Late.before Late.behind }
     ensures none { AskForNone Late.before.starts }
     ensures settles { Settles 1 (pos 0) 4 None Late.before Late.behind }
-    ensures enough { enough_for Late.before.history place Late.sockets ≡ 364 * 60_000_000 }
+    ensures enough { enough_for Late.before.history place Late.sockets ≡ 21_840_000_000 }
     ensures clock { (clock_in Late.before.history +ℤ pos (enough_for Late.before.history place Late.sockets)) <ℤ clock_in Late.behind.history }
     ensures arrived { HasArrived (net_of Late.behind) A (place A) (place B) Late.kept_asking Late.answering }
 {
-    one_outcome();
     what_settles_arrives_in_time();
 }
