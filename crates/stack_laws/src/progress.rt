@@ -23,5 +23,6 @@ pub mod segments;
 pub mod served;
 pub mod settled;
 pub mod settling;
+pub mod spans;
 pub mod turns;
 pub mod unread;
