@@ -3,8 +3,11 @@ use Rattle.std.proofs.Common.{◌≡◌, ℕ, ℤ, ◌≤ℤ◌, Bool, List, [],
 use Rattle.std.specs.Prelude.{pos}
 use Rattle.std.proofs.lemmas.Int.{ints}
 use Rattle.tcp_control.specs.Moments.{stamp_end_from}
+use Rattle.tcp_tie.specs.Pair.Steps.{Steps}
 use Rattle.tcp_tie.specs.Pair.Values.{PairValue}
+use Rattle.tcp_tie.specs.declared.pair.event.PairEvent.{PairEvent}
 use Rattle.tcp_progress.specs.Reached.{IsReached}
+use Rattle.tcp_progress.specs.Rounds.{takes}
 use Rattle.lan.specs.declared.at_link.history.event.Side.{Side}
 use Rattle.lan.specs.declared.at_link.history.event.Side.TheVariants.{A, B}
 use Rattle.lan.specs.Worlds.AtLink.Happening.{AreNumbered, GoesOnBy, Happening, events_of_moves, steps_of}
@@ -22,7 +25,7 @@ use Rattle.lan.specs.Worlds.AtLink.Station.{Stations}
 use Rattle.lan.specs.Worlds.Moves.Joined.{first_net}
 use Rattle.lan.specs.Worlds.Still.{MovePlainly, StillRun, seats_of}
 use Rattle.lan.proofs.Worlds.AtLink.Paired.Begins.{begins}
-use Rattle.lan.proofs.Worlds.AtLink.Paired.Runs.{ShowsAlong, partners_go_on_by, partners_have_numbers, partners_show_along, steps_lead}
+use Rattle.lan.proofs.Worlds.AtLink.Paired.Runs.{ShowsAlong, after_events, partners_go_on_by, partners_have_numbers, partners_show_along}
 use Rattle.lan.proofs.Worlds.Moves.Calls.{names}
 use Rattle.lan.proofs.Worlds.Moves.Worlds.{fresh_net}
 use Rattle.stack_laws.specs.Progress.Days.{HasDays, KeepsTime}
@@ -40,6 +43,10 @@ use Rattle.stack_laws.proofs.StillPartners.{partners_stay}
 
 no_later : (t : ℤ) → t ≤ℤ t
 no_later t = omega (arith, ints)
+
+steps_lead : (p next : PairValue) (events : List PairEvent) → Steps p events next → next ≡ after_events p events
+steps_lead p next [] steps = steps
+steps_lead p next (event ∷ events) steps = steps_lead (takes p event) next events steps.1
 
 module _ (ports : Side → ℕ → ℕ) (named : List ℕ → Bool) (first : Net) (seats : Side → Seat) (news : Side → NewSocket) (fresh : IsFreshNet ports first)
     (new : AreNew seats news first) (keys : HaveKeys seats) (text : HoldText seats) (since : Side → ℤ) (least : (s : Side) → pos 0 ≤ℤ since s) where

@@ -316,26 +316,33 @@ module _ (names : List ℕ → Bool) (seats : Side → Seat) (since : Side → �
     brought_fresh : (moves : Moves) (clocks : Side → ℤ) (net : Net) (p : PairValue) (now : ℤ) → Shown clocks net p now moves → now ≤ℤ moment → Sent_in p
         → IsBroughtBy IsAnything seats (moment +ℤ pos 0) side k net moves → IsBroughtBy IsFreshFor seats (moment +ℤ pos 0) side k net moves
     brought_fresh [] clocks net p now g until sent brought = tt
-    brought_fresh (y ∷ more) clocks net p now g until sent brought = (brought.0, by brought.1) where
-      next : Shown (clocks_on clocks y.1) (after net y.1.step) (pair_on clocks p y.1) y.0 more
-      next = on clocks net p now y more g
+    brought_fresh (y ∷ more) clocks net p now g until sent brought = (
+      brought.0,
+      by
+          (λ later.
+          brought_fresh more (clocks_on clocks y.1) (after net y.1.step) (pair_on clocks p y.1) y.0 next (at_once moment y.0 brought.0) then_sent later)
+          brought.1,
+    )
+      where
+        next : Shown (clocks_on clocks y.1) (after net y.1.step) (pair_on clocks p y.1) y.0 more
+        next = on clocks net p now y more g
 
-      then_sent : Sent_in (pair_on clocks p y.1)
-      then_sent =
-          sent_then (since side) moment (side_in side) k x p (pair_on clocks p y.1) (events_of_one seats clocks y.1) g.reached
-          (steps_parts p q (events_of_one seats clocks y.1) (events_of_moves seats (clocks_on clocks y.1) (moves_of more)) g.steps).0
-          (timed_at (clocks_on clocks y.1) (after net y.1.step) (pair_on clocks p y.1) y.0 more next side) sent
+        then_sent : Sent_in (pair_on clocks p y.1)
+        then_sent =
+            sent_then (since side) moment (side_in side) k x p (pair_on clocks p y.1) (events_of_one seats clocks y.1) g.reached
+            (steps_parts p q (events_of_one seats clocks y.1) (events_of_moves seats (clocks_on clocks y.1) (moves_of more)) g.steps).0
+            (timed_at (clocks_on clocks y.1) (after net y.1.step) (pair_on clocks p y.1) y.0 more next side) sent
 
-      by : BringsToOther IsAnything seats net side k y.1.step ⊎ IsBroughtBy IsAnything seats (moment +ℤ pos 0) side k (after net y.1.step) more
-          → BringsToOther IsFreshFor seats net side k y.1.step ⊎ IsBroughtBy IsFreshFor seats (moment +ℤ pos 0) side k (after net y.1.step) more
-      by (inl brings) =
-          inl (
-            brings.0,
-            brings_fresh clocks net p now (y ∷ more) g until sent y.1.step.move (subst (λ (s : Side). May names net s y.1.step.move) brings.0 g.may.0) brings.1,
-          )
-      by (inr later) =
-          inr
-          (brought_fresh more (clocks_on clocks y.1) (after net y.1.step) (pair_on clocks p y.1) y.0 next (at_once moment y.0 brought.0) then_sent later)
+        by : (IsBroughtBy IsAnything seats (moment +ℤ pos 0) side k (after net y.1.step) more
+            → IsBroughtBy IsFreshFor seats (moment +ℤ pos 0) side k (after net y.1.step) more)
+            → BringsToOther IsAnything seats net side k y.1.step ⊎ IsBroughtBy IsAnything seats (moment +ℤ pos 0) side k (after net y.1.step) more
+            → BringsToOther IsFreshFor seats net side k y.1.step ⊎ IsBroughtBy IsFreshFor seats (moment +ℤ pos 0) side k (after net y.1.step) more
+        by on_later (inl brings) =
+            inl (
+              brings.0,
+              brings_fresh clocks net p now (y ∷ more) g until sent y.1.step.move (subst (λ (s : Side). May names net s y.1.step.move) brings.0 g.may.0) brings.1,
+            )
+        by on_later (inr later) = inr (on_later later)
 
   -- A SEGMENT GOES
 
