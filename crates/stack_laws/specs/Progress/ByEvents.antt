@@ -27,9 +27,9 @@ use Rattle.stack_laws.specs.Progress.Serving.{AreEventsInTime, GiveLeave, KeepsS
 -- goes. If those events are in time, what the sockets offer goes, and each segment is heard in time, then the moves are in time. If the events are in time
 -- for both, and both streams stay no empty ones, it is enough that each segment comes in time, wherever it lies. Over links that bring what is sent in time
 -- each does: so of the moves nothing else is asked than that no segment which comes has a timestamp that is older than TS.Recent, as none has where no
--- timestamps were agreed on; or that each that comes is heard. So it is on any medium, where the hosts know
--- each other throughout. Where each frame is taken before the clock goes on, nothing is asked of timestamps within 24 days since either host was
--- first polled. Partners that are open, and stay, are linked so where their hosts reach each other.
+-- timestamps were agreed on; or that each that comes is heard. So it is on any medium, where the hosts know each other throughout. Where each frame is taken
+-- before the clock goes on, nothing is asked of a segment's timestamp within 24 days since either host was first polled, if neither socket's clock of
+-- timestamps is set once that was opened. Partners that are open, and stay, are linked so where their hosts reach each other.
 pub record GoOnByEvents (starts : Starts) (past : List Entry) (between : Stations) (more : List Entry) (hosts : Stations)
     (still : StillRun starts (more ++ past) hosts) (places : Side → ℕ) : Type 0 where
   pub goes : GoOnBetween starts past between (more ++ past) hosts (seats_of starts places)

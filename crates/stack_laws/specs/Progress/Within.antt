@@ -103,7 +103,7 @@ enough_for history places sockets =
 -- Rounds begin at this moment in the old world, in which two partners, each a new socket at first, have these values. Both are open, with streams that are no
 -- empty ones, and each has a receive buffer for all that the other's user wrote; no host's clock is ahead. In the new world both have their connection, and
 -- their links give leave to send; and the hosts were still throughout. Either no timestamps were agreed on, or in the new world 24 days aren't over since
--- either host was first polled.
+-- either host was first polled, and neither socket's clock of timestamps was set once that was opened.
 pub record MaySettle (places : Side → ℕ) (news : Side → NewSocket) (from : ℤ) (sockets : Side → TcpValue) (old new : WorldValue) : Type 0 where
   pub begins : MayBegin places from old
   pub keys : HaveKeys (seats_of old.starts places)
