@@ -1,5 +1,5 @@
 -- A world on numerals in which rounds may begin, and the one behind its events.
-use Rattle.std.proofs.Common.{◌≡◌, inl, leb-true, ltb-true, true, false, ℤ, [], None, Some, refl, arith}
+use Rattle.std.proofs.Common.{◌≡◌, inl, leb-true, ltb-true, false, [], None, Some, refl, arith}
 use Rattle.std.specs.Prelude.{◌+ℤ◌, ◌≤ℤ◌, IsTrue, pos}
 use Rattle.std.proofs.lemmas.Int.{ints}
 use Rattle.tcp_model.specs.Value.{TcpValue}
