@@ -12,10 +12,11 @@ use Rattle.stack_laws.specs.Progress.LateNumerals.{answer_frame, before, behind,
 use Rattle.stack_laws.specs.Progress.LateNumerals.{third_round, told_to_keep}
 use Rattle.stack_laws.specs.Progress.SettledNumerals.{last_frame, later, push_frame, starts, through_b}
 use Rattle.stack_laws.proofs.Polls.SomeKept.{acknowledging_b, both, kept_asking_a, kept_through_a, kept_waiting_a, kept_written_a}
-use Rattle.stack_laws.proofs.Polls.SomeKeptWorld.{a_is_asked, a_is_asked_then, a_learns, a_waits, alive_comes, alive_goes, answer_comes, answers_so}
-use Rattle.stack_laws.proofs.Polls.SomeKeptWorld.{asked_a_first, asked_a_then, asked_b_first, asked_b_then, b_answers, b_is_asked, b_is_asked_then, b_rests}
-use Rattle.stack_laws.proofs.Polls.SomeKeptWorld.{b_tells, brought_alive, brought_answer, brought_back, brought_text, goes_alive, goes_text, last_comes}
-use Rattle.stack_laws.proofs.Polls.SomeKeptWorld.{learned_so, read_text, rests_so, text_comes, text_goes, text_is_read, told_back, waits_so}
+use Rattle.stack_laws.proofs.Polls.SomeKeptFirst.{a_is_asked, asked_a_first, asked_b_first, b_is_asked, brought_text, goes_text, read_text, text_comes}
+use Rattle.stack_laws.proofs.Polls.SomeKeptFirst.{text_goes, text_is_read}
+use Rattle.stack_laws.proofs.Polls.SomeKeptSecond.{a_waits, b_tells, brought_back, last_comes, told_back, waits_so}
+use Rattle.stack_laws.proofs.Polls.SomeKeptThird.{a_is_asked_then, a_learns, asked_a_then, asked_b_then, b_is_asked_then, b_rests, learned_so, rests_so}
+use Rattle.stack_laws.proofs.Polls.SomeKeptFourth.{alive_comes, alive_goes, answer_comes, answers_so, b_answers, brought_alive, brought_answer, goes_alive}
 use Rattle.stack_laws.proofs.Polls.SomeStations.{heard_b, open_b}
 
 abbrev handed : ℕ → ℕ → Handed

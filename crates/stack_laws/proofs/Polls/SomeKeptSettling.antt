@@ -23,7 +23,8 @@ use Rattle.stack_laws.specs.Progress.SettledNumerals.{news, opened, place, start
 use Rattle.stack_laws.specs.Progress.Unread.{HasRoomForAll}
 use Rattle.stack_laws.specs.Progress.Within.{MayBegin, MaySettle, enough_for}
 use Rattle.stack_laws.proofs.Polls.SomeKept.{both}
-use Rattle.stack_laws.proofs.Polls.SomeKeptWorld.{fourth_still, kept_still}
+use Rattle.stack_laws.proofs.Polls.SomeKeptWorld.{kept_still}
+use Rattle.stack_laws.proofs.Polls.SomeKeptFourth.{fourth_still}
 use Rattle.stack_laws.proofs.Polls.SomeLinked.{both_are}
 use Rattle.stack_laws.proofs.Polls.SomeStarts.{are_new, have_keys, hold_text, is_fresh}
 use Rattle.stack_laws.proofs.Polls.SomeStations.{open_b}
