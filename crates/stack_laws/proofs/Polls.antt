@@ -75,10 +75,14 @@ pub mod SomeKeptSends
 pub mod SomeKeptLearns
 pub mod SomeKeptAlive
 pub mod SomeKeptAsks
+pub mod SomeKeptFirst
+pub mod SomeKeptFourth
 pub mod SomeKeptAnswers
 pub mod SomeKeptWorld
 pub mod SomeKeptRounds
+pub mod SomeKeptSecond
 pub mod SomeKeptSettling
+pub mod SomeKeptThird
 pub mod NextAtPorts
 pub mod SomeNeighbors
 pub mod SomeExchange

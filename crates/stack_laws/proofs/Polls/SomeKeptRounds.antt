@@ -6,7 +6,6 @@ use Rattle.lan.specs.declared.at_link.history.event.Side.TheVariants.{A, B}
 use Rattle.lan.specs.Worlds.AtLink.History.{Entry}
 use Rattle.lan.specs.Worlds.AtLink.Runs.{Leads, Step, WorldValue}
 use Rattle.lan.specs.Worlds.AtLink.Station.{Stations}
-use Rattle.lan.specs.declared.world.settle.Handed.{Handed}
 use Rattle.lan.specs.Worlds.Settling.{IsRound, IsServed, Rounds, Settles}
 use Rattle.stack_laws.specs.Progress.LateNumerals.{answer_frame, before, behind, first_round, keep_alive_frame, kept_a, late, late_a, late_b, second_round}
 use Rattle.stack_laws.specs.Progress.LateNumerals.{third_round, told_to_keep}
@@ -18,9 +17,6 @@ use Rattle.stack_laws.proofs.Polls.SomeKeptSecond.{a_waits, b_tells, brought_bac
 use Rattle.stack_laws.proofs.Polls.SomeKeptThird.{a_is_asked_then, a_learns, asked_a_then, asked_b_then, b_is_asked_then, b_rests, learned_so, rests_so}
 use Rattle.stack_laws.proofs.Polls.SomeKeptFourth.{alive_comes, alive_goes, answer_comes, answers_so, b_answers, brought_alive, brought_answer, goes_alive}
 use Rattle.stack_laws.proofs.Polls.SomeStations.{heard_b, open_b}
-
-abbrev handed : ℕ → ℕ → Handed
-handed a b = record { a = a; b = b }
 
 abbrev world : Stations → List Entry → WorldValue
 world hosts history = record { hosts = hosts; starts = starts; history = history }
@@ -74,7 +70,7 @@ b_first = record {
   delivers = refl;
 }
 
-first : IsRound 1 (pos 0) (handed 2 1) (handed 3 1) (Some later) before behind_first
+first : IsRound 1 (pos 0) (record { a = 2; b = 1 }) (record { a = 3; b = 1 }) (Some later) before behind_first
 first = (
   text_taken,
   (text_brought, a_first, b_first),
@@ -127,7 +123,7 @@ b_second = record {
   );
 }
 
-second : IsRound 1 later (handed 3 1) (handed 3 2) (Some later) behind_first behind_second
+second : IsRound 1 later (record { a = 3; b = 1 }) (record { a = 3; b = 2 }) (Some later) behind_first behind_second
 second = (behind_second, (a_polled, a_second, b_second), inl ((λ calm. one_waits last_frame calm.1.0), refl, refl))
 
 -- THE THIRD
@@ -162,7 +158,7 @@ b_third = record {
   delivers = refl;
 }
 
-third : IsRound 1 later (handed 3 2) (handed 3 2) (Some late) behind_second behind_third
+third : IsRound 1 later (record { a = 3; b = 2 }) (record { a = 3; b = 2 }) (Some late) behind_second behind_third
 third = (
   b_rested,
   (a_learned, a_third, b_third),
@@ -223,19 +219,19 @@ b_fourth = record {
   );
 }
 
-fourth : IsRound 1 late (handed 3 2) (handed 4 3) (Some late) behind_third behind
+fourth : IsRound 1 late (record { a = 3; b = 2 }) (record { a = 4; b = 3 }) (Some late) behind_third behind
 fourth = (behind, (alive_brought, a_fourth, b_fourth), inl ((λ calm. one_waits answer_frame calm.1.0), refl, refl))
 
 -- ALL FOUR
 
-one : Rounds 1 (pos 0) before 1 later (handed 3 1) behind_first
-one = (pos 0, handed 2 1, before, (refl, refl, refl), first)
+one : Rounds 1 (pos 0) before 1 later (record { a = 3; b = 1 }) behind_first
+one = (pos 0, record { a = 2; b = 1 }, before, (refl, refl, refl), first)
 
-two : Rounds 1 (pos 0) before 2 later (handed 3 2) behind_second
-two = (later, handed 3 1, behind_first, one, second)
+two : Rounds 1 (pos 0) before 2 later (record { a = 3; b = 2 }) behind_second
+two = (later, record { a = 3; b = 1 }, behind_first, one, second)
 
-three : Rounds 1 (pos 0) before 3 late (handed 3 2) behind_third
-three = (later, handed 3 2, behind_second, two, third)
+three : Rounds 1 (pos 0) before 3 late (record { a = 3; b = 2 }) behind_third
+three = (later, record { a = 3; b = 2 }, behind_second, two, third)
 
 pub settles : Settles 1 (pos 0) 4 None before behind
-settles = (late, handed 4 3, (late, handed 3 2, behind_third, three, fourth))
+settles = (late, record { a = 4; b = 3 }, (late, record { a = 3; b = 2 }, behind_third, three, fourth))

@@ -1,5 +1,5 @@
 -- The third: A learns of that.
-use Rattle.std.proofs.Common.{true, false, [], ◌∷◌, Some, None, refl}
+use Rattle.std.proofs.Common.{◌≡◌, true, false, [], ◌∷◌, Some, None, refl}
 use Rattle.ip_address.specs.Address.{v4_number}
 use Rattle.interface_tables.specs.PathMtu.{end_towards, mtu_towards}
 use Rattle.lan.specs.declared.at_link.history.answer.Answer.TheVariants as To
@@ -26,8 +26,12 @@ a_learns = record { allowed = refl; counted = refl; happens = record { acts = (t
 abbrev pub rests_so : Entry
 rests_so = entry (E.Poll B later 1) (To.Poll false) (counts 3 2 0 0)
 
+-- A isn't touched as B is polled
+a_stays : kept_through_a ≡ kept_through_a
+a_stays = refl
+
 pub b_rests : Leads (learned_so ∷ second_round) (both kept_through_a through_b) rests_so (both kept_through_a (acknowledging_b []))
-b_rests = record { allowed = refl; counted = refl; happens = record { acts = (false, quiet_b, refl, refl); rests = refl } }
+b_rests = record { allowed = refl; counted = refl; happens = record { acts = (false, quiet_b, refl, refl); rests = a_stays } }
 
 abbrev pub asked_a_then : Entry
 asked_a_then = entry (E.PollAt A later) (To.At (Some late)) (counts 3 2 0 0)
