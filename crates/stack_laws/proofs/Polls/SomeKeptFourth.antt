@@ -1,87 +1,64 @@
--- The fourth: a keep-alive goes, and is answered.
-use Rattle.std.proofs.Common.{◌≡◌, true, false, List, [], ◌∷◌, ◌++◌, ℕ, refl, sym, ap, arith}
-use Rattle.std.proofs.lemmas.Int.{ints}
-use Rattle.std.proofs.lemmas.List.{append-nil}
-use Rattle.net_base.specs.Time.{IsMoment}
-use Rattle.interface_tables.specs.Inner.{with_next_ident}
+-- The fourth round: A learns of that.
+use Rattle.std.proofs.Common.{◌≡◌, true, false, [], ◌∷◌, Some, None, refl}
+use Rattle.ip_address.specs.Address.{v4_number}
+use Rattle.interface_tables.specs.PathMtu.{end_towards, mtu_towards}
 use Rattle.lan.specs.declared.at_link.history.answer.Answer.TheVariants as To
 use Rattle.lan.specs.declared.at_link.history.event.Event.TheVariants as E
 use Rattle.lan.specs.declared.at_link.history.event.Side.TheVariants.{A, B}
 use Rattle.lan.specs.Worlds.AtLink.History.{Entry}
 use Rattle.lan.specs.Worlds.AtLink.Runs.{Leads}
-use Rattle.lan.specs.Worlds.Still.{IsStill, StillRun}
-use Rattle.stack_laws.specs.Progress.LateNumerals.{a_late, answer_frame, b_late, fourth_round, keep_alive_frame, late, late_a, late_b, third_round}
-use Rattle.stack_laws.specs.Progress.SettledNumerals.{counts, entry, first_host, starts}
-use Rattle.stack_laws.proofs.Polls.SomeKept.{acknowledging_b, both, kept_asking_a, kept_through_a}
-use Rattle.stack_laws.proofs.Polls.SomeKeptAnswers.{answers}
-use Rattle.stack_laws.proofs.Polls.SomeKeptAsks.{asks}
-use Rattle.stack_laws.proofs.Polls.SomeStarts.{both_stay, stays_a, stays_b}
-use Rattle.stack_laws.proofs.Polls.SomeWorld.{b_at_last}
+use Rattle.lan.specs.Worlds.Still.{AreStill, StillRun}
+use Rattle.stack_laws.specs.Progress.LateNumerals.{late, third_round, fourth_round}
+use Rattle.stack_laws.specs.Progress.SettledNumerals.{counts, entry, last_frame, later, starts, through_b}
+use Rattle.stack_laws.proofs.Polls.SomeKept.{acknowledging_b, both, kept_through_a, kept_waiting_a}
+use Rattle.stack_laws.proofs.Polls.SomeKeptLearns.{learns}
+use Rattle.stack_laws.proofs.Polls.SomeRests.{quiet_b}
+use Rattle.stack_laws.proofs.Polls.SomeStarts.{both_stay}
+use Rattle.stack_laws.proofs.Polls.SomeWorld.{a_at_last, b_at_last}
 use Rattle.stack_laws.proofs.Polls.SomeKeptThird.{third_still}
 
--- THE HOSTS STAY
+abbrev pub learned_so : Entry
+learned_so = entry (E.Poll A later 1) (To.Poll true) (counts 3 2 1 0)
 
-at_late : IsMoment late
-at_late = (omega (arith, ints), omega (arith, ints))
+pub a_learns : Leads third_round (both (kept_waiting_a (last_frame ∷ [])) through_b) learned_so (both kept_through_a through_b)
+a_learns = record { allowed = refl; counted = refl; happens = record { acts = (true, learns, refl, refl); rests = refl } }
 
-a_at_late : IsStill (first_host A).inner (with_next_ident a_late)
-a_at_late = stays_a late at_late (with_next_ident a_late).ident false
+abbrev pub rests_so : Entry
+rests_so = entry (E.Poll B later 1) (To.Poll false) (counts 3 2 0 0)
 
-b_at_late : IsStill (first_host B).inner (with_next_ident b_late)
-b_at_late = stays_b late at_late (with_next_ident b_late).ident false
+-- A isn't touched as B is polled
+a_stays : kept_through_a ≡ kept_through_a
+a_stays = refl
 
--- THE ROUND
+pub b_rests : Leads (learned_so ∷ third_round) (both kept_through_a through_b) rests_so (both kept_through_a (acknowledging_b []))
+b_rests = record { allowed = refl; counted = refl; happens = record { acts = (false, quiet_b, refl, refl); rests = a_stays } }
 
-abbrev pub goes_alive : Entry
-goes_alive = entry (E.Poll A late 1) (To.Poll true) (counts 3 2 0 0)
+abbrev pub asked_a_then : Entry
+asked_a_then = entry (E.PollAt A later) (To.At (Some late)) (counts 3 2 0 0)
 
-pub alive_goes : Leads third_round (both kept_through_a (acknowledging_b [])) goes_alive (both (kept_asking_a []) (acknowledging_b []))
-alive_goes = record { allowed = refl; counted = refl; happens = record { acts = (true, asks, refl, refl); rests = refl } }
+pub a_is_asked_then : Leads (rests_so ∷ learned_so ∷ third_round) (both kept_through_a (acknowledging_b [])) asked_a_then
+    (both kept_through_a (acknowledging_b []))
+unfolding v4_number mtu_towards end_towards
+a_is_asked_then = record { allowed = refl; counted = refl; happens = record { acts = (refl, refl, refl); rests = refl } }
 
-abbrev pub brought_alive : Entry
-brought_alive = entry (E.Deliver A 3 []) To.Done (counts 4 2 0 0)
+abbrev pub asked_b_then : Entry
+asked_b_then = entry (E.PollAt B later) (To.At None) (counts 3 2 0 0)
 
-alive_came : both (kept_asking_a []) (acknowledging_b (keep_alive_frame ∷ [])) ≡ both (kept_asking_a []) (acknowledging_b ((keep_alive_frame ++ []) ∷ []))
-alive_came = ap (λ (frame : List ℕ). both (kept_asking_a []) (acknowledging_b (frame ∷ []))) (sym (append-nil keep_alive_frame))
+pub b_is_asked_then : Leads (asked_a_then ∷ rests_so ∷ learned_so ∷ third_round) (both kept_through_a (acknowledging_b [])) asked_b_then
+    (both kept_through_a (acknowledging_b []))
+unfolding v4_number mtu_towards end_towards
+b_is_asked_then = record { allowed = refl; counted = refl; happens = record { acts = (refl, refl, refl); rests = refl } }
 
-pub alive_comes : Leads (goes_alive ∷ third_round) (both (kept_asking_a []) (acknowledging_b [])) brought_alive
-    (both (kept_asking_a []) (acknowledging_b (keep_alive_frame ∷ [])))
-alive_comes = record { allowed = refl; counted = refl; happens = (refl, refl, alive_came) }
+pub fourth_still : StillRun starts fourth_round (both kept_through_a (acknowledging_b []))
+fourth_still = (both kept_through_a (acknowledging_b []), asked, b_is_asked_then, then_stays) where
+  then_stays : AreStill starts (both kept_through_a (acknowledging_b []))
+  then_stays = both_stay kept_through_a (acknowledging_b []) a_at_last b_at_last
 
-abbrev pub answers_so : Entry
-answers_so = entry (E.Poll B late 1) (To.Poll true) (counts 4 2 0 1)
+  learned : StillRun starts (learned_so ∷ third_round) (both kept_through_a through_b)
+  learned = (both (kept_waiting_a (last_frame ∷ [])) through_b, third_still, a_learns, both_stay kept_through_a through_b a_at_last b_at_last)
 
-pub b_answers : Leads (brought_alive ∷ goes_alive ∷ third_round) (both (kept_asking_a []) (acknowledging_b (keep_alive_frame ∷ []))) answers_so
-    (both (kept_asking_a []) late_b)
-b_answers = record { allowed = refl; counted = refl; happens = record { acts = (true, answers, refl, refl); rests = refl } }
+  rested : StillRun starts (rests_so ∷ learned_so ∷ third_round) (both kept_through_a (acknowledging_b []))
+  rested = (both kept_through_a through_b, learned, b_rests, then_stays)
 
-abbrev pub brought_answer : Entry
-brought_answer = entry (E.Deliver B 2 []) To.Done (counts 4 3 0 0)
-
-answer_came : both late_a late_b ≡ both (kept_asking_a ((answer_frame ++ []) ∷ [])) late_b
-answer_came = ap (λ (frame : List ℕ). both (kept_asking_a (frame ∷ [])) late_b) (sym (append-nil answer_frame))
-
-pub answer_comes : Leads (answers_so ∷ brought_alive ∷ goes_alive ∷ third_round) (both (kept_asking_a []) late_b) brought_answer (both late_a late_b)
-answer_comes = record { allowed = refl; counted = refl; happens = (refl, refl, answer_came) }
-
-pub fourth_still : StillRun starts fourth_round (both late_a late_b)
-fourth_still = (both (kept_asking_a []) late_b, answered, answer_comes, both_stay late_a late_b a_at_late b_at_late) where
-  sent : StillRun starts (goes_alive ∷ third_round) (both (kept_asking_a []) (acknowledging_b []))
-  sent =
-      (both kept_through_a (acknowledging_b []), third_still, alive_goes, both_stay (kept_asking_a []) (acknowledging_b []) a_at_late b_at_last)
-
-  brought : StillRun starts (brought_alive ∷ goes_alive ∷ third_round) (both (kept_asking_a []) (acknowledging_b (keep_alive_frame ∷ [])))
-  brought = (
-    both (kept_asking_a []) (acknowledging_b []),
-    sent,
-    alive_comes,
-    both_stay (kept_asking_a []) (acknowledging_b (keep_alive_frame ∷ [])) a_at_late b_at_last,
-  )
-
-  answered : StillRun starts (answers_so ∷ brought_alive ∷ goes_alive ∷ third_round) (both (kept_asking_a []) late_b)
-  answered = (
-    both (kept_asking_a []) (acknowledging_b (keep_alive_frame ∷ [])),
-    brought,
-    b_answers,
-    both_stay (kept_asking_a []) late_b a_at_late b_at_late,
-  )
+  asked : StillRun starts (asked_a_then ∷ rests_so ∷ learned_so ∷ third_round) (both kept_through_a (acknowledging_b []))
+  asked = (both kept_through_a (acknowledging_b []), rested, a_is_asked_then, then_stays)

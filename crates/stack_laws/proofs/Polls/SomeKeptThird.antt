@@ -1,64 +1,51 @@
--- The third: A learns of that.
-use Rattle.std.proofs.Common.{◌≡◌, true, false, [], ◌∷◌, Some, None, refl}
-use Rattle.ip_address.specs.Address.{v4_number}
-use Rattle.interface_tables.specs.PathMtu.{end_towards, mtu_towards}
+-- The third round: B acknowledges abc.
+use Rattle.std.proofs.Common.{◌≡◌, true, false, List, [], ◌∷◌, ◌++◌, ℕ, refl, sym, ap}
+use Rattle.std.proofs.lemmas.List.{append-nil}
+use Rattle.net_base.specs.Medium.TheVariants as Medium
 use Rattle.lan.specs.declared.at_link.history.answer.Answer.TheVariants as To
 use Rattle.lan.specs.declared.at_link.history.event.Event.TheVariants as E
 use Rattle.lan.specs.declared.at_link.history.event.Side.TheVariants.{A, B}
 use Rattle.lan.specs.Worlds.AtLink.History.{Entry}
+use Rattle.lan.specs.Worlds.AtLink.Origins.{begins_datagram}
 use Rattle.lan.specs.Worlds.AtLink.Runs.{Leads}
-use Rattle.lan.specs.Worlds.Still.{AreStill, StillRun}
-use Rattle.stack_laws.specs.Progress.LateNumerals.{late, second_round, third_round}
-use Rattle.stack_laws.specs.Progress.SettledNumerals.{counts, entry, last_frame, later, starts, through_b}
-use Rattle.stack_laws.proofs.Polls.SomeKept.{acknowledging_b, both, kept_through_a, kept_waiting_a}
-use Rattle.stack_laws.proofs.Polls.SomeKeptLearns.{learns}
-use Rattle.stack_laws.proofs.Polls.SomeRests.{quiet_b}
+use Rattle.lan.specs.Worlds.Still.{StillRun}
+use Rattle.stack_laws.specs.Progress.LateNumerals.{second_round, third_round}
+use Rattle.stack_laws.specs.Progress.SettledNumerals.{counts, entry, last_frame, later, starts, syn_ack_frame, through_b}
+use Rattle.stack_laws.proofs.Polls.SomeKept.{both, kept_idle_a, kept_waiting_a}
+use Rattle.stack_laws.proofs.Polls.SomeKeptSends.{waits}
 use Rattle.stack_laws.proofs.Polls.SomeStarts.{both_stay}
-use Rattle.stack_laws.proofs.Polls.SomeWorld.{a_at_last, b_at_last}
+use Rattle.stack_laws.proofs.Polls.SomeStations.{heard_b}
+use Rattle.stack_laws.proofs.Polls.SomeTells.{tells}
+use Rattle.stack_laws.proofs.Polls.SomeWorld.{a_at_last, b_at_last, b_behind_one, few}
 use Rattle.stack_laws.proofs.Polls.SomeKeptSecond.{second_still}
 
-abbrev pub learned_so : Entry
-learned_so = entry (E.Poll A later 1) (To.Poll true) (counts 3 2 1 0)
+abbrev pub waits_so : Entry
+waits_so = entry (E.Poll A later 1) (To.Poll false) (counts 3 1 0 0)
 
-pub a_learns : Leads second_round (both (kept_waiting_a (last_frame ∷ [])) through_b) learned_so (both kept_through_a through_b)
-a_learns = record { allowed = refl; counted = refl; happens = record { acts = (true, learns, refl, refl); rests = refl } }
+pub a_waits : Leads second_round (both kept_idle_a heard_b) waits_so (both (kept_waiting_a []) heard_b)
+a_waits = record { allowed = refl; counted = refl; happens = record { acts = (false, waits, refl, refl); rests = refl } }
 
-abbrev pub rests_so : Entry
-rests_so = entry (E.Poll B later 1) (To.Poll false) (counts 3 2 0 0)
+abbrev pub told_back : Entry
+told_back = entry (E.Poll B later 1) (To.Poll true) (counts 3 1 0 0)
 
--- A isn't touched as B is polled
-a_stays : kept_through_a ≡ kept_through_a
-a_stays = refl
+pub b_tells : Leads (waits_so ∷ second_round) (both (kept_waiting_a []) heard_b) told_back (both (kept_waiting_a []) through_b)
+b_tells =
+    record { allowed = few (begins_datagram Medium.Ip) syn_ack_frame; counted = refl; happens = record { acts = (true, tells, refl, refl); rests = refl } }
 
-pub b_rests : Leads (learned_so ∷ second_round) (both kept_through_a through_b) rests_so (both kept_through_a (acknowledging_b []))
-b_rests = record { allowed = refl; counted = refl; happens = record { acts = (false, quiet_b, refl, refl); rests = a_stays } }
+abbrev pub brought_back : Entry
+brought_back = entry (E.Deliver B 1 []) To.Done (counts 3 2 0 0)
 
-abbrev pub asked_a_then : Entry
-asked_a_then = entry (E.PollAt A later) (To.At (Some late)) (counts 3 2 0 0)
+last_came : both (kept_waiting_a (last_frame ∷ [])) through_b ≡ both (kept_waiting_a ((last_frame ++ []) ∷ [])) through_b
+last_came = ap (λ (frame : List ℕ). both (kept_waiting_a (frame ∷ [])) through_b) (sym (append-nil last_frame))
 
-pub a_is_asked_then : Leads (rests_so ∷ learned_so ∷ second_round) (both kept_through_a (acknowledging_b [])) asked_a_then
-    (both kept_through_a (acknowledging_b []))
-unfolding v4_number mtu_towards end_towards
-a_is_asked_then = record { allowed = refl; counted = refl; happens = record { acts = (refl, refl, refl); rests = refl } }
+pub last_comes : Leads (told_back ∷ waits_so ∷ second_round) (both (kept_waiting_a []) through_b) brought_back
+    (both (kept_waiting_a (last_frame ∷ [])) through_b)
+last_comes = record { allowed = refl; counted = refl; happens = (refl, refl, last_came) }
 
-abbrev pub asked_b_then : Entry
-asked_b_then = entry (E.PollAt B later) (To.At None) (counts 3 2 0 0)
+pub third_still : StillRun starts third_round (both (kept_waiting_a (last_frame ∷ [])) through_b)
+third_still = (both (kept_waiting_a []) through_b, told, last_comes, both_stay (kept_waiting_a (last_frame ∷ [])) through_b a_at_last b_at_last) where
+  waited : StillRun starts (waits_so ∷ second_round) (both (kept_waiting_a []) heard_b)
+  waited = (both kept_idle_a heard_b, second_still, a_waits, both_stay (kept_waiting_a []) heard_b a_at_last b_behind_one)
 
-pub b_is_asked_then : Leads (asked_a_then ∷ rests_so ∷ learned_so ∷ second_round) (both kept_through_a (acknowledging_b [])) asked_b_then
-    (both kept_through_a (acknowledging_b []))
-unfolding v4_number mtu_towards end_towards
-b_is_asked_then = record { allowed = refl; counted = refl; happens = record { acts = (refl, refl, refl); rests = refl } }
-
-pub third_still : StillRun starts third_round (both kept_through_a (acknowledging_b []))
-third_still = (both kept_through_a (acknowledging_b []), asked, b_is_asked_then, then_stays) where
-  then_stays : AreStill starts (both kept_through_a (acknowledging_b []))
-  then_stays = both_stay kept_through_a (acknowledging_b []) a_at_last b_at_last
-
-  learned : StillRun starts (learned_so ∷ second_round) (both kept_through_a through_b)
-  learned = (both (kept_waiting_a (last_frame ∷ [])) through_b, second_still, a_learns, both_stay kept_through_a through_b a_at_last b_at_last)
-
-  rested : StillRun starts (rests_so ∷ learned_so ∷ second_round) (both kept_through_a (acknowledging_b []))
-  rested = (both kept_through_a through_b, learned, b_rests, then_stays)
-
-  asked : StillRun starts (asked_a_then ∷ rests_so ∷ learned_so ∷ second_round) (both kept_through_a (acknowledging_b []))
-  asked = (both kept_through_a (acknowledging_b []), rested, a_is_asked_then, then_stays)
+  told : StillRun starts (told_back ∷ waits_so ∷ second_round) (both (kept_waiting_a []) through_b)
+  told = (both (kept_waiting_a []) heard_b, waited, b_tells, both_stay (kept_waiting_a []) through_b a_at_last b_at_last)
