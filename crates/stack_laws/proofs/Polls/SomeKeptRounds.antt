@@ -26,7 +26,7 @@ taken : (past : List Entry) (from to : Stations) (e : Entry) → Leads past from
 taken past from to e leads = record { entry = e; event_kept = refl; answer_kept = refl; leads = leads; history = refl; starts = refl }
 
 -- more went than had been handed over
-one_more_went : 2 ≡ 3 → ⊥
+one_more_went : ◌≡◌ {A = ℕ} 2 3 → ⊥
 one_more_went same = absurd (omega (arith, same))
 
 -- a frame waits

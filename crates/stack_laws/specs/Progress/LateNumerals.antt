@@ -76,7 +76,7 @@ abbrev pub kept_idle : TcpValue
 kept_idle = asked_by a_third kept_written
 
 abbrev pub kept_waiting : TcpValue
-kept_waiting = asked_by a_later kept_idle
+kept_waiting = asked_by a_later kept_written
 
 abbrev pub kept_through : TcpValue
 kept_through = asked_by a_later (arrives (context_of a_later) kept_waiting (numbered_header b_later ack_to_a) last_ack []).socket
