@@ -45,8 +45,8 @@ text_is_read =
 pub first_still : StillRun starts first_round (both kept_written_a heard_b)
 first_still =
     (both kept_written_a (open_b (push_frame ∷ [])), brought, text_is_read, both_stay kept_written_a heard_b a_behind_three b_behind_one) where
-  sent : StillRun starts (goes_text ∷ told_to_keep) (both kept_written_a (open_b []))
-  sent = (both kept_a (open_b []), kept_still, text_goes, both_stay kept_written_a (open_b []) a_behind_three b_behind_one)
+      sent : StillRun starts (goes_text ∷ told_to_keep) (both kept_written_a (open_b []))
+      sent = (both kept_a (open_b []), kept_still, text_goes, both_stay kept_written_a (open_b []) a_behind_three b_behind_one)
 
-  brought : StillRun starts (brought_text ∷ goes_text ∷ told_to_keep) (both kept_written_a (open_b (push_frame ∷ [])))
-  brought = (both kept_written_a (open_b []), sent, text_comes, both_stay kept_written_a (open_b (push_frame ∷ [])) a_behind_three b_behind_one)
+      brought : StillRun starts (brought_text ∷ goes_text ∷ told_to_keep) (both kept_written_a (open_b (push_frame ∷ [])))
+      brought = (both kept_written_a (open_b []), sent, text_comes, both_stay kept_written_a (open_b (push_frame ∷ [])) a_behind_three b_behind_one)
