@@ -72,11 +72,17 @@ pub mod SomeSettling
 pub mod SomeRests
 pub mod SomeKept
 pub mod SomeKeptSends
+pub mod SomeKeptIdles
 pub mod SomeKeptLearns
 pub mod SomeKeptAlive
 pub mod SomeKeptAsks
 pub mod SomeKeptAnswers
 pub mod SomeKeptWorld
+pub mod SomeKeptFirst
+pub mod SomeKeptSecond
+pub mod SomeKeptThird
+pub mod SomeKeptFourth
+pub mod SomeKeptFifth
 pub mod SomeKeptRounds
 pub mod SomeKeptSettling
 pub mod NextAtPorts

@@ -5,18 +5,21 @@ use Rattle.interface.specs.Host.{maintained}
 use Rattle.interface_tables.specs.Inner.{with_next_ident}
 use Rattle.lan.specs.declared.at_link.history.event.Side.TheVariants.{A, B}
 use Rattle.lan.specs.Worlds.AtLink.Station.{StationValue, Stations}
-use Rattle.stack_laws.specs.Progress.LateNumerals.{a_late, acknowledging, keep_alive_frame, kept_asking, kept_through, kept_waiting}
-use Rattle.stack_laws.specs.Progress.LateNumerals.{kept_written, polled_late}
+use Rattle.stack_laws.specs.Progress.LateNumerals.{a_late, acknowledging, keep_alive_frame, kept_asking, kept_idle, kept_through}
+use Rattle.stack_laws.specs.Progress.LateNumerals.{kept_waiting, kept_written, polled_late}
 use Rattle.stack_laws.specs.Progress.SettledNumerals.{a_later, a_third, ack_frame, b_later, first_host, last_frame, polled_later, push_frame, station_with}
 use Rattle.stack_laws.specs.Progress.SettledNumerals.{syn_ack_frame, syn_frame}
 
 abbrev pub both : StationValue → StationValue → Stations
 both a b = record { a = a; b = b }
 
--- A as abc has gone, as it was polled in vain, as abc is acknowledged, and as a keep-alive has gone
+-- A as abc has gone, as it was polled in vain, and ten milliseconds later again, as abc is acknowledged, and as a keep-alive has gone
 abbrev pub kept_written_a : StationValue
 kept_written_a =
     station_with (record (maintained (pos 0) (first_host A)) { inner = a_third }) kept_written [] (syn_frame ∷ ack_frame ∷ push_frame ∷ [])
+
+abbrev pub kept_idle_a : StationValue
+kept_idle_a = station_with (record (maintained (pos 0) (first_host A)) { inner = a_third }) kept_idle [] (syn_frame ∷ ack_frame ∷ push_frame ∷ [])
 
 abbrev pub kept_waiting_a : List (List ℕ) → StationValue
 kept_waiting_a waiting = station_with (polled_later A a_later) kept_waiting waiting (syn_frame ∷ ack_frame ∷ push_frame ∷ [])

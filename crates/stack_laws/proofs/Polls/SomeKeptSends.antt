@@ -23,9 +23,9 @@ use Rattle.interface.specs.State.{State}
 use Rattle.stack_laws.specs.Progress.Numerals.{port_behind}
 use Rattle.stack_laws.specs.Progress.Segments.{asked_by}
 use Rattle.stack_laws.proofs.Polls.SomeTexts.{push_formed, push_packet}
-use Rattle.stack_laws.specs.Progress.LateNumerals.{kept, kept_a, kept_waiting, kept_written}
-use Rattle.stack_laws.specs.Progress.SettledNumerals.{a_later, a_second, later, push_frame}
-use Rattle.stack_laws.proofs.Polls.SomeKept.{kept_waiting_a, kept_written_a}
+use Rattle.stack_laws.specs.Progress.LateNumerals.{kept, kept_a, kept_idle, kept_waiting, kept_written}
+use Rattle.stack_laws.specs.Progress.SettledNumerals.{a_later, a_second, a_third, later, push_frame}
+use Rattle.stack_laws.proofs.Polls.SomeKept.{kept_idle_a, kept_waiting_a, kept_written_a}
 use Rattle.stack_laws.proofs.Polls.SomeHosts.{nobody}
 use Rattle.stack_laws.proofs.Polls.SomeSyns.{item, now, port_of, state_of}
 
@@ -79,18 +79,52 @@ sends_text = record { port = port_of kept_a; port_after = sent.device; before = 
 
 -- THEN IT HAS NOTHING TO DO
 
-abbrev found : State PortValue
-found = begun later (begun later (state_of kept_written_a))
+abbrev found_now : State PortValue
+found_now = begun now (begun now (state_of kept_written_a))
 
-none_comes : IngressStep PortMove later (begun later (state_of kept_written_a)) None found
+none_comes_now : IngressStep PortMove now (begun now (state_of kept_written_a)) None found_now
+none_comes_now = ((refl, λ given. refl), refl)
+
+silent_now : Offers (context_for a_third (Kind.Tcp kept_written)) (Kind.Tcp kept_written) (Offer.Silent false) (Kind.Tcp kept_idle)
+unfolding v4_number mtu_towards
+silent_now = (refl, refl)
+
+abbrev rested_now : State PortValue
+rested_now = at_port (port_of kept_written_a) kept_idle_a
+
+rests_now : EgressStep PortMove now found_now None rested_now
+rests_now = (
+  passed (sending now found_now) rested_now.places false,
+  inr (
+    sending now found_now,
+    (refl, refl),
+    inl (false, sending now found_now, unmarked (Kind.Tcp kept_idle), (Offer.Silent false, Kind.Tcp kept_idle, silent_now, (refl, refl, refl)), refl),
+  ),
+  refl,
+  refl,
+)
+
+in_vain_now : Polls PortMove now 1 (state_of kept_written_a) false rested_now
+in_vain_now = (found_now, false, inl (none_comes_now, refl), inl (rests_now, refl))
+
+pub idles : PollsAt kept_written_a now 1 false kept_idle_a
+idles =
+    record { port = port_of kept_written_a; port_after = port_of kept_written_a; before = refl; after = refl; polls = in_vain_now; none_denied = refl }
+
+-- NOR TEN MILLISECONDS LATER
+
+abbrev found : State PortValue
+found = begun later (begun later (state_of kept_idle_a))
+
+none_comes : IngressStep PortMove later (begun later (state_of kept_idle_a)) None found
 none_comes = ((refl, λ given. refl), refl)
 
-silent : Offers (context_for a_later (Kind.Tcp kept_written)) (Kind.Tcp kept_written) (Offer.Silent false) (Kind.Tcp kept_waiting)
+silent : Offers (context_for a_later (Kind.Tcp kept_idle)) (Kind.Tcp kept_idle) (Offer.Silent false) (Kind.Tcp kept_waiting)
 unfolding v4_number mtu_towards
 silent = (refl, refl)
 
 abbrev rested : State PortValue
-rested = at_port (port_of kept_written_a) (kept_waiting_a [])
+rested = at_port (port_of kept_idle_a) (kept_waiting_a [])
 
 rests : EgressStep PortMove later found None rested
 rests = (
@@ -104,9 +138,9 @@ rests = (
   refl,
 )
 
-in_vain : Polls PortMove later 1 (state_of kept_written_a) false rested
+in_vain : Polls PortMove later 1 (state_of kept_idle_a) false rested
 in_vain = (found, false, inl (none_comes, refl), inl (rests, refl))
 
-pub waits : PollsAt kept_written_a later 1 false (kept_waiting_a [])
+pub waits : PollsAt kept_idle_a later 1 false (kept_waiting_a [])
 waits =
-    record { port = port_of kept_written_a; port_after = port_of kept_written_a; before = refl; after = refl; polls = in_vain; none_denied = refl }
+    record { port = port_of kept_idle_a; port_after = port_of kept_idle_a; before = refl; after = refl; polls = in_vain; none_denied = refl }

@@ -23,7 +23,8 @@ use Rattle.stack_laws.specs.Progress.SettledNumerals.{news, opened, place, start
 use Rattle.stack_laws.specs.Progress.Unread.{HasRoomForAll}
 use Rattle.stack_laws.specs.Progress.Within.{MayBegin, MaySettle, enough_for}
 use Rattle.stack_laws.proofs.Polls.SomeKept.{both}
-use Rattle.stack_laws.proofs.Polls.SomeKeptWorld.{fourth_still, kept_still}
+use Rattle.stack_laws.proofs.Polls.SomeKeptWorld.{kept_still}
+use Rattle.stack_laws.proofs.Polls.SomeKeptFifth.{fifth_still}
 use Rattle.stack_laws.proofs.Polls.SomeLinked.{both_are}
 use Rattle.stack_laws.proofs.Polls.SomeStarts.{are_new, have_keys, hold_text, is_fresh}
 use Rattle.stack_laws.proofs.Polls.SomeStations.{open_b}
@@ -98,7 +99,7 @@ may_settle = record {
   streams = streams;
   rooms = rooms;
   clocks = clocks;
-  still = fourth_still;
+  still = fifth_still;
   stay = stay;
   leave = leaves;
 }

@@ -1,6 +1,6 @@
 -- The world on numerals that settles, where A's user asks for a keep-alive every seven hours once it has written abc: then rounds go on past what is enough
--- for all that was written. They begin there. In the first, abc goes, and comes; ten milliseconds later B acknowledges it, in the second, and A reads that in
--- the third; in the fourth, seven hours behind abc, a keep-alive goes, and is answered.
+-- for all that was written. They begin there. In the first, abc goes, and comes; in the second neither host has anything to do; ten milliseconds later B
+-- acknowledges it, in the third, and A reads that in the fourth; in the fifth, seven hours behind abc, a keep-alive goes, and is answered.
 use Rattle.std.specs.Prelude.{ℕ, ℤ, ◌+◌, pos, true, false, List, [], ◌∷◌, None, Some}
 use Rattle.ip_wire.specs.IpProtocol.TheVariants as Protocol
 use Rattle.ip_wire.specs.TcpHeader.{TcpHeader}
@@ -64,12 +64,16 @@ answer_frame = frame_from b_late ack_to_a last_ack
 
 -- SOCKETS
 
--- A's, whose user asked for keep-alives; behind abc, as it is polled in vain, as abc is acknowledged, and behind a keep-alive
+-- A's, whose user asked for keep-alives; behind abc, as it is polled in vain, and ten milliseconds later again, as abc is acknowledged, and behind a
+-- keep-alive
 abbrev pub kept : TcpValue
 kept = set_keep_alive writing (Some interval)
 
 abbrev pub kept_written : TcpValue
 kept_written = settled true (asked_by a_second kept)
+
+abbrev pub kept_idle : TcpValue
+kept_idle = asked_by a_third kept_written
 
 abbrev pub kept_waiting : TcpValue
 kept_waiting = asked_by a_later kept_written
@@ -113,27 +117,32 @@ before = record { hosts = record { a = kept_a; b = open_b }; starts = starts; hi
 -- abc goes, and comes
 abbrev pub first_round : List Entry
 first_round =
-    entry (E.PollAt B (pos 0)) (To.At (Some later)) (counts 3 1 0 0) ∷ entry (E.PollAt A (pos 0)) (To.At (Some (pos 1_000_000))) (counts 3 1 0 0)
-    ∷ entry (E.Poll B (pos 0) 1) (To.Poll true) (counts 3 1 0 1) ∷ entry (E.Deliver A 2 []) To.Done (counts 3 1 0 0)
+    entry (E.Poll B (pos 0) 1) (To.Poll true) (counts 3 1 0 1) ∷ entry (E.Deliver A 2 []) To.Done (counts 3 1 0 0)
     ∷ entry (E.Poll A (pos 0) 1) (To.Poll true) (counts 2 1 0 0) ∷ told_to_keep
 
--- it is acknowledged
+-- neither host has anything to do
 abbrev pub second_round : List Entry
 second_round =
-    entry (E.Deliver B 1 []) To.Done (counts 3 2 0 0) ∷ entry (E.Poll B later 1) (To.Poll true) (counts 3 1 0 0)
-    ∷ entry (E.Poll A later 1) (To.Poll false) (counts 3 1 0 0) ∷ first_round
+    entry (E.PollAt B (pos 0)) (To.At (Some later)) (counts 3 1 0 0) ∷ entry (E.PollAt A (pos 0)) (To.At (Some (pos 1_000_000))) (counts 3 1 0 0)
+    ∷ entry (E.Poll B (pos 0) 1) (To.Poll false) (counts 3 1 0 0) ∷ entry (E.Poll A (pos 0) 1) (To.Poll false) (counts 3 1 0 0) ∷ first_round
 
--- A learns of that
+-- abc is acknowledged
 abbrev pub third_round : List Entry
 third_round =
-    entry (E.PollAt B later) (To.At None) (counts 3 2 0 0) ∷ entry (E.PollAt A later) (To.At (Some late)) (counts 3 2 0 0)
-    ∷ entry (E.Poll B later 1) (To.Poll false) (counts 3 2 0 0) ∷ entry (E.Poll A later 1) (To.Poll true) (counts 3 2 1 0) ∷ second_round
+    entry (E.Deliver B 1 []) To.Done (counts 3 2 0 0) ∷ entry (E.Poll B later 1) (To.Poll true) (counts 3 1 0 0)
+    ∷ entry (E.Poll A later 1) (To.Poll false) (counts 3 1 0 0) ∷ second_round
 
--- a keep-alive goes, and is answered
+-- A learns of that
 abbrev pub fourth_round : List Entry
 fourth_round =
+    entry (E.PollAt B later) (To.At None) (counts 3 2 0 0) ∷ entry (E.PollAt A later) (To.At (Some late)) (counts 3 2 0 0)
+    ∷ entry (E.Poll B later 1) (To.Poll false) (counts 3 2 0 0) ∷ entry (E.Poll A later 1) (To.Poll true) (counts 3 2 1 0) ∷ third_round
+
+-- a keep-alive goes, and is answered
+abbrev pub fifth_round : List Entry
+fifth_round =
     entry (E.Deliver B 2 []) To.Done (counts 4 3 0 0) ∷ entry (E.Poll B late 1) (To.Poll true) (counts 4 2 0 1)
-    ∷ entry (E.Deliver A 3 []) To.Done (counts 4 2 0 0) ∷ entry (E.Poll A late 1) (To.Poll true) (counts 3 2 0 0) ∷ third_round
+    ∷ entry (E.Deliver A 3 []) To.Done (counts 4 2 0 0) ∷ entry (E.Poll A late 1) (To.Poll true) (counts 3 2 0 0) ∷ fourth_round
 
 -- THE WORLD BEHIND
 
@@ -145,4 +154,4 @@ abbrev pub late_b : StationValue
 late_b = station_with (polled_late B (with_next_ident b_late)) answering [] (syn_ack_frame ∷ last_frame ∷ answer_frame ∷ [])
 
 abbrev pub behind : WorldValue
-behind = record { hosts = record { a = late_a; b = late_b }; starts = starts; history = fourth_round }
+behind = record { hosts = record { a = late_a; b = late_b }; starts = starts; history = fifth_round }

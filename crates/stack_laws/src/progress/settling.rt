@@ -131,14 +131,14 @@ pub fn a_world_at_rest_settles()
         (record { hosts = Numerals.hosts; starts = Numerals.starts; history = Numerals.history }) new }
 {}
 
-/// Law: there are worlds of which it is all so at once. A's user has written abc, which hasn't gone yet, and asked for a keep-alive every seven hours. Four
-/// rounds begin there, the first three within ten milliseconds, and the fourth at seven hours: that is further on than what is enough, which is 364
+/// Law: there are worlds of which it is all so at once. A's user has written abc, which hasn't gone yet, and asked for a keep-alive every seven hours. Five
+/// rounds begin there, the first four within ten milliseconds, and the fifth at seven hours: that is further on than what is enough, which is 364
 /// minutes. So abc has come to B by what is said of rounds whose clock went on so far; they are over before the world is at rest.
 pub fn a_world_settles_in_time()
     ensures under_way { Late.kept.queued.queue ≡ text }
     ensures may { MaySettle place news (pos 0) Late.sockets Late.before Late.behind }
     ensures none { AskForNone Late.before.starts }
-    ensures settles { Settles 1 (pos 0) 4 None Late.before Late.behind }
+    ensures settles { Settles 1 (pos 0) 5 None Late.before Late.behind }
     ensures enough { enough_for Late.before.history place Late.sockets ≡ 21_840_000_000 }
     ensures clock { (clock_in Late.before.history +ℤ pos (enough_for Late.before.history place Late.sockets)) <ℤ clock_in Late.behind.history }
     ensures arrived { HasArrived (net_of Late.behind) A (place A) (place B) Late.kept_asking Late.answering }

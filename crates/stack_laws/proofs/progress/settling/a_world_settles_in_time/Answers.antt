@@ -28,5 +28,5 @@ returns-clause-clock c = goes_on
 
 pub returns-clause-arrived : goal.returns-clause-arrived
 returns-clause-arrived c =
-    c.what_settles_arrives_in_time.ensures before behind place news sockets 1 (pos 0) 4 None A kept_asking answering may_settle ask_for_none settles goes_on
+    c.what_settles_arrives_in_time.ensures before behind place news sockets 1 (pos 0) 5 None A kept_asking answering may_settle ask_for_none settles goes_on
     caller listener
