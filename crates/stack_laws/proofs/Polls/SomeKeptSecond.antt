@@ -1,5 +1,5 @@
 -- The second round: neither host has anything to do, and both say when they want to be polled.
-use Rattle.std.proofs.Common.{true, false, ◌∷◌, Some, refl}
+use Rattle.std.proofs.Common.{false, ◌∷◌, Some, refl}
 use Rattle.std.specs.Prelude.{pos}
 use Rattle.ip_address.specs.Address.{v4_number}
 use Rattle.net_base.specs.Medium.TheVariants as Medium
