@@ -30,7 +30,7 @@ use Rattle.lan.proofs.Worlds.Moves.Calls.{names}
 use Rattle.lan.proofs.Worlds.Moves.Worlds.{fresh_net}
 use Rattle.stack_laws.specs.Progress.Days.{HasDays, KeepsTime}
 use Rattle.stack_laws.specs.Progress.Events.{MoveBy, clock_in, untimed}
-use Rattle.stack_laws.specs.Progress.Hearing.{AreSo, IsAnything, IsSoAt}
+use Rattle.stack_laws.specs.Progress.Hearing.{AreSo, IsSoAt}
 use Rattle.stack_laws.specs.Progress.Moving.{AreAtMoments, AreBrought, IsFreshFor, end_in, moves_of}
 use Rattle.stack_laws.specs.Progress.OneClock.{KeepOneClock, timed}
 use Rattle.stack_laws.specs.Progress.Partners.{HoldText}
@@ -38,7 +38,7 @@ use Rattle.stack_laws.proofs.EventClocks.{at_moments}
 use Rattle.stack_laws.proofs.EventDays.{AllTimed, Timed, all_timed, pair_timed}
 use Rattle.stack_laws.proofs.EventEnds.{end_timed, ends, ends_now}
 use Rattle.stack_laws.proofs.EventMoves.{MovesBy}
-use Rattle.stack_laws.proofs.MovedNow.{all_fresh}
+use Rattle.stack_laws.proofs.MovedNow.{IsAnything, all_fresh}
 use Rattle.stack_laws.proofs.StillPartners.{partners_stay}
 
 no_later : (t : ℤ) → t ≤ℤ t

@@ -36,6 +36,7 @@ use Rattle.stack_laws.proofs.EventConnected.{begins, of_one_net}
 use Rattle.stack_laws.proofs.EventLeave.{are_let_go}
 use Rattle.stack_laws.proofs.EventMoves.{all_events_move}
 use Rattle.stack_laws.proofs.EventNow.{anything, fresh_within}
+use Rattle.stack_laws.proofs.MovedNow.{IsAnything}
 use Rattle.stack_laws.proofs.EventReach.{linked as linked_in_reach}
 use Rattle.stack_laws.proofs.EventSpace.{read_within}
 use Rattle.stack_laws.proofs.EventStamps.{fresh_unstamped}
@@ -45,7 +46,7 @@ use Rattle.stack_laws.proofs.StillPartners.{clocks, mid, on_between, shown, stil
 use Rattle.stack_laws.specs.Progress.ByEvents.{GoOnByEvents}
 use Rattle.stack_laws.specs.Progress.Days.{HasDays}
 use Rattle.stack_laws.specs.Progress.Ends.{AreBoth}
-use Rattle.stack_laws.specs.Progress.Hearing.{AreSo, IsAnything}
+use Rattle.stack_laws.specs.Progress.Hearing.{AreSo}
 use Rattle.stack_laws.specs.Progress.Linked.{AreLinked}
 use Rattle.stack_laws.specs.Progress.Events.{MoveBy, clock_in, shown_in, untimed}
 use Rattle.stack_laws.specs.Progress.Moving.{AreBrought, AreLetGo, ComeFresh, ComeInTime, IsFreshFor, IsHeardBy, IsReadInTime, IsTcp, SocketIs, moves_of}

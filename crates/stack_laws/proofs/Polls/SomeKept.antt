@@ -3,15 +3,21 @@ use Rattle.std.proofs.Common.{List, [], ◌∷◌, ℕ}
 use Rattle.std.specs.Prelude.{pos}
 use Rattle.interface.specs.Host.{maintained}
 use Rattle.interface_tables.specs.Inner.{with_next_ident}
+use Rattle.tcp_model.specs.Value.{TcpValue}
+use Rattle.stack_laws.specs.Progress.Segments.{asked_by}
 use Rattle.lan.specs.declared.at_link.history.event.Side.TheVariants.{A, B}
 use Rattle.lan.specs.Worlds.AtLink.Station.{StationValue, Stations}
-use Rattle.stack_laws.specs.Progress.LateNumerals.{a_late, acknowledging, keep_alive_frame, kept_asking, kept_idle, kept_through}
+use Rattle.stack_laws.specs.Progress.LateNumerals.{a_late, acknowledging, keep_alive_frame, kept_asking, kept_through}
 use Rattle.stack_laws.specs.Progress.LateNumerals.{kept_waiting, kept_written, polled_late}
 use Rattle.stack_laws.specs.Progress.SettledNumerals.{a_later, a_third, ack_frame, b_later, first_host, last_frame, polled_later, push_frame, station_with}
 use Rattle.stack_laws.specs.Progress.SettledNumerals.{syn_ack_frame, syn_frame}
 
 abbrev pub both : StationValue → StationValue → Stations
 both a b = record { a = a; b = b }
+
+-- A's socket as it is polled in vain behind abc
+abbrev pub kept_idle : TcpValue
+kept_idle = asked_by a_third kept_written
 
 -- A as abc has gone, as it was polled in vain, and ten milliseconds later again, as abc is acknowledged, and as a keep-alive has gone
 abbrev pub kept_written_a : StationValue

@@ -23,9 +23,9 @@ use Rattle.interface.specs.State.{State}
 use Rattle.stack_laws.specs.Progress.Numerals.{port_behind}
 use Rattle.stack_laws.specs.Progress.Segments.{asked_by}
 use Rattle.stack_laws.proofs.Polls.SomeTexts.{push_formed, push_packet}
-use Rattle.stack_laws.specs.Progress.LateNumerals.{kept, kept_a, kept_idle, kept_waiting, kept_written}
+use Rattle.stack_laws.specs.Progress.LateNumerals.{kept, kept_a, kept_waiting, kept_written}
 use Rattle.stack_laws.specs.Progress.SettledNumerals.{a_later, a_second, a_third, later, push_frame}
-use Rattle.stack_laws.proofs.Polls.SomeKept.{kept_idle_a, kept_waiting_a, kept_written_a}
+use Rattle.stack_laws.proofs.Polls.SomeKept.{kept_idle, kept_idle_a, kept_waiting_a, kept_written_a}
 use Rattle.stack_laws.proofs.Polls.SomeHosts.{nobody}
 use Rattle.stack_laws.proofs.Polls.SomeSyns.{item, now, port_of, state_of}
 

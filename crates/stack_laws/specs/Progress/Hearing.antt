@@ -8,10 +8,6 @@ use Rattle.lan.specs.Worlds.AtLink.Moves.{Move}
 use Rattle.lan.specs.Worlds.AtLink.Moves.Move.{Takes}
 use Rattle.lan.specs.Worlds.AtLink.Paired.{Seat}
 
--- whatever it is
-abbrev pub IsAnything : TcpValue → TcpHeader → List ℕ → Type 0
-IsAnything v header bytes = Unit {0}
-
 -- so is one that comes to the socket at this place
 abbrev pub IsSoAt : (TcpValue → TcpHeader → List ℕ → Type 0) → ℕ → Move → Type 0
 IsSoAt IsSo place (Takes at cx v ip header bytes) = at ≡ place → IsSo v header bytes

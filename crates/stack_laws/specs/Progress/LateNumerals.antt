@@ -72,9 +72,6 @@ kept = set_keep_alive writing (Some interval)
 abbrev pub kept_written : TcpValue
 kept_written = settled true (asked_by a_second kept)
 
-abbrev pub kept_idle : TcpValue
-kept_idle = asked_by a_third kept_written
-
 abbrev pub kept_waiting : TcpValue
 kept_waiting = asked_by a_later kept_written
 
