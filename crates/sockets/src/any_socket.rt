@@ -1,5 +1,5 @@
 //! What sockets of all kinds have in common, as a trait.
-ghost use Rattle.std.specs.Prelude.{◌≡◌, Option, Some};
+ghost use Rattle.std.specs.Prelude.{◌≡◌, IfOk, IfErr, Option, None, Some};
 ghost use Rattle.std.specs.Option.{option_copied, option_copied_mut};
 ghost use Rattle.std.specs.Borrow.{sem, LendsIf};
 ghost use Rattle.sockets.specs.AnySocket.{as_raw, as_icmp, as_udp, as_tcp, as_dhcpv4, as_dns};
@@ -7,8 +7,10 @@ ghost use Rattle.sockets.specs.declared.socket.Socket as AnyKind;
 ghost use Rattle.sockets.specs.declared.socket.Socket.TheVariants as Kind;
 ghost use Rattle.sockets.specs.contracts.socket.Socket.{the_row};
 
+use crate::boxed::Boxed;
 use crate::socket::Socket;
 use crate::{dhcp, dns, icmp, raw, tcp, udp};
+use std::alloc::{AllocFailed, Global};
 
 /// A socket of some kind.
 pub trait AnySocket: Sized {
@@ -18,9 +20,10 @@ pub trait AnySocket: Sized {
     /// the socket, if it is of this kind
     ghost downcast_of: { AnyKind.Socket → Option Self };
 
-    /// The socket as one of any kind.
-    fn upcast(self) -> Socket
-        ensures { result ≡ upcast_of self };
+    /// The socket as one of any kind, in memory of its own, if there is any.
+    fn upcast(self, alloc: Global) -> Result<Socket, AllocFailed<Self>>
+        ensures ok { IfOk result (λ s. s ≡ upcast_of self) }
+        ensures value_returned { IfErr result (λ e. e.value ≡ self) };
 
     /// The socket of this kind, if it is one.
     fn downcast(socket: &Socket) -> Option<&Self>
@@ -30,6 +33,11 @@ pub trait AnySocket: Sized {
     fn downcast_mut(socket: &mut Socket) -> Option<&mut Self>
         ensures* writes_back { sem 𝓛 (LendsIf the_row Self.row socket.entry result upcast_of socket.old) }
         ensures value { option_copied_mut result ≡ downcast_of socket.old };
+
+    /// The socket of this kind out of its memory. One of another kind is handed back.
+    fn take(socket: Socket) -> Result<Self, Socket>
+        ensures taken { IfOk result (λ s. downcast_of socket ≡ Some s) }
+        ensures handed_back { IfErr result (λ e. (e ≡ socket) × (downcast_of socket ≡ None)) };
 
     /// an upcast socket is downcast to itself
     ghost given_back: { (s : Self) → downcast_of (upcast_of s) ≡ Some s };
@@ -42,8 +50,8 @@ impl AnySocket for raw::Socket {
 
     ghost downcast_of = { as_raw };
 
-    fn upcast(self) -> Socket {
-        Socket::Raw(self)
+    fn upcast(self, alloc: Global) -> Result<Socket, AllocFailed<raw::Socket>> {
+        Ok(Socket::Raw(Boxed::new(alloc, self)?))
     }
 
     fn downcast(socket: &Socket) -> Option<&raw::Socket> {
@@ -60,6 +68,13 @@ impl AnySocket for raw::Socket {
         }
     }
 
+    fn take(socket: Socket) -> Result<raw::Socket, Socket> {
+        match socket {
+            Socket::Raw(socket) => Ok(socket.into_inner()),
+            socket => Err(socket),
+        }
+    }
+
     ghost given_back = { λ s. refl };
 }
 
@@ -70,8 +85,8 @@ impl AnySocket for icmp::Socket {
 
     ghost downcast_of = { as_icmp };
 
-    fn upcast(self) -> Socket {
-        Socket::Icmp(self)
+    fn upcast(self, alloc: Global) -> Result<Socket, AllocFailed<icmp::Socket>> {
+        Ok(Socket::Icmp(Boxed::new(alloc, self)?))
     }
 
     fn downcast(socket: &Socket) -> Option<&icmp::Socket> {
@@ -88,6 +103,13 @@ impl AnySocket for icmp::Socket {
         }
     }
 
+    fn take(socket: Socket) -> Result<icmp::Socket, Socket> {
+        match socket {
+            Socket::Icmp(socket) => Ok(socket.into_inner()),
+            socket => Err(socket),
+        }
+    }
+
     ghost given_back = { λ s. refl };
 }
 
@@ -98,8 +120,8 @@ impl AnySocket for udp::Socket {
 
     ghost downcast_of = { as_udp };
 
-    fn upcast(self) -> Socket {
-        Socket::Udp(self)
+    fn upcast(self, alloc: Global) -> Result<Socket, AllocFailed<udp::Socket>> {
+        Ok(Socket::Udp(Boxed::new(alloc, self)?))
     }
 
     fn downcast(socket: &Socket) -> Option<&udp::Socket> {
@@ -116,6 +138,13 @@ impl AnySocket for udp::Socket {
         }
     }
 
+    fn take(socket: Socket) -> Result<udp::Socket, Socket> {
+        match socket {
+            Socket::Udp(socket) => Ok(socket.into_inner()),
+            socket => Err(socket),
+        }
+    }
+
     ghost given_back = { λ s. refl };
 }
 
@@ -126,8 +155,8 @@ impl AnySocket for tcp::Socket {
 
     ghost downcast_of = { as_tcp };
 
-    fn upcast(self) -> Socket {
-        Socket::Tcp(self)
+    fn upcast(self, alloc: Global) -> Result<Socket, AllocFailed<tcp::Socket>> {
+        Ok(Socket::Tcp(Boxed::new(alloc, self)?))
     }
 
     fn downcast(socket: &Socket) -> Option<&tcp::Socket> {
@@ -144,6 +173,13 @@ impl AnySocket for tcp::Socket {
         }
     }
 
+    fn take(socket: Socket) -> Result<tcp::Socket, Socket> {
+        match socket {
+            Socket::Tcp(socket) => Ok(socket.into_inner()),
+            socket => Err(socket),
+        }
+    }
+
     ghost given_back = { λ s. refl };
 }
 
@@ -154,8 +190,8 @@ impl AnySocket for dhcp::Socket {
 
     ghost downcast_of = { as_dhcpv4 };
 
-    fn upcast(self) -> Socket {
-        Socket::Dhcpv4(self)
+    fn upcast(self, alloc: Global) -> Result<Socket, AllocFailed<dhcp::Socket>> {
+        Ok(Socket::Dhcpv4(Boxed::new(alloc, self)?))
     }
 
     fn downcast(socket: &Socket) -> Option<&dhcp::Socket> {
@@ -172,6 +208,13 @@ impl AnySocket for dhcp::Socket {
         }
     }
 
+    fn take(socket: Socket) -> Result<dhcp::Socket, Socket> {
+        match socket {
+            Socket::Dhcpv4(socket) => Ok(socket.into_inner()),
+            socket => Err(socket),
+        }
+    }
+
     ghost given_back = { λ s. refl };
 }
 
@@ -182,8 +225,8 @@ impl AnySocket for dns::Socket {
 
     ghost downcast_of = { as_dns };
 
-    fn upcast(self) -> Socket {
-        Socket::Dns(self)
+    fn upcast(self, alloc: Global) -> Result<Socket, AllocFailed<dns::Socket>> {
+        Ok(Socket::Dns(Boxed::new(alloc, self)?))
     }
 
     fn downcast(socket: &Socket) -> Option<&dns::Socket> {
@@ -197,6 +240,13 @@ impl AnySocket for dns::Socket {
         match socket {
             Socket::Dns(socket) => Some(socket),
             _ => None,
+        }
+    }
+
+    fn take(socket: Socket) -> Result<dns::Socket, Socket> {
+        match socket {
+            Socket::Dns(socket) => Ok(socket.into_inner()),
+            socket => Err(socket),
         }
     }
 

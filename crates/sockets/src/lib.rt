@@ -6,6 +6,7 @@
 #![tactic(auto)]
 
 mod any_socket;
+mod boxed;
 pub mod dhcp;
 pub mod dhcpv4;
 pub mod dns;
@@ -22,6 +23,7 @@ pub mod tcp;
 pub mod udp;
 
 pub use any_socket::AnySocket;
+pub use boxed::Boxed;
 pub use socket::Socket;
 pub use socket_base::{Context, IpPayload, Offer, Packet, PollAt, addresses, widths};
 pub use tcp_socket::SegmentText;

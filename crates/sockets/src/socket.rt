@@ -3,18 +3,19 @@ ghost use Rattle.std.specs.Prelude.{◌≡◌};
 ghost use Rattle.socket_base.specs.Packet.{option_value};
 ghost use Rattle.sockets.specs.Socket.{Offers, offered_by, settled, poll_of, IfSendable};
 
+use crate::boxed::Boxed;
 use crate::{dhcp, dns, icmp, raw, tcp, udp};
 use socket_base::{Context, Offer, Packet, PollAt};
 
 /// A socket of any kind.
 #[derive(Debug, Drop)]
 pub enum Socket {
-    Raw(raw::Socket),
-    Icmp(icmp::Socket),
-    Udp(udp::Socket),
-    Tcp(tcp::Socket),
-    Dhcpv4(dhcp::Socket),
-    Dns(dns::Socket),
+    Raw(Boxed<raw::Socket>),
+    Icmp(Boxed<icmp::Socket>),
+    Udp(Boxed<udp::Socket>),
+    Tcp(Boxed<tcp::Socket>),
+    Dhcpv4(Boxed<dhcp::Socket>),
+    Dns(Boxed<dns::Socket>),
 }
 
 impl Socket {
