@@ -15,7 +15,7 @@ use crate::kinds::lent;
 use crate::made::{limit_of, queues};
 use crate::places::Places;
 use ip_wire::IpAddress;
-use sockets::{Socket, icmp};
+use sockets::icmp;
 
 /// A call that answers nothing but whether it was done.
 #[derive(Clone, Copy)]
@@ -105,7 +105,7 @@ impl Host {
         let Some((received, queued)) = queues(self.alloc(), packets, bytes) else {
             return Err(Code::Memory);
         };
-        self.add(Socket::Icmp(icmp::Socket::new(received, queued)))
+        self.add(icmp::Socket::new(received, queued))
     }
 
     /// Does a call that answers nothing but whether it was done.

@@ -15,7 +15,6 @@ use crate::kinds::lent;
 use crate::made::{limit_of, queues};
 use crate::places::Places;
 use ip_wire::IpListenEndpoint;
-use sockets::Socket;
 use sockets::udp::{self, UdpMetadata};
 
 /// A call that answers nothing but whether it was done.
@@ -121,7 +120,7 @@ impl Host {
         let Some((received, queued)) = queues(self.alloc(), packets, bytes) else {
             return Err(Code::Memory);
         };
-        self.add(Socket::Udp(udp::Socket::new(received, queued)))
+        self.add(udp::Socket::new(received, queued))
     }
 
     /// Does a call that answers nothing but whether it was done.

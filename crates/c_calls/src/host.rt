@@ -14,7 +14,7 @@ use crate::places::Places;
 use interface::{Config, Interface, Listener};
 use ip_wire::{EthernetAddress, HardwareAddress};
 use net_base::{ChecksumCapabilities, DeviceCapabilities, Instant, Medium};
-use sockets::{Socket, dhcp, dns};
+use sockets::{AnySocket, dhcp, dns};
 use std::alloc::Global;
 use std::marker::Model;
 
@@ -244,8 +244,8 @@ impl Host {
     }
 
     /// Puts a socket at the first free place.
-    pub(crate) fn add(&mut self, socket: Socket) -> Result<usize, Code>
-        ensures { MakesSocket socket self.old result self.new }
+    pub(crate) fn add<K: AnySocket + Drop>(&mut self, socket: K) -> Result<usize, Code>
+        ensures { MakesSocket (K.upcast_of socket) self.old result self.new }
     {
         self.sockets().add(socket)
     }

@@ -14,7 +14,7 @@ use crate::kinds::lent;
 use crate::made::queues;
 use crate::places::Places;
 use ip_wire::{IpProtocol, IpVersion};
-use sockets::{Socket, raw};
+use sockets::raw;
 
 /// Queues a packet with its IP header.
 pub fn send(sockets: &mut Places, place: usize, bytes: &[u8]) -> Result<(), Code>
@@ -74,7 +74,7 @@ impl Host {
         let Some((received, queued)) = queues(self.alloc(), packets, bytes) else {
             return Err(Code::Memory);
         };
-        self.add(Socket::Raw(raw::Socket::new(version, protocol, received, queued)))
+        self.add(raw::Socket::new(version, protocol, received, queued))
     }
 
     /// Queues a packet with its IP header.

@@ -15,9 +15,9 @@ ghost use Rattle.c_calls.specs.Lends.{LendsSocket};
 
 use crate::code::Code;
 use crate::link::FrameLink;
-use interface::{AddError, Interface, PollResult, SocketHandle, SocketSet};
+use interface::{AddError, Interface, PollResult, SocketHandle, SocketSet, SocketsByKind};
 use net_base::{Instant, ManagedSlice};
-use sockets::Socket;
+use sockets::{AnySocket, Socket};
 use std::alloc::Global;
 use std::marker::Model;
 
@@ -41,7 +41,7 @@ impl Model for Places {
 }
 
 /// Why a socket wasn't added: places grow, so there is no memory. The socket is dropped.
-fn lack_of_memory(_refused: AddError<Socket>) -> Code
+fn lack_of_memory<K: Drop>(_refused: AddError<K>) -> Code
     ensures { result ≡ Code.Memory }
 {
     Code::Memory
@@ -58,10 +58,10 @@ impl Places {
     }
 
     /// Puts a socket at the first free place, or behind the others.
-    pub fn add(&mut self, socket: Socket) -> Result<usize, Code>
-        ensures { AddsSocket socket self.old result self.new }
+    pub fn add<K: AnySocket + Drop>(&mut self, socket: K) -> Result<usize, Code>
+        ensures { AddsSocket (K.upcast_of socket) self.old result self.new }
     {
-        match self.set.add(socket) {
+        match self.set.add_as(socket) {
             Ok(handle) => Ok(handle.place()),
             Err(refused) => Err(lack_of_memory(refused)),
         }

@@ -19,8 +19,8 @@ use crate::made::{limit_of, rings};
 use crate::places::Places;
 use ip_wire::{IpEndpoint, IpListenEndpoint, TcpTimestampGenerator};
 use net_base::Duration;
+use sockets::Context;
 use sockets::tcp::{self, CongestionControl};
-use sockets::{Context, Socket};
 
 /// A call that answers nothing but whether it was done.
 #[derive(Clone, Copy)]
@@ -216,7 +216,7 @@ impl Host {
         let Some((received, queued)) = rings(self.alloc(), received, queued) else {
             return Err(Code::Memory);
         };
-        self.add(Socket::Tcp(tcp::Socket::new(received, queued)))
+        self.add(tcp::Socket::new(received, queued))
     }
 
     /// Does a call that answers nothing but whether it was done.

@@ -3,10 +3,10 @@ ghost use Rattle.net_base.specs.Time.{IsMoment};
 
 use crate::wire::Wire;
 use anyhow::{Context, Result, anyhow};
-use interface::{Config, Interface, SocketHandle, SocketSet};
+use interface::{Config, Interface, SocketHandle, SocketSet, SocketsByKind};
 use ip_wire::{EthernetAddress, HardwareAddress, IpAddress, IpCidr, Ipv4Address};
 use net_base::{Instant, ManagedSlice};
-use sockets::Socket;
+use sockets::{AnySocket, Socket};
 use std::alloc::Global;
 
 /// How many frames a poll takes in, and how often it goes over the sockets, at most.
@@ -62,8 +62,14 @@ fn boxed<T: Drop>(alloc: Global, value: Result<T>) -> Result<Box<T>> {
 }
 
 /// Adds a socket to a set that grows.
-pub fn add(sockets: &mut SocketSet<Socket>, socket: Socket) -> Result<SocketHandle> {
-    sockets.add(socket).ok().context("no memory for a socket")
+pub fn add<K: AnySocket + Drop>(
+    sockets: &mut SocketSet<Socket>,
+    socket: K,
+) -> Result<SocketHandle> {
+    sockets
+        .add_as(socket)
+        .ok()
+        .context("no memory for a socket")
 }
 
 /// A host at its end of the wire.

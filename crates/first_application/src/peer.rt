@@ -20,9 +20,9 @@ struct Handles {
 /// Adds a socket of each kind at this port.
 fn add_all(alloc: Global, sockets: &mut SocketSet<Socket>, port: u16) -> Result<Handles> {
     Ok(Handles {
-        datagrams: add(sockets, Socket::Udp(datagrams(alloc, port)?))?,
-        stream: add(sockets, Socket::Tcp(stream(alloc, 4096)?))?,
-        pings: add(sockets, Socket::Icmp(pings(alloc, port)?))?,
+        datagrams: add(sockets, datagrams(alloc, port)?)?,
+        stream: add(sockets, stream(alloc, 4096)?)?,
+        pings: add(sockets, pings(alloc, port)?)?,
     })
 }
 

@@ -1,6 +1,6 @@
 -- The sockets of a host: places, each with a socket or free.
 use Rattle.std.specs.Prelude.{◌≡◌, ℕ, Bool, true, false, Result, Ok, Err, MatchResult, List, [], ◌∷◌, ◌++◌, length, position, slice_get, slice_set, Option}
-use Rattle.std.specs.Prelude.{None, Some, is_none}
+use Rattle.std.specs.Prelude.{None, Some, is_none, ◌&&◌}
 use Rattle.net_base.specs.ManagedSlice.{storage_items}
 use Rattle.interface_tables.specs.ManagedSlice.{ManagedSlice}
 use Rattle.interface_tables.specs.ManagedSlice.TheVariants.{Fixed, Owned}
@@ -36,6 +36,10 @@ module _ {T : Type 0} where
   -- the first free place
   abbrev pub free_place : List (SocketStorage T) → Option ℕ
   free_place ps = position is_free ps
+
+  -- the storage never grows, and each place has a socket
+  abbrev pub is_full : List (SocketStorage T) → Bool → Bool
+  is_full ps fixed = fixed && is_none (free_place ps)
 
   abbrev pub socket_of : Option (Item T) → Option T
   socket_of None = None

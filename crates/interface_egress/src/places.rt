@@ -54,6 +54,11 @@ impl<T: Drop + Idle> Places<T> {
         }
     }
 
+    /// The allocator of the storage.
+    pub fn allocator(&self) -> Global {
+        *self.storage.allocator()
+    }
+
     /// Adds a place with this socket, if there is memory for it.
     pub fn push(&mut self, item: Item<T>) -> Result<(), Item<T>>
         ensures { MatchResult result (λ u. self.new ≡ self.old ++ record { inner = Some item } ∷ []) (λ e. (e ≡ item) × (self.new ≡ self.old)) }

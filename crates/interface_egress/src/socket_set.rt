@@ -4,7 +4,7 @@ ghost use Rattle.std.specs.Borrow.{sem};
 ghost use Rattle.std.specs.Fn.{FnOnceReturnsAtMut};
 ghost use Rattle.std.specs.Option.{ForSome, option_copied, option_copied_mut};
 ghost use Rattle.net_base.specs.ManagedSlice.{storage_items};
-ghost use Rattle.interface_egress.specs.Set.{places, is_fixed, is_fixed_storage, free, socket_at, free_place, Adds, Updates};
+ghost use Rattle.interface_egress.specs.Set.{places, is_fixed, is_fixed_storage, is_full, free, socket_at, free_place, Adds, Updates};
 ghost use Rattle.interface_egress.specs.Lends.{LendsPlace, LendsSocket};
 ghost use Rattle.interface_egress.specs.Used.{used, used_left, lent_left, CanLend, handles_left, handle_of};
 
@@ -12,6 +12,7 @@ use crate::places::Places;
 use crate::socket_meta::Meta;
 use agenda::Idle;
 use net_base::ManagedSlice;
+use std::alloc::Global;
 use std::{fmt, mem, slice};
 
 /// The place of a socket in its set.
@@ -91,6 +92,18 @@ impl<T: Drop + Idle> SocketSet<T> {
                 fixed: false,
             },
         }
+    }
+
+    /// The allocator of the storage.
+    pub fn allocator(&self) -> Global {
+        self.places.allocator()
+    }
+
+    /// Whether the storage never grows, and each place has a socket.
+    pub fn is_full(&self) -> bool
+        ensures { result ≡ is_full (places self.now) (is_fixed self.now) }
+    {
+        self.fixed && free_place(self.places.as_slice()).is_none()
     }
 
     /// Puts a socket into the first free place, or behind the others where the storage grows.

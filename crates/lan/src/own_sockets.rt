@@ -16,7 +16,7 @@ use crate::error::WorldError;
 use ip_address::IpProtocol;
 use lan_base::{QueueSizes, SocketSpec, StreamSizes};
 use net_base::{ManagedSlice, PacketBuffer, PacketMetadata, RingBuffer};
-use sockets::{Socket, icmp, raw, tcp, udp};
+use sockets::{AnySocket, Socket, icmp, raw, tcp, udp};
 use std::alloc::{AllocError, Global};
 
 /// A host's own of these sockets, in order.
@@ -102,18 +102,18 @@ fn socket_of(alloc: Global, spec: SocketSpec) -> Result<Socket, End>
     Ok(match spec {
         SocketSpec::Udp(sizes) => {
             let (received, queued) = queues(alloc, sizes)?;
-            Socket::Udp(udp::Socket::new(received, queued))
+            udp::Socket::new(received, queued).upcast(alloc)?
         }
         SocketSpec::Icmp(sizes) => {
             let (received, queued) = queues(alloc, sizes)?;
-            Socket::Icmp(icmp::Socket::new(received, queued))
+            icmp::Socket::new(received, queued).upcast(alloc)?
         }
         SocketSpec::Raw(version, protocol, sizes) => {
             let (received, queued) = queues(alloc, sizes)?;
             let protocol = protocol.map(IpProtocol::from);
-            Socket::Raw(raw::Socket::new(version, protocol, received, queued))
+            raw::Socket::new(version, protocol, received, queued).upcast(alloc)?
         }
-        SocketSpec::Tcp(sizes) => Socket::Tcp(stream(alloc, sizes)?),
+        SocketSpec::Tcp(sizes) => stream(alloc, sizes)?.upcast(alloc)?,
     })
 }
 

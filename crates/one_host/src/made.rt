@@ -6,7 +6,7 @@ use interface::SocketSet;
 use ip_wire::{IpProtocol, IpVersion};
 use lan_base::{QueueSizes, SocketSpec, StreamSizes};
 use net_base::{ManagedSlice, PacketBuffer, PacketMetadata, RingBuffer};
-use sockets::{Socket, icmp, raw, tcp, udp};
+use sockets::{AnySocket, Socket, icmp, raw, tcp, udp};
 use std::alloc::Global;
 
 /// How many bytes a queue or a buffer may hold, and how many datagrams.
@@ -121,18 +121,20 @@ fn socket_of(alloc: Global, spec: SocketSpec) -> Option<Socket> {
     match spec {
         SocketSpec::Udp(sizes) => {
             let (received, queued) = queues(alloc, sizes)?;
-            Some(Socket::Udp(udp::Socket::new(received, queued)))
+            udp::Socket::new(received, queued).upcast(alloc).ok()
         }
         SocketSpec::Icmp(sizes) => {
             let (received, queued) = queues(alloc, sizes)?;
-            Some(Socket::Icmp(icmp::Socket::new(received, queued)))
+            icmp::Socket::new(received, queued).upcast(alloc).ok()
         }
         SocketSpec::Raw(version, protocol, sizes) => {
             let (received, queued) = queues(alloc, sizes)?;
             let protocol = protocol.map(IpProtocol::from);
-            Some(Socket::Raw(raw::Socket::new(version, protocol, received, queued)))
+            raw::Socket::new(version, protocol, received, queued)
+                .upcast(alloc)
+                .ok()
         }
-        SocketSpec::Tcp(sizes) => Some(Socket::Tcp(stream(alloc, sizes)?)),
+        SocketSpec::Tcp(sizes) => stream(alloc, sizes)?.upcast(alloc).ok(),
     }
 }
 

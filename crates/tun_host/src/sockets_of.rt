@@ -8,7 +8,7 @@ use crate::place::{DATAGRAMS, ECHO_PORT, ECHOES, PAGES, Service, service_at};
 use interface::{Item, Meta, SocketSet, SocketStorage};
 use ip_wire::{IpListenEndpoint, TcpTimestampGenerator};
 use net_base::{Duration, ManagedSlice, PacketBuffer, PacketMetadata, RingBuffer};
-use sockets::{Socket, tcp, udp};
+use sockets::{AnySocket, Socket, tcp, udp};
 use std::alloc::{AllocError, Global};
 
 /// How many bytes of datagrams a socket keeps each way, and how many of a stream are echoed in a turn at most.
@@ -110,10 +110,10 @@ fn socket(alloc: Global, service: Service) -> Result<Socket, AllocError>
     ensures { IfOk result (IsFreshAs service) }
 {
     match service {
-        Service::Datagrams => Ok(Socket::Udp(datagrams(alloc)?)),
-        Service::Streams => Ok(Socket::Tcp(server(alloc)?)),
-        Service::Page => Ok(Socket::Tcp(server(alloc)?)),
-        Service::Keeper => Ok(Socket::Tcp(stream(alloc, KEEPER_ROOM)?)),
+        Service::Datagrams => Ok(datagrams(alloc)?.upcast(alloc)?),
+        Service::Streams => Ok(server(alloc)?.upcast(alloc)?),
+        Service::Page => Ok(server(alloc)?.upcast(alloc)?),
+        Service::Keeper => Ok(stream(alloc, KEEPER_ROOM)?.upcast(alloc)?),
     }
 }
 

@@ -5,9 +5,9 @@ use anyhow::{Context, Result};
 use interface::{SocketHandle, SocketSet, SocketsByKind};
 use ip_wire::{EthernetAddress, IpAddress, IpCidr, Ipv4Address};
 use net_base::Instant;
+use sockets::Socket;
 use sockets::dhcp::{self, Config, Event};
 use sockets::dns::{self, DnsQueryType};
-use sockets::{AnySocket, Socket};
 use std::alloc::Global;
 
 /// The Ethernet address of the host.
@@ -97,7 +97,7 @@ impl Client {
 
 /// Adds a client of DHCP, and one of DNS.
 fn add_both(sockets: &mut SocketSet<Socket>) -> Result<(SocketHandle, SocketHandle)> {
-    let dhcp = add(sockets, dhcp::Socket::new(STATION, 1).upcast())?;
-    let dns = add(sockets, dns::Socket::new(&[]).upcast())?;
+    let dhcp = add(sockets, dhcp::Socket::new(STATION, 1))?;
+    let dns = add(sockets, dns::Socket::new(&[]))?;
     Ok((dhcp, dns))
 }

@@ -9,8 +9,8 @@ use interface::{SocketHandle, SocketsByKind};
 use ip_wire::{IpAddress, IpEndpoint, Ipv4Address};
 use net_base::Instant;
 use sockets::dhcp::{DhcpMessageType, DhcpPacket, DhcpRepr};
+use sockets::udp;
 use sockets::udp::UdpMetadata;
-use sockets::{Socket, udp};
 use std::alloc::Global;
 
 /// Its own address.
@@ -56,8 +56,8 @@ impl End for Server {
 /// Gives a host its address, and a socket for the clients of DHCP and one for those of DNS.
 fn fill(alloc: Global, host: &mut Host) -> Result<(SocketHandle, SocketHandle)> {
     configure(&mut host.interface, 1)?;
-    let dhcp = add(&mut host.sockets, Socket::Udp(datagrams(alloc, 67)?))?;
-    let dns = add(&mut host.sockets, Socket::Udp(datagrams(alloc, 53)?))?;
+    let dhcp = add(&mut host.sockets, datagrams(alloc, 67)?)?;
+    let dns = add(&mut host.sockets, datagrams(alloc, 53)?)?;
     Ok((dhcp, dns))
 }
 

@@ -157,8 +157,8 @@ fn boxed<T: Drop>(alloc: Global, value: Result<T>) -> Result<Box<T>> {
 }
 
 /// Adds a socket to a set that grows.
-fn add<S: AnySocket>(sockets: &mut SocketSet<Socket>, socket: S) -> Result<SocketHandle> {
+fn add<S: AnySocket + Drop>(sockets: &mut SocketSet<Socket>, socket: S) -> Result<SocketHandle> {
     sockets
-        .add(socket.upcast())
+        .add_as(socket)
         .map_err(|_| anyhow!("no memory for a socket"))
 }

@@ -97,9 +97,9 @@ enum Kind {
 
 fn made(alloc: Global, kind: &Kind) -> Result<Socket, AllocError> {
     match kind {
-        Kind::Raw => Ok(raw_socket(alloc, None, None)?.upcast()),
-        Kind::Icmp => Ok(icmp_socket(alloc)?.upcast()),
-        Kind::Udp => Ok(udp_socket(alloc, 64)?.upcast()),
+        Kind::Raw => Ok(raw_socket(alloc, None, None)?.upcast(alloc)?),
+        Kind::Icmp => Ok(icmp_socket(alloc)?.upcast(alloc)?),
+        Kind::Udp => Ok(udp_socket(alloc, 64)?.upcast(alloc)?),
     }
 }
 

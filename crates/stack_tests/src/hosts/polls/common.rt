@@ -11,7 +11,7 @@ use interface::{
 use ip_wire::{EthernetAddress, HardwareAddress, IpAddress, IpCidr, IpListenEndpoint};
 use lan_base::Port;
 use net_base::{Device, Instant, ManagedSlice, Medium};
-use sockets::{Socket, udp};
+use sockets::{AnySocket, Socket, udp};
 use std::alloc::Global;
 use std::test::Fail;
 
@@ -118,8 +118,8 @@ fn bound_socket(alloc: Global, room: usize, port: u16) -> Result<udp::Socket, Fa
 
 fn planned_socket(alloc: Global, plan: &Plan) -> Result<Socket, Fail> {
     match plan.socket {
-        Has::Udp(port) => bound_socket(alloc, plan.room, port).map(|socket| Socket::Udp(socket)),
-        Has::Tcp => closed_socket(alloc, plan.room).map(|socket| Socket::Tcp(socket)),
+        Has::Udp(port) => Ok(bound_socket(alloc, plan.room, port)?.upcast(alloc)?),
+        Has::Tcp => Ok(closed_socket(alloc, plan.room)?.upcast(alloc)?),
     }
 }
 
@@ -143,7 +143,7 @@ impl Host {
     /// The planned host, at moment 0; on the heap, where lending it is cheap to prove.
     pub fn new(alloc: Global, plan: &Plan) -> Result<Box<Host>, Fail> {
         let mut host = boxed(alloc, Host::bare(alloc, plan)?)?;
-        host.handle = host.add(planned_socket(alloc, plan)?);
+        host.handle = host.sockets.add(planned_socket(alloc, plan)?).ok();
         Ok(host)
     }
 
@@ -160,8 +160,8 @@ impl Host {
     }
 
     /// Adds a socket to its set.
-    pub fn add(&mut self, socket: Socket) -> Option<SocketHandle> {
-        self.sockets.add(socket).ok()
+    pub fn add<K: AnySocket + Drop>(&mut self, socket: K) -> Option<SocketHandle> {
+        self.sockets.add_as(socket).ok()
     }
 
     pub fn poll(&mut self, budget: u16) -> PollResult {

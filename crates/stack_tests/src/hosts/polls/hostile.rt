@@ -5,7 +5,6 @@ use crate::hosts::polls::wire::capabilities;
 use interface::{PollIngressSingleResult, PollResult};
 use lan_base::Port;
 use net_base::{ChecksumCapabilities, Medium, Rand};
-use sockets::Socket;
 use std::alloc::{AllocError, Global};
 use std::mem::replace;
 use std::test::Fail;
@@ -220,7 +219,7 @@ fn all_seen(alloc: Global, medium: Medium) -> Result<Seen, Fail> {
 /// Gives the host a TCP socket that listens at port 80.
 fn listens(alloc: Global, host: &mut Host) -> Result<(), Fail> {
     let socket = listening_socket(alloc, 64)?;
-    match host.add(Socket::Tcp(socket)) {
+    match host.add(socket) {
         Some(_) => Ok(()),
         None => Err("a place".into()),
     }

@@ -1,7 +1,6 @@
 //! Tests of who has a turn: a socket that has nothing to do rests behind its turn, until it is lent.
 use crate::hosts::polls::common::{Host, TCP, UDP};
 use crate::hosts::polls::streams::listening_socket;
-use sockets::Socket;
 use std::test::Fail;
 
 /// The first place from this one on that has a turn.
@@ -27,8 +26,8 @@ fn a_socket_rests_behind_its_turn(rt: HostRuntime) -> Result<(), Fail> {
 #[test]
 fn others_rest(rt: HostRuntime) -> Result<(), Fail> {
     let mut host = Host::new(rt.alloc(), &TCP)?;
-    let second = host.add(Socket::Tcp(listening_socket(rt.alloc(), 64)?));
-    let third = host.add(Socket::Tcp(listening_socket(rt.alloc(), 64)?));
+    let second = host.add(listening_socket(rt.alloc(), 64)?);
+    let third = host.add(listening_socket(rt.alloc(), 64)?);
     assert!(rt; third.is_some());
     host.poll(1);
     assert!(rt; busy(&host, 0).is_none());
