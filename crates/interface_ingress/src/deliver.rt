@@ -1,33 +1,27 @@
 //! What arrived, given to the sockets that it is for.
 ghost use Rattle.std.specs.Prelude.{◌≡◌, ◌<◌, length, is_some, not, None, Some};
-ghost use Rattle.std.specs.Option.{ForSome};
-ghost use Rattle.net_base.specs.Time.{IsMoment};
 ghost use Rattle.icmpv4.specs.Icmpv4 as Icmpv4;
 ghost use Rattle.icmpv6.specs.Icmpv6 as Icmpv6;
 ghost use Rattle.ip_wire.specs.IpAddress.TheVariants as Address;
-ghost use Rattle.sockets.specs.Packet.{IsSendable};
-ghost use Rattle.sockets.specs.Replies.{packet_in};
-ghost use Rattle.sockets.specs.Socket.{accepts_datagram, accepts_segment};
-ghost use Rattle.sockets.specs.TcpAnswering as TcpAnswering;
 ghost use Rattle.interface_egress.specs.Inner.{context_of};
 ghost use Rattle.interface_ingress.specs.Arrives.{IfCanGo, answered, reply_of};
 ghost use Rattle.interface_ingress.specs.Datagrams.{TakesDatagram, PlaceTakes, GivenAt, IsDelivered};
 ghost use Rattle.interface_ingress.specs.Delivered.{is_taken_raw, packet_delivered, icmpv4_delivered, icmpv6_delivered, datagram_place};
 ghost use Rattle.interface_ingress.specs.Delivered.{with_change, with_segment, answer_of, answer_in, answer_at, draws_of, drawn_if, passes, passes_at};
-ghost use Rattle.interface_ingress.specs.Delivered.{changed_at, first_place, is_connected, segment_place, segment_delivered, segment_answer, segment_draws};
+ghost use Rattle.interface_ingress.specs.Delivered.{changed_at, segment_place, segment_delivered, segment_answer, segment_draws};
 ghost use Rattle.interface_ingress.specs.Delivered.{reset_for};
 ghost use Rattle.interface_ingress.specs.Handed.{if_it_may, counted_in, let_go, counted};
 
 use crate::places::{Arrival, give_all, is_for_any};
 use crate::reply::Reply;
 use crate::search::{datagram_place, segment_place};
+use crate::stream::process_segment;
 use icmpv4::Icmpv4Repr;
 use icmpv6::Icmpv6Repr;
-use interface_egress::{InterfaceInner, Item, Places, SocketStorage};
+use interface_egress::{InterfaceInner, Places, SocketStorage};
 use ip_wire::{IpRepr, Ipv4Repr, Ipv6Repr, TcpControl, TcpHeader, TcpRepr, UdpRepr};
-use net_base::{Instant, PacketMeta};
-use sockets::tcp::Due;
-use sockets::{Context, IpPayload, Packet, SegmentText, Socket, keys, tcp};
+use net_base::PacketMeta;
+use sockets::{IpPayload, Packet, Socket, keys};
 
 /// A packet, as raw sockets get it.
 #[derive(Drop)]
@@ -223,52 +217,6 @@ pub fn deliver_datagram(
         }
         None => false,
     }
-}
-
-/// Gives a segment to a socket, and writes the packet that answers it.
-fn process_segment<'a>(
-    inner: &mut InterfaceInner,
-    socket: &mut Socket,
-    header: &IpRepr,
-    segment: &TcpHeader,
-    bytes: &[u8],
-    reply: &mut Option<Reply<'a>>,
-)
-    requires { reply.old ≡ None }
-    ensures answer { reply_of reply.new ≡
-        answered (answer_of (context_of inner.old) header.now segment.now bytes.now socket.old) }
-    ensures sendable { IfCanGo (reply_of reply.new) }
-    ensures socket { socket.new ≡ with_segment (context_of inner.old) header.now segment.now bytes.now socket.old }
-    ensures host { inner.new ≡ drawn_if (draws_of (context_of inner.old) header.now segment.now bytes.now socket.old) inner.old }
-{
-    if let Socket::Tcp(socket) = socket {
-        let now = inner.now();
-        if let Some(due) = socket.take_segment(inner, header, segment, bytes) {
-            write_answer(socket, due, now, header, segment, bytes.len(), reply);
-        }
-    }
-}
-
-/// Writes the packet of the answer that is due to a segment, in a place of its own: so its packet isn't made ready where none is.
-#[inline(never)]
-fn write_answer<'a>(
-    socket: &tcp::Socket,
-    due: Due,
-    now: Instant,
-    header: &IpRepr,
-    segment: &TcpHeader,
-    size: usize,
-    reply: &mut Option<Reply<'a>>,
-)
-    requires moment { IsMoment now }
-    requires sendable { IsSendable (packet_in (TcpAnswering.reply_of due now socket.now header.now segment.now size)) }
-    ensures answer { reply_of reply.new ≡ answered (Some (packet_in (TcpAnswering.reply_of due now socket.now header.now segment.now size))) }
-    ensures sendable { IfCanGo (reply_of reply.new) }
-{
-    let answer = socket.answer_due(due, now, header, segment, size);
-    let text = SegmentText::whole(&[]);
-    let payload = IpPayload::Tcp(answer.segment, text);
-    *reply = Some(Reply::Packet(Packet::new(answer.header, payload)));
 }
 
 /// Gives a segment to the socket, if there is one at this place.

@@ -26,6 +26,7 @@ mod reply;
 pub mod reply_laws;
 mod search;
 mod short;
+mod stream;
 
 pub use arrive::bring;
 pub use carried::read_payload;

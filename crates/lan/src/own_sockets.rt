@@ -102,19 +102,31 @@ fn socket_of(alloc: Global, spec: SocketSpec) -> Result<Socket, End>
     Ok(match spec {
         SocketSpec::Udp(sizes) => {
             let (received, queued) = queues(alloc, sizes)?;
-            udp::Socket::new(received, queued).upcast(alloc)?
+            of_any_kind(alloc, udp::Socket::new(received, queued))?
         }
         SocketSpec::Icmp(sizes) => {
             let (received, queued) = queues(alloc, sizes)?;
-            icmp::Socket::new(received, queued).upcast(alloc)?
+            of_any_kind(alloc, icmp::Socket::new(received, queued))?
         }
         SocketSpec::Raw(version, protocol, sizes) => {
             let (received, queued) = queues(alloc, sizes)?;
             let protocol = protocol.map(IpProtocol::from);
-            raw::Socket::new(version, protocol, received, queued).upcast(alloc)?
+            let socket = raw::Socket::new(version, protocol, received, queued);
+            of_any_kind(alloc, socket)?
         }
-        SocketSpec::Tcp(sizes) => stream(alloc, sizes)?.upcast(alloc)?,
+        SocketSpec::Tcp(sizes) => of_any_kind(alloc, stream(alloc, sizes)?)?,
     })
+}
+
+// The socket as one of any kind.
+fn of_any_kind<K: AnySocket + Drop>(alloc: Global, socket: K) -> Result<Socket, End>
+    ensures made { IfOk result (λ any. any ≡ K.upcast_of socket) }
+    ensures ends { IfErr result (λ end. end ≡ Refusal Memory) }
+{
+    match socket.upcast(alloc) {
+        Ok(any) => Ok(any),
+        Err(_) => Err(End::Refusal(Refused::Memory)),
+    }
 }
 
 // The queue of what is received, and that of what is to be sent.
