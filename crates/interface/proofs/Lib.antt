@@ -29,6 +29,7 @@ pub mod Loopbacks
 pub mod ByKind
 pub mod Sourced
 pub mod Straight
+pub mod Replied
 pub mod AtOnce
 pub mod FreeSlots
 pub mod Chosen

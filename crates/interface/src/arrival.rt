@@ -1,7 +1,9 @@
 //! One step of the way in.
-ghost use Rattle.std.specs.Prelude.{◌≡◌, ◌+◌, ◌<◌, ◌^◌, false, is_some, None, Some};
+ghost use Rattle.std.specs.Prelude.{◌≡◌, ◌&&◌, ◌+◌, ◌<◌, ◌^◌, false, is_some, None, Some};
 ghost use Rattle.interface_ingress.specs.Incoming.{AreMeasured, content_of};
-ghost use Rattle.interface_ingress.specs.Arrives.{IfCanGo, reply_of};
+ghost use Rattle.interface_ingress.specs.Arrives.{Answers, IfCanGo, reply_of};
+ghost use Rattle.interface_ingress.specs.Packet.{packet_value, IsSendable};
+ghost use Rattle.interface_ingress.specs.WellFormed.{IsWellFormed};
 ghost use Rattle.interface.specs.Awaited.{turn_of};
 ghost use Rattle.interface.specs.Host.{sender};
 ghost use Rattle.interface.specs.State.{state, host, KeepsSettings};
@@ -10,12 +12,12 @@ ghost use Rattle.interface.specs.Ingress.{is_read, is_question, Replied, Receive
 use crate::awaited::turn_of;
 use interface_egress::{
     ArpFrame, Fragmenter, InterfaceInner, PacketAssemblerSet, Places, Plan, dispatch_by, plan_for,
-    send,
+    send, send_straight, straight_to,
 };
 use interface_ingress::laws::same_settings;
 use interface_ingress::widths::fields_have_widths;
 use interface_ingress::{
-    Context, Incoming, Reply, Socket, bring, keep, read_into, release, take_in, take_short,
+    Context, Incoming, Packet, Reply, Socket, bring, keep, read_into, release, take_in, take_short,
 };
 use net_base::{Device, Duration, RxToken};
 
@@ -148,7 +150,7 @@ fn receive<D: Device>(
     release(slots, place);
 }
 
-/// Sends an answer, if it can go now. Its next hop is asked for only where no socket waits for a neighbour.
+/// Sends an answer, if it can go now.
 fn answer<D: Device>(
     inner: &mut InterfaceInner,
     fragmenter: &mut Fragmenter,
@@ -169,12 +171,7 @@ fn answer<D: Device>(
             let _ = send(device, token, &ArpFrame { packet: *packet });
         }
         Some(Reply::Packet(packet)) => {
-            fields_have_widths(packet);
-            let plan = plan_for(inner, fragmenter.is_waiting(), &packet.ip_repr());
-            if is_question(&plan) && turn_of(inner, places).is_some() {
-                return;
-            }
-            let _ = dispatch_by(inner, fragmenter, device, token, packet, plan);
+            answer_with(inner, fragmenter, device, token, places, packet);
         }
         None => {}
     }
@@ -200,6 +197,64 @@ fn answer_if_any<D: Device>(
         Some(_) => answer(inner, fragmenter, device, token, places, reply),
         None => {}
     }
+}
+
+/// Sends a packet that answers, if it can go now: straight to a hardware address, as nearly each does, else by its plan.
+fn answer_with<D: Device>(
+    inner: &mut InterfaceInner,
+    fragmenter: &mut Fragmenter,
+    device: &mut D,
+    token: D::TxToken,
+    places: &Places<Socket>,
+    packet: &Packet<'_>,
+)
+    requires room { D.refused device.old + 1 < 2 ^ 64 }
+    requires fits { IsSendable (packet_value packet.now) }
+    ensures replied { Replied D.moves (is_some (turn_of inner.old places.now)) (Some (Answers (packet_value packet.now)))
+        (sender device.old inner.old fragmenter.old) (sender device.new inner.new fragmenter.new) }
+    ensures settings { KeepsSettings inner.old inner.new }
+    ensures capabilities { D.described device.new ≡ D.described device.old }
+{
+    fields_have_widths(packet);
+    match straight_to(inner, &packet.ip_repr(), packet.payload()) {
+        Some(straight) => {
+            let _ = send_straight(inner, device, token, &straight);
+        }
+        None => answer_planned(inner, fragmenter, device, token, places, packet),
+    }
+}
+
+/// Sends a packet that answers by its plan. Its next hop is asked for only where no socket waits for a neighbour. It stands apart, so that
+/// its plan isn't made ready where none is needed.
+#[inline(never)]
+fn answer_planned<D: Device>(
+    inner: &mut InterfaceInner,
+    fragmenter: &mut Fragmenter,
+    device: &mut D,
+    token: D::TxToken,
+    places: &Places<Socket>,
+    packet: &Packet<'_>,
+)
+    requires room { D.refused device.old + 1 < 2 ^ 64 }
+    requires fits { IsSendable (packet_value packet.now) }
+    requires formed { IsWellFormed (packet_value packet.now) }
+    ensures replied { Replied D.moves (is_some (turn_of inner.old places.now)) (Some (Answers (packet_value packet.now)))
+        (sender device.old inner.old fragmenter.old) (sender device.new inner.new fragmenter.new) }
+    ensures settings { KeepsSettings inner.old inner.new }
+    ensures capabilities { D.described device.new ≡ D.described device.old }
+{
+    let plan = plan_for(inner, fragmenter.is_waiting(), &packet.ip_repr());
+    if is_kept_back(inner, places, &plan) {
+        return;
+    }
+    let _ = dispatch_by(inner, fragmenter, device, token, packet, plan);
+}
+
+/// Whether a packet's next hop has to be asked for, and a socket waits for a neighbour, which goes first.
+fn is_kept_back(inner: &InterfaceInner, places: &Places<Socket>, plan: &Plan) -> bool
+    ensures { result ≡ (is_question plan.now && is_some (turn_of inner.now places.now)) }
+{
+    is_question(plan) && turn_of(inner, places).is_some()
 }
 
 /// Whether a packet's next hop has to be asked for.

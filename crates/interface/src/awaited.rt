@@ -9,6 +9,9 @@ use interface_ingress::Socket;
 use ip_wire::IpAddress;
 use net_base::Instant;
 
+/// Up to so many places a look at each of them costs less than to find those that are busy.
+const FEW: usize = 4;
+
 /// A neighbour that a socket waits for.
 #[derive(Clone, Copy, Debug)]
 pub struct Awaited {
@@ -57,8 +60,19 @@ fn first_in_turn(inner: &InterfaceInner, places: &[SocketStorage<Socket>]) -> Op
     )
 }
 
-/// Whether a socket waits for a neighbour, which few do, and none at rest does.
+/// Whether a socket waits for a neighbour, which few do. Each of few places is looked at.
 fn some_wait(places: &Places<Socket>) -> bool
+    ensures { result ≡ list_any is_marked places.now }
+{
+    if places.len() <= FEW {
+        places.as_slice().iter().any(|place| is_marked(place))
+    } else {
+        some_busy_wait(places)
+    }
+}
+
+/// The same of many places. None waits that is at rest.
+fn some_busy_wait(places: &Places<Socket>) -> bool
     ensures { result ≡ list_any is_marked places.now }
 {
     let mut from = 0;

@@ -99,8 +99,20 @@ fn ask(inner: &InterfaceInner, item: &mut Item<Socket>) -> Offer
     item.socket.offer(&Look::towards(inner, &remote))
 }
 
-/// Whether the socket waits for its neighbour. Its mark goes where that is known.
+/// Whether the socket waits for its neighbour. Its mark goes where that is known. Mostly there is none.
 fn waits(inner: &InterfaceInner, meta: &mut Meta) -> bool
+    ensures waits { result ≡ is_waiting inner.now meta.old }
+    ensures after { meta.new ≡ freed meta.old (is_heard inner.now meta.old) }
+{
+    match meta.waiting {
+        Some(_) => waits_marked(inner, meta),
+        None => false,
+    }
+}
+
+/// The same of any mark.
+#[inline(never)]
+fn waits_marked(inner: &InterfaceInner, meta: &mut Meta) -> bool
     ensures waits { result ≡ is_waiting inner.now meta.old }
     ensures after { meta.new ≡ freed meta.old (is_heard inner.now meta.old) }
 {

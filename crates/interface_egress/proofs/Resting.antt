@@ -1,10 +1,10 @@
 -- Places at rest, by the marks that are kept of them.
-use Rattle.std.proofs.Common.{◌≡◌, ◌⊎◌, inl, inr, ℕ, zero, suc, ◌+◌, ◌^◌, ◌<◌, ◌≤◌, max, nat_lt, if◌then◌else◌, Bool, true, false, List, [], ◌∷◌, length, Option, Some, None, refl, sym, subst, arith}
+use Rattle.std.proofs.Common.{◌≡◌, ◌⊎◌, inl, inr, ℕ, zero, suc, ◌+◌, ◌^◌, ◌<◌, ◌≤◌, max, nat_lt, if◌then◌else◌, Bool, true, false, List, [], ◌∷◌, length, Option, Some, None, refl, sym, ap, subst, arith}
 use Rattle.std.proofs.lemmas.Bool.Decides.{leb_tells}
 use Rattle.std.proofs.lemmas.Option.{slice_get_within}
-use Rattle.std.specs.Prelude.{slice_get}
+use Rattle.std.specs.Prelude.{not, slice_get, slice_set}
 use Rattle.agenda.specs.Marks.{IsNext, IsOn}
-use Rattle.interface_egress.specs.AtRest.{AreAtRest, IsNextBusy, first_of, is_at_rest}
+use Rattle.interface_egress.specs.AtRest.{AreAtRest, FewAreAtRest, IsFirstBusy, IsNextBusy, first_of, is_at_rest, is_some_at_rest}
 use Rattle.interface_egress.specs.declared.socket_set.SocketStorage.{SocketStorage}
 
 -- what has a mark and isn't on the agenda is off
@@ -46,3 +46,48 @@ next_fits idle ps from n (Some x) is few fits at same = let here : x ≡ at = cc
 -- nothing lies behind the last place
 pub none_behind : {T : Type 0} (idle : T → Bool) (ps : List (SocketStorage T)) (from : ℕ) → length ps ≤ from → IsNextBusy idle from ps None
 none_behind idle ps from behind = λ i place since got. absurd (omega (arith, behind, since, slice_get_within ps i place got))
+
+-- FEW PLACES
+
+pub busy_of_few : {T : Type 0} (idle : T → Bool) (busy : List Bool) (ps : List (SocketStorage T)) (from : ℕ) (next : Option ℕ)
+    → FewAreAtRest idle busy ps → IsFirstBusy busy from (length ps) next → IsNextBusy idle from ps next
+busy_of_few idle busy ps from (Some at) rests is = (is.0, is.1, λ i place since less got. rests i place (is.2 i since less) got)
+busy_of_few idle busy ps from None rests is = λ i place since got. rests i place (is i since (slice_get_within ps i place got)) got
+
+-- a mark that is set stays where it is, and leaves the others
+set_elsewhere : (marks : List Bool) (at i : ℕ) (b : Bool) → slice_get (slice_set marks at b) i ≡ Some false
+    → ((i ≡ at) × (b ≡ false)) ⊎ (slice_get marks i ≡ Some false)
+set_elsewhere [] at i b is = inr is
+set_elsewhere (x ∷ marks) zero zero b is = inl (refl, cc)
+set_elsewhere (x ∷ marks) zero (suc i) b is = inr is
+set_elsewhere (x ∷ marks) (suc at) zero b is = inr is
+set_elsewhere (x ∷ marks) (suc at) (suc i) b is = by (set_elsewhere marks at i b is) where
+  by : ((i ≡ at) × (b ≡ false)) ⊎ (slice_get marks i ≡ Some false) → ((suc i ≡ suc at) × (b ≡ false)) ⊎ (slice_get marks i ≡ Some false)
+  by (inl here) = inl (ap (λ (n : ℕ). suc n) here.0, here.1)
+  by (inr other) = inr other
+
+is_not : (b : Bool) → not b ≡ false → b ≡ true
+is_not true is = refl
+is_not false is = absurd (cc)
+
+-- a place isn't busy any more if it is at rest
+pub few_with : {T : Type 0} (idle : T → Bool) (busy : List Bool) (ps : List (SocketStorage T)) (at : ℕ) → FewAreAtRest idle busy ps
+    → FewAreAtRest idle (slice_set busy at (not (is_some_at_rest idle (slice_get ps at)))) ps
+few_with {T} idle busy ps at rests i place is got = by (set_elsewhere busy at i (not (is_some_at_rest idle (slice_get ps at))) is) where
+  by : ((i ≡ at) × (not (is_some_at_rest idle (slice_get ps at)) ≡ false)) ⊎ (slice_get busy i ≡ Some false) → is_at_rest idle place ≡ true
+  by (inl here) =
+      let there : is_some_at_rest idle (slice_get ps at) ≡ true = is_not (is_some_at_rest idle (slice_get ps at)) here.1 in
+      let same : slice_get ps at ≡ Some place = subst (λ (n : ℕ). slice_get ps n ≡ Some place) here.0 got in
+      subst (λ (o : Option (SocketStorage T)). is_some_at_rest idle o ≡ true) same there
+  by (inr other) = rests i place other got
+
+-- where all are busy none has to be at rest
+none_off : (i : ℕ) → slice_get (true ∷ true ∷ true ∷ true ∷ []) i ≡ Some false → ⊥
+none_off zero is = absurd (cc)
+none_off (suc zero) is = absurd (cc)
+none_off (suc (suc zero)) is = absurd (cc)
+none_off (suc (suc (suc zero))) is = absurd (cc)
+none_off (suc (suc (suc (suc i)))) is = absurd (cc)
+
+pub few_busy : {T : Type 0} (idle : T → Bool) (ps : List (SocketStorage T)) → FewAreAtRest idle (true ∷ true ∷ true ∷ true ∷ []) ps
+few_busy idle ps = λ i place is got. absurd (none_off i is)

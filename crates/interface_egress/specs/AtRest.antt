@@ -23,11 +23,21 @@ module _ {T : Type 0} (idle : T → Bool) where
       ((i : ℕ) (place : SocketStorage T) → slice_get marks i ≡ Some false → slice_get ps i ≡ Some place → is_at_rest place ≡ true)
       × (length marks ≤ length ps)
 
+  -- each of the first places that isn't busy is at rest
+  abbrev pub FewAreAtRest : List Bool → List (SocketStorage T) → Type 0
+  FewAreAtRest busy ps =
+      (i : ℕ) (place : SocketStorage T) → slice_get busy i ≡ Some false → slice_get ps i ≡ Some place → is_at_rest place ≡ true
+
   -- The next place from this one on that isn't known to be at rest, or none: those before it are at rest.
   abbrev pub IsNextBusy : ℕ → List (SocketStorage T) → Option ℕ → Type 0
   IsNextBusy from ps (Some at) =
       (from ≤ at) × (at < length ps) × ((i : ℕ) (place : SocketStorage T) → from ≤ i → i < at → slice_get ps i ≡ Some place → is_at_rest place ≡ true)
   IsNextBusy from ps None = (i : ℕ) (place : SocketStorage T) → from ≤ i → slice_get ps i ≡ Some place → is_at_rest place ≡ true
+
+-- of so many places the first one that is busy, from this one on, or none
+abbrev pub IsFirstBusy : List Bool → ℕ → ℕ → Option ℕ → Type 0
+IsFirstBusy busy from places (Some at) = (from ≤ at) × (at < places) × ((i : ℕ) → from ≤ i → i < at → slice_get busy i ≡ Some false)
+IsFirstBusy busy from places None = (i : ℕ) → from ≤ i → i < places → slice_get busy i ≡ Some false
 
 -- the first place that is on the agenda, or else that has no mark, if there is one
 abbrev pub first_of : Option ℕ → ℕ → ℕ → ℕ → Option ℕ

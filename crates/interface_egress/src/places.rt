@@ -1,8 +1,8 @@
 //! The places of a set, which of them have something to do, and which of them what arrives is for.
-ghost use Rattle.std.specs.Prelude.{◌≡◌, ◌⊎◌, ◌+◌, ◌<◌, ◌^◌, ◌++◌, ◌∷◌, [], true, length, position, slice_set, slice_get, Some, MatchResult};
+ghost use Rattle.std.specs.Prelude.{◌≡◌, ◌⊎◌, ◌+◌, ◌<◌, ◌≤◌, ◌^◌, ◌++◌, ◌∷◌, [], true, length, position, slice_set, slice_get, Some, MatchResult};
 ghost use Rattle.std.specs.Option.{ForSome};
 ghost use Rattle.std.specs.Borrow.{Array, Lends, sem};
-ghost use Rattle.interface_egress.specs.AtRest.{IsNextBusy, first_of, is_some_at_rest, with_first};
+ghost use Rattle.interface_egress.specs.AtRest.{IsFirstBusy, IsNextBusy, first_of, is_some_at_rest, with_first};
 ghost use Rattle.interface_egress.specs.Filed.{has, key_in};
 ghost use Rattle.interface_egress.specs.contracts.places.Places.{the_row};
 ghost use Rattle.interface_egress.specs.contracts.socket_set.SocketStorage.{the_row as storage_row};
@@ -13,15 +13,16 @@ use agenda::{Agenda, Idle, Index};
 use std::alloc::Global;
 use std::marker::Model;
 
-/// Up to so many places a look at each of them costs less than keys do, and none is filed.
+/// Up to so many places a look at each of them costs less than keys and an agenda do: none is filed, and each has a mark of its own.
 const FEW: usize = 4;
 
 /// The places of a set, each with a socket or free. Who is off the agenda is at rest: its socket has nothing to do until it is called or
 /// something arrives for it, and waits for no neighbour. Who isn't loose is filed under its socket's key. A place that is lent is on the agenda
-/// and loose, and stays so until `let_rest`.
+/// and loose, and stays so until `let_rest`. Of few places those that aren't busy are at rest, and the agenda stays empty.
 #[derive(Debug, Drop)]
 pub struct Places<T: Idle> {
     storage: Vec<SocketStorage<T>>,
+    busy: [bool; FEW],
     agenda: Agenda,
     loose: Agenda,
     index: Index,
@@ -30,24 +31,27 @@ pub struct Places<T: Idle> {
 impl<T: Idle> Model for Places<T> {
     ghost use Rattle.std.specs.Prelude.{List};
     ghost use Rattle.interface_egress.specs.declared.socket_set.SocketStorage.{SocketStorage};
-    ghost use Rattle.interface_egress.specs.AtRest.{AreAtRest};
+    ghost use Rattle.interface_egress.specs.AtRest.{AreAtRest, FewAreAtRest};
     ghost use Rattle.interface_egress.specs.Filed.{AreFiled};
 
     ghost Value = { List (SocketStorage T) };
 
     ghost view = { λ p. p.storage.items };
 
-    ghost invariant = { λ p. AreAtRest T.idle p.agenda p.storage.items × AreFiled T.key p.loose p.index p.storage.items };
+    ghost invariant = { λ p. AreAtRest T.idle p.agenda p.storage.items × AreFiled T.key p.loose p.index p.storage.items
+        × FewAreAtRest T.idle p.busy p.storage.items };
 }
 
 impl<T: Drop + Idle> Places<T> {
     /// The places of this storage, all on the agenda and loose.
+    #[tactic(auto, using(crate::proofs::Resting::few_busy))]
     pub fn of(storage: Vec<SocketStorage<T>>) -> Places<T>
         ensures { result ≡ storage.items }
     {
         let alloc = *storage.allocator();
         Places {
             storage,
+            busy: all_busy(),
             agenda: Agenda::new(alloc),
             loose: Agenda::new(alloc),
             index: Index::new(alloc),
@@ -66,10 +70,7 @@ impl<T: Drop + Idle> Places<T> {
         if self.storage.reserve(1).is_err() {
             return Err(item);
         }
-        if self.storage.len() == FEW {
-            // each has a turn once more, behind which it is filed
-            self.agenda.clear();
-        }
+        mark(&mut self.busy, self.storage.len(), true);
         match self.storage.push(SocketStorage { inner: Some(item) }) {
             Ok(()) => Ok(()),
             Err(_) => unreachable!(),
@@ -106,16 +107,19 @@ impl<T: Idle> Places<T> {
         ensures* lends { sem 𝓛 (Lends (the_row T.row T.Idle) (storage_row T.row) self.entry result (λ w. slice_set self.old at w)) }
         ensures value { slice_get self.old at ≡ Some result.now }
     {
+        mark(&mut self.busy, at, true);
         self.agenda.put_on(at);
         self.loose.put_on(at);
         &mut self.storage[at]
     }
 
     /// Lends all places, which are on the agenda and loose from now on.
+    #[tactic(auto, using(crate::proofs::Resting::few_busy))]
     pub fn all_mut(&mut self) -> &mut [SocketStorage<T>]
         ensures* lends { sem 𝓛 (Lends (the_row T.row T.Idle) (Array (storage_row T.row) 0) self.entry result (with_first self.old)) }
         ensures value { result.now ≡ self.old }
     {
+        self.busy = all_busy();
         self.agenda.clear();
         self.loose.clear();
         self.storage.as_mut_slice()
@@ -127,6 +131,9 @@ impl<T: Idle> Places<T> {
         ensures next { IsNextBusy T.idle from self.now result }
         ensures fits { ForSome result (λ at. at + 1 < 2 ^ 64) }
     {
+        if self.storage.len() <= FEW {
+            return self.next_of_few(from);
+        }
         if from < self.storage.len() {
             self.next_from(from)
         } else {
@@ -145,6 +152,16 @@ impl<T: Idle> Places<T> {
             self.agenda.len(),
             self.storage.len(),
         )
+    }
+
+    /// The same of few places.
+    #[tactic(auto, using(crate::proofs::Resting::busy_of_few))]
+    fn next_of_few(&self, from: usize) -> Option<usize>
+        requires { length self.now ≤ 4 }
+        ensures next { IsNextBusy T.idle from self.now result }
+        ensures fits { ForSome result (λ at. at + 1 < 2 ^ 64) }
+    {
+        first_busy(&self.busy, from, self.storage.len())
     }
 
     /// The first place whose socket is wanted, where each such socket has one of these keys. Among more places than four, sockets that are
@@ -177,7 +194,17 @@ impl<T: Idle> Places<T> {
     pub fn file(&mut self, at: usize)
         ensures { self.new ≡ self.old }
     {
-        if self.storage.len() <= FEW || at >= self.storage.len() {
+        if self.storage.len() > FEW {
+            self.file_one(at);
+        }
+    }
+
+    /// The same of one among many.
+    #[inline(never)]
+    fn file_one(&mut self, at: usize)
+        ensures { self.new ≡ self.old }
+    {
+        if at >= self.storage.len() {
             return;
         }
         if self.index.note(at, key_in(&self.storage[at])) {
@@ -189,7 +216,28 @@ impl<T: Idle> Places<T> {
     pub fn let_rest(&mut self, at: usize)
         ensures { self.new ≡ self.old }
     {
-        self.file(at);
+        if self.storage.len() > FEW {
+            self.let_one_rest(at);
+        } else {
+            self.let_few_rest(at);
+        }
+    }
+
+    /// The same of one of few: it isn't busy any more if it is at rest.
+    #[tactic(auto, using(crate::proofs::Resting::few_with))]
+    fn let_few_rest(&mut self, at: usize)
+        ensures { self.new ≡ self.old }
+    {
+        let rests = is_at_rest(self.storage.as_slice(), at);
+        mark(&mut self.busy, at, !rests);
+    }
+
+    /// The same of one among many.
+    #[inline(never)]
+    fn let_one_rest(&mut self, at: usize)
+        ensures { self.new ≡ self.old }
+    {
+        self.file_one(at);
         if at == self.agenda.len() && at < self.storage.len() && self.agenda.push().is_err() {
             return;
         }
@@ -226,6 +274,37 @@ pub(crate) fn first_of(
         None if from.max(marks) < places => Some(from.max(marks)),
         None => None,
     }
+}
+
+/// Few places, all of them busy.
+fn all_busy() -> [bool; FEW]
+    ensures { result ≡ true ∷ true ∷ true ∷ true ∷ [] }
+{
+    [true; FEW]
+}
+
+/// Says of one of few places whether it is busy. Of another one nothing is said.
+fn mark(busy: &mut [bool; FEW], at: usize, is_busy: bool)
+    ensures { busy.new ≡ slice_set busy.old at is_busy }
+{
+    if at < FEW {
+        busy[at] = is_busy;
+    }
+}
+
+/// The first busy place from this one on, if there is one.
+fn first_busy(busy: &[bool; FEW], from: usize, places: usize) -> Option<usize>
+    requires { places ≤ 4 }
+    ensures { IsFirstBusy busy.now from places result }
+{
+    let mut at = from;
+    while at < places {
+        if busy[at] {
+            return Some(at);
+        }
+        at += 1;
+    }
+    None
 }
 
 /// The key of the socket at a place. A free one has any.

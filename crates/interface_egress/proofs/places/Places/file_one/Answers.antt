@@ -4,10 +4,10 @@ use Rattle.std.specs.Prelude.{slice_get}
 use Rattle.agenda.specs.Put.{put}
 use Rattle.interface_egress.specs.Filed.{AreFiled, key_in}
 use Rattle.interface_egress.proofs.Filing.{filed_again}
-use Rattle.interface_egress.proofs.places.Places.file.Goals as goal
+use Rattle.interface_egress.proofs.places.Places.file_one.Goals as goal
 
 pub invariant_of-self : goal.invariant_of-self
-invariant_of-self g c = (c.self.invariant.0, rw noted filed) where
+invariant_of-self g c = (c.self.invariant.0, rw noted filed, c.self.invariant.2) where
   noted : c.note.new.self ≡ put c.args.at (key_in g.T.Idle.key c.index.result.now) c.self.inside.index
   noted = c.if-note.ensures.value ∙ ap (λ (k : ℕ). put c.args.at k c.self.inside.index) c.key_in.ensures
 

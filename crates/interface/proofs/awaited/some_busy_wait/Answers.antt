@@ -1,7 +1,7 @@
 use Rattle.std.proofs.Common.{arith, ◌+◌, ◌<◌, ◌^◌, sym, ◌∙◌}
 use Rattle.interface.specs.Awaited.{is_marked}
 use Rattle.interface.proofs.AtRest.{any_some, none_at_all, none_before}
-use Rattle.interface.proofs.awaited.some_wait.Goals as goal
+use Rattle.interface.proofs.awaited.some_busy_wait.Goals as goal
 
 pub returns-then-is_marked : goal.returns-then-is_marked
 returns-then-is_marked c = sym (any_some is_marked c.args.places.now c.in-Some.at c.place.result.now c.place.ensures (sym c.is_marked.ensures ∙ c.if-is_marked.true))

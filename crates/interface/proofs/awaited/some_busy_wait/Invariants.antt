@@ -3,7 +3,7 @@ use Rattle.std.specs.Prelude.{slice_get}
 use Rattle.interface_egress.specs.declared.socket_set.SocketStorage.{SocketStorage}
 use Rattle.interface_ingress.specs.Socket.{Socket}
 use Rattle.interface.specs.Awaited.{is_marked}
-use Rattle.interface.proofs.awaited.some_wait.Given as goal
+use Rattle.interface.proofs.awaited.some_busy_wait.Given as goal
 
 -- none of those before waits
 abbrev pub invariant-loop-at : goal.invariant-loop-at
