@@ -21,7 +21,7 @@ use icmpv6::Icmpv6Repr;
 use interface_egress::{InterfaceInner, Places, SocketStorage};
 use ip_wire::{IpRepr, Ipv4Repr, Ipv6Repr, TcpControl, TcpHeader, TcpRepr, UdpRepr};
 use net_base::PacketMeta;
-use sockets::{IpPayload, Packet, Socket, keys};
+use sockets::{IpPayload, Packet, Socket, keys, tcp};
 
 /// A packet, as raw sockets get it.
 #[derive(Drop)]
