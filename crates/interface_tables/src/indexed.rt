@@ -1,4 +1,4 @@
-//! Entries of a cache by their addresses, found by a key and not by a look at all.
+//! Entries of a cache by their addresses: among more than a few, they are found by a key and not by a look at all.
 ghost use Rattle.std.specs.Prelude.{◌≡◌, ◌≤◌, ◌<◌, length, IfOk};
 ghost use Rattle.std.specs.Option.{ForSome};
 ghost use Rattle.interface_tables.specs.Neighbor as Neighbors;
@@ -23,8 +23,34 @@ pub fn index_for(alloc: Global, count: usize) -> Result<Index, AllocError>
     Ok(keys)
 }
 
+/// Up to so many entries a look at each of them costs less than a key does.
+const FEW: usize = 4;
+
 /// Where the entry of this address stands.
 pub fn place_in(entries: &[Neighbor], keys: &Index, address: &IpAddress) -> Option<usize>
+    requires { AreIndexed entries.now keys.now }
+    ensures place { result ≡ Neighbors.place_of entries.now address.now }
+    ensures in_range { ForSome result (λ at. at < length entries.now) }
+{
+    if entries.len() <= FEW {
+        place_of(entries, address)
+    } else {
+        place_by_key(entries, keys, address)
+    }
+}
+
+/// The same by a look at each.
+fn place_of(entries: &[Neighbor], address: &IpAddress) -> Option<usize>
+    ensures place { result ≡ Neighbors.place_of entries.now address.now }
+    ensures in_range { ForSome result (λ at. at < length entries.now) }
+{
+    entries
+        .iter()
+        .position(|entry| is_same_address(&entry.protocol_addr, address))
+}
+
+/// The same by the key of the address.
+fn place_by_key(entries: &[Neighbor], keys: &Index, address: &IpAddress) -> Option<usize>
     requires { AreIndexed entries.now keys.now }
     ensures place { result ≡ Neighbors.place_of entries.now address.now }
     ensures in_range { ForSome result (λ at. at < length entries.now) }

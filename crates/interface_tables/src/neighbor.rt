@@ -5,7 +5,7 @@ ghost use Rattle.net_base.specs.Time.{IsMoment};
 ghost use Rattle.ip_wire.specs.AddressTests.{is_same_hardware};
 ghost use Rattle.interface_tables.specs.Neighbor.{fresh, lookup, filled, filled_at, renewed, renewed_entry, silenced, requested, searched_at, one_more, first_search};
 ghost use Rattle.interface_tables.specs.Neighbor.{count_after, search_place, search_of, oldest_search, ended, is_failed, has_failed_by, has_failed};
-ghost use Rattle.interface_tables.specs.Neighbor.{last_request, flushed, is_found, victim, search_room, entry_lifetime, silent_time, cache_room};
+ghost use Rattle.interface_tables.specs.Neighbor.{last_request, flushed, is_found, is_known_by, victim, search_room, entry_lifetime, silent_time, cache_room};
 
 use crate::indexed::{index_for, index_from, place_in};
 use agenda::Index;
@@ -38,18 +38,15 @@ pub struct Neighbor {
 }
 
 impl Neighbor {
-    /// The entry, believed for its lifetime from this moment on where it has this hardware address.
-    fn renewed(self, hardware_addr: &HardwareAddress, timestamp: Instant) -> Neighbor
+    /// Believes the entry for its lifetime from this moment on, where it has this hardware address.
+    fn renew(&mut self, hardware_addr: &HardwareAddress, timestamp: Instant)
         requires { IsMoment timestamp }
-        ensures { result ≡ renewed_entry self hardware_addr.now timestamp }
+        ensures { self.new ≡ renewed_entry self.old hardware_addr.now timestamp }
     {
         if !is_same_hardware(&self.hardware_addr, hardware_addr) {
-            return self;
+            return;
         }
-        Neighbor {
-            expires_at: timestamp + Duration::from_millis(LIFETIME_MILLIS),
-            ..self
-        }
+        self.expires_at = timestamp + Duration::from_millis(LIFETIME_MILLIS);
     }
 }
 
@@ -154,7 +151,7 @@ impl Answer {
 }
 
 /// The hardware addresses of a number of neighbours, those that are asked for, and when the next may be. Its memory is taken when it is
-/// made. A neighbour is found by a key of its address, without a look at the others.
+/// made. Among more than a few a neighbour is found by a key of its address, without a look at the others.
 #[derive(Debug, Drop)]
 pub struct Cache {
     storage: Vec<Neighbor>,
@@ -211,7 +208,7 @@ impl Cache {
         ensures { result ≡ lookup self.now protocol_addr.now timestamp }
     {
         if let Some(at) = place_in(self.storage.as_slice(), &self.places, protocol_addr) {
-            let neighbor = self.storage[at];
+            let neighbor = &self.storage[at];
             if timestamp < neighbor.expires_at {
                 return Answer::Found(neighbor.hardware_addr);
             }
@@ -331,10 +328,9 @@ impl Cache {
         ensures { self.new ≡ renewed self.old protocol_addr source_hardware_addr timestamp }
     {
         if let Some(at) = place_in(self.storage.as_slice(), &self.places, &protocol_addr) {
-            let entry = entry_at(self.storage.as_slice(), at);
-            let known = is_same_hardware(&entry.hardware_addr, &source_hardware_addr);
+            let known = is_known_at(self.storage.as_slice(), at, &source_hardware_addr);
             self.end_search_if(known, &protocol_addr);
-            self.storage[at] = entry.renewed(&source_hardware_addr, timestamp);
+            self.storage[at].renew(&source_hardware_addr, timestamp);
         }
     }
 
@@ -392,11 +388,12 @@ impl Cache {
     }
 }
 
-fn entry_at(entries: &[Neighbor], at: usize) -> Neighbor
+/// Whether the entry at a place has this hardware address.
+fn is_known_at(entries: &[Neighbor], at: usize, hardware_addr: &HardwareAddress) -> bool
     requires { at < length entries.now }
-    ensures { slice_get entries.now at ≡ Some result }
+    ensures { result ≡ is_known_by (slice_get entries.now at) hardware_addr.now }
 {
-    entries[at]
+    is_same_hardware(&entries[at].hardware_addr, hardware_addr)
 }
 
 fn search_at(searches: &[Search], at: usize) -> Search

@@ -1,7 +1,7 @@
 use Rattle.std.proofs.Common.{ℕ, subst}
 use Rattle.agenda.specs.Keys.{IsNextWith}
 use Rattle.interface_tables.proofs.Places.{sought_first, found_here, past_here, ended_here, sought_on, in_range_here, less_to_go}
-use Rattle.interface_tables.proofs.indexed.place_in.Goals as goal
+use Rattle.interface_tables.proofs.indexed.place_by_key.Goals as goal
 
 pub loop-link-init : goal.loop-link-init
 loop-link-init c =

@@ -1,6 +1,6 @@
 use Rattle.std.proofs.Common.{length}
 use Rattle.interface_tables.proofs.Places.{IsSought, left_to_go}
-use Rattle.interface_tables.proofs.indexed.place_in.Given as goal
+use Rattle.interface_tables.proofs.indexed.place_by_key.Given as goal
 
 abbrev pub invariant-loop-link : goal.invariant-loop-link
 invariant-loop-link l = IsSought l.entries l.keys l.address l.link
