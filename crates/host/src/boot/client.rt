@@ -8,7 +8,7 @@ use crate::boot::pings::IDENT;
 use crate::boot::plan::Plan;
 use crate::boot::steps::act;
 use anyhow::{Result, anyhow};
-use interface::{Config, Interface, SocketHandle, SocketSet, earlier};
+use interface::{Config, Interface, SocketHandle, SocketSet, SocketsByKind, earlier};
 use ip_wire::{EthernetAddress, HardwareAddress};
 use net_base::{ChecksumCapabilities, DeviceCapabilities, Instant, ManagedSlice, Medium};
 use sockets::{AnySocket, Socket, dhcp, dns};
