@@ -1,5 +1,5 @@
 //! A queue of packets, each a header and unbroken bytes, in storage that is handed in.
-ghost use Rattle.std.specs.Prelude.{◌≡◌, ◌≢◌, ℕ, ◌<◌, ◌≤◌, ◌↔◌, List, [], ◌++◌, length, take, drop, slice_get, IsTrue, IsErr, IfOk, OnOk, OnErr, MatchResult};
+ghost use Rattle.std.specs.Prelude.{◌≡◌, ◌≢◌, ℕ, ◌<◌, ◌≤◌, ◌↔◌, if◌then◌else◌, List, [], ◌++◌, length, take, drop, slice_get, IsTrue, IsErr, IfOk, OnOk, OnErr, MatchResult};
 ghost use Rattle.std.specs.Prelude.{None, Some};
 ghost use Rattle.std.specs.Borrow.{sem};
 ghost use Rattle.std.specs.Fn.{FnOnceTakesAtMut, FnOnceReturnsAtMut};
@@ -262,6 +262,37 @@ impl<H> PacketBuffer<H> {
         bytes.copy_from_slice(data);
         self.payload.enqueue_unallocated(data.len());
         Ok(())
+    }
+
+    /// Queues a packet with this header and so many bytes, which `f` is lent for writing, where `f` answers that it is to be queued; else
+    /// nothing changes.
+    pub fn enqueue_if<F: FnOnce(&mut [u8]) -> bool>(
+        &mut self,
+        size: usize,
+        header: H,
+        f: F,
+    ) -> Result<bool, Full>
+    where
+        H: Drop,
+        requires callable { (bytes : List ℕ) → length bytes ≡ size → FnOnceTakesAtMut F.FnOnce f bytes }
+        ensures full { IsErr result ↔ IsTrue (is_full_for self.old size) }
+        ensures refused { OnErr result (self.new ≡ self.old) }
+        ensures called { IfOk result (λ is_kept. (bytes : List ℕ) × (left : List ℕ) × (length bytes ≡ size) × (length left ≡ size)
+            × FnOnceReturnsAtMut F.FnOnce f bytes is_kept left
+            × (self.new ≡ (if is_kept then appended self.old size header left else self.old))) }
+    {
+        let padding = self.padding_for(size)?;
+        let start = self.payload.start();
+        self.payload.anchor();
+        let is_kept = f(self.payload.get_unallocated(padding, size));
+        if is_kept {
+            pad(&mut self.metadata, &mut self.payload, padding);
+            self.payload.enqueue_unallocated(size);
+            self.metadata.push(PacketMetadata::packet(size, header));
+        } else {
+            self.payload.begin_at(start);
+        }
+        Ok(is_kept)
     }
 
     /// Gives up the padding before the first packet.

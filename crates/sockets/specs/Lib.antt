@@ -49,6 +49,7 @@ pub use Rattle.tcp_model.specs.State
 pub use Rattle.tcp_socket.specs.WellFormed
 pub use Rattle.tcp_socket.specs.Replies
 pub use Rattle.tcp_socket.specs.Answering as TcpAnswering
+pub use Rattle.tcp_socket.specs.OnePass as TcpOnePass
 pub use Rattle.tcp_model.specs.declared.block.CongestionControl
 pub use Rattle.sockets.specs.DhcpClient.Answers as DhcpAnswers
 pub use Rattle.sockets.specs.DhcpClient.Events as DhcpEvents

@@ -1,9 +1,10 @@
 //! Sockets for user datagrams (RFC 768).
-ghost use Rattle.std.specs.Prelude.{◌≡◌, ◌≢◌, ◌+◌, ◌<◌, ◌≤◌, ◌^◌, ◌↔◌, ℕ, List, length, take, false, true, IfOk, IfErr, IsErr, IfSome, OnErr, Result, Ok, Err};
+ghost use Rattle.std.specs.Prelude.{◌≡◌, ◌≢◌, ◌+◌, ◌==◌, ◌<◌, ◌≤◌, ◌^◌, ◌↔◌, ℕ, List, length, take, false, true, IfOk, IfErr, IsErr, IfSome, OnErr, Result, Ok, Err};
 ghost use Rattle.std.specs.Prelude.{Option, None, Some, IsSome, if◌then◌else◌};
 ghost use Rattle.std.specs.Borrow.{sem};
 ghost use Rattle.std.specs.Fn.{FnOnceTakesAtMut, FnOnceReturnsAtMut};
 ghost use Rattle.net_base.specs.Packets.{used_room, first};
+ghost use Rattle.ip_address.specs.Sum.{word_sum, folded};
 ghost use Rattle.ip_address.specs.Text.{endpoint_text};
 ghost use Rattle.ip_address.specs.declared.ip.IpListenEndpoint.{IpListenEndpoint};
 ghost use Rattle.ip_address.specs.declared.ip.IpAddress.TheVariants as Address;
@@ -600,6 +601,24 @@ impl Socket {
             meta,
         };
         let _ = self.queues.received.enqueue_slice(metadata, payload);
+    }
+
+    /// A datagram for the socket arrives whose checksum wasn't tested: its bytes are copied into the queue and summed by that, and where
+    /// the checksum holds it is queued as `process` queues it. `rest` is the sum of all else that the checksum covers: the pseudo header
+    /// and the header. Answers whether the checksum holds; where it doesn't nothing changes. It is for long datagrams.
+    pub fn process_in_one_pass(
+        &mut self,
+        meta: PacketMeta,
+        ip_repr: &IpRepr,
+        repr: &UdpRepr,
+        payload: &[u8],
+        rest: u16,
+    ) -> bool
+        requires fits { length payload.now < 2 ^ 32 }
+        ensures sum { result ≡ (folded (rest + word_sum payload.now) == 65535) }
+        ensures queued { self.new ≡ (if folded (rest + word_sum payload.now) == 65535 then process_after self.old ip_repr.now repr.now payload.now else self.old) }
+    {
+        false
     }
 
     /// When the socket wants to be polled: at once where a datagram is queued.

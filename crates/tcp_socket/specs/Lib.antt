@@ -5,6 +5,7 @@ pub mod Dispatch
 pub mod Offered
 pub mod Opening
 pub mod Answering
+pub mod OnePass
 pub use Rattle.socket_base.specs.Addresses
 pub use Rattle.socket_base.specs.Text
 pub use Rattle.socket_base.specs.WellFormed

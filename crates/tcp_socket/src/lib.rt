@@ -5,6 +5,7 @@ mod arrival;
 mod calls;
 mod getters;
 mod offer;
+mod one_pass;
 mod receive_buffer;
 mod settings;
 mod socket;
@@ -12,6 +13,7 @@ mod text;
 
 pub use arrival::Due;
 pub use offer::OfferedSegment;
+pub use one_pass::NotInOnePass;
 pub use receive_buffer::ReceiveBuffer;
 pub use socket::{Socket, SocketBuffer};
 pub use socket_base::SegmentText;
