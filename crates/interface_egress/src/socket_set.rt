@@ -64,7 +64,7 @@ impl<T> SocketStorage<T> {
 pub enum AddError<T> {
     /// Each place of the fixed storage has a socket.
     Full(T),
-    /// The storage couldn't grow.
+    /// There was no memory: the storage couldn't grow, or, where the set makes a room of its own for the socket, there was none for that.
     Memory(T),
 }
 
