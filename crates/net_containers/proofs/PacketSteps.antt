@@ -8,13 +8,13 @@ use Rattle.std.proofs.lemmas.List.{length-take-le, take_at, drop_at, take_all, d
 use Rattle.std.proofs.Math.Nat.{mod-add-mod, mod-le, mod-eq_of_lt, mod_self, zero-mod, add-zero}
 use Rattle.std.proofs.Math.Dec.{eqb-suc-zero}
 use Rattle.net_containers.specs.Ring.{Ring, ring, ring_in, capacity, until_end, contiguous, anchored, extended, released, rewritten, overwritten, enqueued}
-use Rattle.net_containers.specs.Ring.{laid_from, unbroken_free, unbroken_queued, storage_of, place_of, rotated, laid_over}
+use Rattle.net_containers.specs.Ring.{laid_from, unbroken_free, unbroken_queued, storage_of, place_of, rotated, laid_over, begun_at, IsPlaced}
 use Rattle.net_containers.specs.Packets.{QueuedPacket, Packets, packet, packets_in, used_places, used_room, window, start_of, unbroken, padding_for}
 use Rattle.net_containers.specs.Packets.{is_full_for, appended, unpadded, first, first_by, without_first, with_first}
 use Rattle.net_containers.specs.Entries.{entry, padded, padding_first, packets_of, BeginsWithPacket, AreLaid, size_of, AreEntries, packets_seen}
 use Rattle.net_containers.specs.declared.packet_buffer.PacketMetadata.{PacketMetadata}
 use Rattle.net_containers.proofs.Rotations.{length-rotated, length-laid_over}
-use Rattle.net_containers.proofs.RingSteps.{anchored-cases, length-anchored}
+use Rattle.net_containers.proofs.RingSteps.{anchored-cases, length-anchored, length-overwritten}
 use Rattle.net_containers.proofs.PacketQueues.{used_places-packets_of, used_room-packets_of, size_of-append, AreLaid-append, AreLaid-from_zero}
 use Rattle.net_containers.proofs.PacketQueues.{packets_of-append, entries_for, AreLaid-entries_for, size_of-entries_for, packets_of-entries_for}
 
@@ -103,6 +103,71 @@ module _ {X : Type 0} where
         ap (λ xs. r.queue ++ xs) (take-append-le count left (drop (0 + length left) r.free) fits),
         omega (arith, length-append r.queue (take count all), length-take-le count all (omega (arith, n, fits, room)), length-drop count all, n),
       )
+
+  -- the ring behind whose padding elements were written and queued
+  abbrev pub behind : Ring X → ℕ → List X → Ring X
+  behind r padding left = ring ((r.queue ++ take padding r.free) ++ left) (drop (padding + length left) r.free) r.start
+
+  behind_written : (r : Ring X) (left : List X) (padding : ℕ) → padding + length left ≤ length r.free →
+      extended (extended (overwritten r padding left) padding) (length left) ≡ behind r padding left
+  behind_written r left padding fits =
+      let head = take padding r.free in
+      let tail = drop (padding + length left) r.free in
+      let n : length head ≡ padding = length-take-le padding r.free (omega arith) in
+      rw (
+        take_at head (left ++ tail) padding n,
+        drop_at head (left ++ tail) padding n,
+        take_at left tail (length left) refl,
+        drop_at left tail (length left) refl,
+      ) refl
+
+  -- what is written to its free elements leaves an anchored ring anchored
+  anchored-written : (r : Ring X) (left : List X) (padding : ℕ) →
+      anchored (overwritten (anchored r) padding left) ≡ overwritten (anchored r) padding left
+  anchored-written r left padding =
+      anchored-settled (overwritten (anchored r) padding left) (λ e. anchored-start r (sym (ap length (anchored-queue_same r)) ∙ e))
+
+  pub length-anchored_written : (r : Ring X) (left : List X) (padding : ℕ) → padding + length left ≤ length (anchored r).free →
+      length (anchored (overwritten (anchored r) padding left)).free ≡ length (anchored r).free
+  length-anchored_written r left padding fits =
+      ap (λ s. length s.free) (anchored-written r left padding) ∙ length-overwritten (anchored r) padding left fits
+
+  -- elements written behind the padding, before this and they are queued
+  pub behind_anchored : (r : Ring X) (left : List X) (padding size : ℕ) → padding + length left ≤ length (anchored r).free → length left ≡ size →
+      extended (extended (anchored (overwritten (anchored r) padding left)) padding) size ≡ behind (anchored r) padding left
+  behind_anchored r left padding size fits long =
+      ap (λ s. extended (extended s padding) size) (anchored-written r left padding)
+      ∙ ap (λ n. extended (extended (overwritten (anchored r) padding left) padding) n) (sym long)
+      ∙ behind_written (anchored r) left padding fits
+
+  -- an anchored ring that begins where it began before
+  begun-again : (r w : Ring X) → IsPlaced r → w.queue ≡ r.queue → w.start ≡ (anchored r).start → capacity w ≡ capacity r → begun_at w r.start ≡ r.start
+  begun-again r w p q s c = elim (eqb_tells (length w.queue) 0) [
+    | inl none ↦ elim (leb_tells (suc r.start) (capacity w)) [
+      | inl less ↦ rw (none.0, less.0) refl
+      | inr past ↦ let z : r.start ≡ 0 =
+          elim (cases_lt 0 (capacity r)) [ inl some ↦ absurd (omega (arith, p.1 some, past.1, c)) | inr none ↦ omega (arith, p.0) ] in
+          rw (none.0, past.0) (s ∙ anchored-start r (sym (ap length q) ∙ none.1) ∙ sym z)
+    ]
+    | inr some ↦ rw some.0 (s ∙ elim (anchored-cases r) [
+      | inl none ↦ absurd (some.1 (ap length q ∙ ap length none.0))
+      | inr same ↦ ap (λ t. t.start) same
+    ])
+  ]
+
+  -- the same elements queued from the same place on
+  pub record IsRestored (r s : Ring X) : Type 0 where
+    pub queue : s.queue ≡ r.queue
+    pub start : s.start ≡ r.start
+    pub room : capacity s ≡ capacity r
+
+  pub restored : (r w s : Ring X) (left : List X) (padding : ℕ) → IsPlaced r → padding + length left ≤ length (anchored r).free →
+      w ≡ overwritten (anchored r) padding left → s.queue ≡ w.queue → capacity s ≡ capacity w → s.start ≡ begun_at w r.start → IsRestored r s
+  restored r w s left padding p fits is queue room start =
+      let same = length-anchored r p in
+      let q : w.queue ≡ r.queue = ap (λ t. t.queue) is ∙ anchored-queue_same r in
+      let c : capacity w ≡ capacity r = ap capacity is ∙ omega (arith, length-overwritten (anchored r) padding left fits, same.0, same.1) in
+      record { queue = queue ∙ q; start = start ∙ begun-again r w p q (ap (λ t. t.start) is) c; room = room ∙ c }
 
   -- the first elements of a list, copied over as many as fit
   pub read_first : (q old got : List X) (size count n : ℕ) → size ≤ length q → count ≡ min size (length old) →
@@ -561,6 +626,23 @@ module _ {H : Type 0} where
             omega (arith, at, same, room.whole p, left, all, room.window)
       ]
 
+  -- and it lies behind the padding before this is taken
+  pub room_behind : (metadata : Ring (PacketMetadata H)) (payload : Ring ℕ) (padding size : ℕ) → HasRoom metadata payload padding size →
+      unbroken_free (anchored payload) padding size ≡ size
+  room_behind metadata payload padding size room =
+      let a = anchored payload in
+      elim (cases_lt 0 padding) [
+        | inl some ↦ let end = room.wrapped some in
+            let here : (a.start + length a.queue) % capacity a + padding ≡ capacity a = omega (arith, end, some) in
+            let begins : (a.start + (length a.queue + padding)) % capacity a ≡ 0 =
+            ap (λ n. n % capacity a) (omega arith) ∙ wrapped_place (a.start + length a.queue) padding (capacity a) here in
+            omega (arith, begins, room.window)
+        | inr none ↦ let p : padding ≡ 0 = omega arith in
+            let same : (a.start + (length a.queue + padding)) % capacity a ≡ (a.start + length a.queue) % capacity a =
+            ap (λ n. n % capacity a) (omega (arith, p)) in
+            omega (arith, same, room.whole p, room.window)
+      ]
+
   queue-padded : (metadata : Ring (PacketMetadata H)) (padding size : ℕ) (header : H) →
       (enqueued (padded metadata padding) (entry size (Some header) ∷ [])).queue ≡ metadata.queue ++ entries_for padding size header
   queue-padded metadata padding size header = elim (eqb_tells padding 0) [
@@ -703,3 +785,43 @@ module _ {H : Type 0} where
       ap (λ k. packets_seen (enqueued (padded metadata padding) (entry k (Some header) ∷ [])) (extended (overwritten e 0 left) count)) n
       ∙ packets_seen-appended metadata payload (extended (overwritten e 0 left) count) padding size header (take count left) ok room is refl w.0 (w.1 ∙
       omega (arith, one, free, same.0, same.1, room.window))
+
+  -- a packet whose bytes were written behind the padding before this was taken
+  pub AreEntries-behind : (metadata : Ring (PacketMetadata H)) (payload payload' : Ring ℕ) (padding size : ℕ) (header : H) (left : List ℕ) →
+      AreEntries metadata payload → HasRoom metadata payload padding size → length left ≡ size → payload' ≡ behind (anchored payload) padding left →
+      AreEntries (enqueued (padded metadata padding) (entry size (Some header) ∷ [])) payload'
+  AreEntries-behind metadata payload payload' padding size header left ok room long is =
+      let a = anchored payload in
+      let pad = take padding a.free in
+      let same = length-anchored payload ok.placed in
+      let n : length ((a.queue ++ pad) ++ left) ≡ length a.queue + padding + size = length-append (a.queue ++ pad) left ∙
+      omega (arith, length-append a.queue pad, length-take-le padding a.free (omega (arith, room.window)), long) in
+      AreEntries-appended metadata payload payload' padding size size header ok room (omega arith) (ap (λ r. r.start) is)
+      (ap (λ r. length r.queue) is ∙ omega (arith, n, same.0))
+      (ap capacity is ∙ omega (arith, n, length-drop (padding + length left) a.free, long, room.window, same.0, same.1))
+
+  pub packets_seen-behind : (metadata : Ring (PacketMetadata H)) (payload payload' : Ring ℕ) (padding size : ℕ) (header : H) (left : List ℕ) →
+      AreEntries metadata payload → HasRoom metadata payload padding size → padding ≡ padding_for (packets_seen metadata payload) size → length left ≡ size →
+      payload' ≡ behind (anchored payload) padding left → packets_seen (enqueued (padded metadata padding) (entry size (Some header) ∷ [])) payload' ≡
+      appended (packets_seen metadata payload) size header left
+  packets_seen-behind metadata payload payload' padding size header left ok room for long is =
+      let a = anchored payload in
+      let pad = take padding a.free in
+      let same = length-anchored payload ok.placed in
+      let n : length ((a.queue ++ pad) ++ left) ≡ length a.queue + padding + size = length-append (a.queue ++ pad) left ∙
+      omega (arith, length-append a.queue pad, length-take-le padding a.free (omega (arith, room.window)), long) in
+      ap (λ k. packets_seen (enqueued (padded metadata padding) (entry k (Some header) ∷ [])) payload') (sym long)
+      ∙ packets_seen-appended metadata payload payload' padding size header left ok room for (ap (λ r. r.start) is) (ap (λ r. r.queue) is)
+      (ap capacity is ∙ omega (arith, n, length-drop (padding + length left) a.free, long, room.window, same.0, same.1))
+
+  -- a queue whose bytes are as they were
+  pub AreEntries-restored : (metadata : Ring (PacketMetadata H)) (payload payload' : Ring ℕ) → AreEntries metadata payload → IsRestored payload payload' →
+      AreEntries metadata payload'
+  AreEntries-restored metadata payload payload' ok is =
+      AreEntries-from metadata payload' metadata.queue payload.start (capacity payload) refl is.start is.room ok.placed ok.laid
+      (ok.sizes ∙ sym (ap length is.queue))
+
+  pub packets_seen-restored : (metadata : Ring (PacketMetadata H)) (payload payload' : Ring ℕ) → IsRestored payload payload' →
+      packets_seen metadata payload' ≡ packets_seen metadata payload
+  packets_seen-restored metadata payload payload' is =
+      packets_seen-from metadata payload' metadata.queue payload.queue payload.start (capacity metadata) (capacity payload) refl is.queue is.start refl is.room

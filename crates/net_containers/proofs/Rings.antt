@@ -1,15 +1,16 @@
 -- What a ring's value says of its fields, and its fields of the value.
 use Rattle.std.proofs.lemmas.Option.{slice_get_read}
 use Rattle.std.specs.Prelude.{slice_get, Some}
-use Rattle.std.proofs.Common.{add-one, set, ◌≡◌, ℕ, ◌+◌, ◌-◌, ◌%◌, ◌<◌, ◌≤◌, List, [], ◌∷◌, ◌++◌, length, get_or, take, drop, min, refl, sym, ap, ◌∙◌, inl, inr}
+use Rattle.std.proofs.Common.{add-one, zero-add, suc, set, ◌≡◌, ℕ, ◌+◌, ◌-◌, ◌%◌, ◌<◌, ◌≤◌, List, [], ◌∷◌, ◌++◌, length, get_or, take, drop, min, refl, sym, ap, ◌∙◌, inl, inr}
 use Rattle.std.proofs.Common.{arith, length-append, length-drop, length-take, take-append-drop, append_assoc}
 use Rattle.std.proofs.lemmas.List.{take_at, drop_at, length-take-le, take-append-le, drop-append-le, take-take, drop-drop, drop-take, append-nil}
 use Rattle.std.proofs.lemmas.List.{nil_from_length, set_split}
 use Rattle.std.proofs.lemmas.Bool.{cases_lt}
+use Rattle.std.proofs.lemmas.Bool.Decides.{eqb_tells, leb_tells}
 use Rattle.std.proofs.Math.Nat.{mod-eq_of_lt, zero-mod, add-zero}
 use Rattle.std.proofs.Math.Seq.{take-add, take-append-add, drop-append-add}
 use Rattle.net_containers.specs.Ring.{Ring, ring, ring_in, IsRing, rotated, laid_over, laid_from, storage_of, capacity, place_of, until_end, extended, released}
-use Rattle.net_containers.specs.Ring.{overwritten, rewritten, IsPlaced, unbroken_queued}
+use Rattle.net_containers.specs.Ring.{overwritten, rewritten, IsPlaced, unbroken_queued, begun_at}
 use Rattle.net_containers.proofs.Rotations.{length-rotated, rotated_back, rotated_forth, laid_over-fits, wraps_once, rotated-rotated, rotated-laid_at}
 use Rattle.net_containers.proofs.Rotations.{part-rotated_at, get_or-rotated}
 
@@ -152,6 +153,19 @@ module _ {X : Type 0} where
   pub ring_in-start : (xs : List X) → ring_in xs 0 0 ≡ ring [] xs 0
   unfolding ring_in
   ring_in-start xs = rw (append-nil xs) refl
+
+  -- nothing queued, from any place on
+  pub ring_in-nothing : (xs : List X) (start : ℕ) → start ≤ length xs → ((ring_in xs start 0).queue ≡ []) × (capacity (ring_in xs start 0) ≡ length xs) ×
+      ((ring_in xs start 0).start ≡ start)
+  unfolding ring_in
+  ring_in-nothing xs start within = (refl, zero-add (length (rotated start xs)) ∙ length-rotated start xs within, refl)
+
+  -- an empty ring begins at a place of its storage
+  pub begun-here : (r : Ring X) (start : ℕ) → length r.queue ≡ 0 → start < capacity r → begun_at r start ≡ start
+  begun-here r start e below = elim (eqb_tells (length r.queue) 0) [
+    | inl none ↦ elim (leb_tells (suc start) (capacity r)) [ inl less ↦ rw (none.0, less.0) refl | inr past ↦ absurd (omega (arith, past.1, below)) ]
+    | inr some ↦ absurd (some.1 e)
+  ]
 
   -- such a ring is placed
   pub IsRing-start : (xs : List X) → IsRing xs 0 0

@@ -1,5 +1,5 @@
 -- What a contract sees of a `RingBuffer`.
-use Rattle.std.specs.Prelude.{ℕ, ◌+◌, ◌-◌, ◌%◌, ◌<◌, ◌≤◌, ◌==◌, if◌then◌else◌, min, List, [], ◌++◌, length, take, drop, refl}
+use Rattle.std.specs.Prelude.{ℕ, ◌+◌, ◌-◌, ◌%◌, ◌<◌, ◌≤◌, ◌==◌, nat_lt, ◌&&◌, if◌then◌else◌, min, List, [], ◌++◌, length, take, drop, refl}
 use Rattle.std.specs.Coded.{Coded, code_by, coded×, coded_list, coded_ℕ}
 
 -- The storage read from the read place on and round its end, cut into the queued elements and the free ones behind them.
@@ -37,6 +37,10 @@ module _ {X : Type 0} where
   -- an empty ring is read from the storage's first place on, which leaves all of it unbroken
   abbrev pub anchored : Ring X → Ring X
   anchored r = if length r.queue == 0 then cleared r else r
+
+  -- where an empty ring is read from that is to be read from this place on, if it is one of the storage
+  abbrev pub begun_at : Ring X → ℕ → ℕ
+  begun_at r start = if (length r.queue == 0) && nat_lt start (capacity r) then start else r.start
 
   -- the place in the storage of the element `offset` behind the read place
   abbrev pub place_of : Ring X → ℕ → ℕ

@@ -3,7 +3,7 @@ ghost use Rattle.std.specs.Prelude.{◌≡◌, ℕ, ◌+◌, ◌-◌, ◌%◌, �
 ghost use Rattle.std.specs.Prelude.{MatchResult, slice_get, Some, ⊤};
 ghost use Rattle.net_containers.specs.Ring.{Ring, capacity, ring, cleared, anchored, IsPlaced, until_end, contiguous, unbroken_free, free_from, queued_count};
 ghost use Rattle.net_containers.specs.Ring.{unbroken_queued, overwritten, rewritten, extended, released, enqueued, dequeued, laid_from, offered, waiting};
-ghost use Rattle.net_containers.specs.Ring.{storage_of};
+ghost use Rattle.net_containers.specs.Ring.{storage_of, begun_at};
 ghost use Rattle.std.specs.Borrow.{sem};
 ghost use Rattle.std.specs.Fn.{FnOnceTakesAtMut, FnOnceReturnsAtMut};
 
@@ -230,6 +230,24 @@ impl<T> RingBuffer<T> {
     {
         if self.is_empty() {
             self.clear();
+        }
+    }
+
+    /// Returns the read place.
+    pub(crate) fn start(&self) -> usize
+        ensures { result ≡ self.now.start }
+    {
+        self.read_at
+    }
+
+    /// An empty ring is read from this place on, if it is one of the storage.
+    pub(crate) fn begin_at(&mut self, start: usize)
+        ensures queue { self.new.queue ≡ self.old.queue }
+        ensures capacity { capacity self.new ≡ capacity self.old }
+        ensures start { self.new.start ≡ begun_at self.old start }
+    {
+        if self.is_empty() && start < self.capacity() {
+            self.read_at = start;
         }
     }
 
