@@ -48,6 +48,19 @@ fn writes(queue: &mut PacketBuffer<u16>, header: u16) -> Result<usize, Full> {
     })
 }
 
+/// What a closure queues that copies these bytes, and lets them be queued or not.
+fn lets(
+    queue: &mut PacketBuffer<u16>,
+    header: u16,
+    data: &[u8],
+    is_kept: bool,
+) -> Result<bool, Full> {
+    queue.enqueue_if(data.len(), header, |bytes: &mut [u8]| {
+        bytes.copy_from_slice(data);
+        is_kept
+    })
+}
+
 /// What a closure says that writes into the first packet and refuses it.
 fn refused(queue: &mut PacketBuffer<u16>) -> Result<Result<(), u8>, Empty> {
     queue.dequeue_with(|header: &mut u16, bytes: &mut [u8]| {
@@ -122,6 +135,12 @@ enum Step {
     Resets,
     /// Of a packet of this header a closure writes the bytes wxy.
     Writes(u16, Result<usize, Full>),
+    /// A closure copies these bytes, and a packet of this header and them is queued.
+    Lets(u16, &'static [u8]),
+    /// A closure copies these bytes, and nothing is queued.
+    LetsNot(u16, &'static [u8]),
+    /// There is no room for a closure to copy them.
+    LetsNone(u16, &'static [u8]),
     /// A closure gives the first packet the header 7 and the first byte W, and refuses it.
     Keeps,
     /// A closure takes the first packet, of this header and length.
@@ -143,7 +162,7 @@ enum Step {
 
 use Step::{
     Capacities, Copied, Copies, Counts, Discards, Gives, GivesUp, HasNone, IsEmpty, IsFull, Keeps,
-    Prints, Puts, Reads, Refuses, Resets, Settles, Shows, Writes,
+    Lets, LetsNone, LetsNot, Prints, Puts, Reads, Refuses, Resets, Settles, Shows, Writes,
 };
 
 impl Goes<PacketBuffer<u16>> for Step {
@@ -182,6 +201,9 @@ fn runs(queue: &mut PacketBuffer<u16>, step: &Step) -> bool {
         Writes(header, answer) => writes(queue, *header) == *answer,
         Keeps => refused(queue) == Ok(Err(9)),
         GivesUp(answer) => given_up(queue) == *answer,
+        Lets(header, bytes) => lets(queue, *header, bytes, true) == Ok(true),
+        LetsNot(header, bytes) => lets(queue, *header, bytes, false) == Ok(false),
+        LetsNone(header, bytes) => lets(queue, *header, bytes, true) == Err(Full),
         _ => copies(queue, step),
     }
 }
@@ -211,7 +233,7 @@ impl Life for Queue {
     }
 }
 
-static LIVES: [Queue; 12] = [
+static LIVES: [Queue; 14] = [
     // Nothing is queued at the beginning.
     Queue(
         2,
@@ -315,6 +337,45 @@ static LIVES: [Queue; 12] = [
             Counts(3),
             Gives(3, b"wxy"),
             IsEmpty,
+        ],
+    ),
+    // What a closure copies is queued where it says so, behind padding too; else the queue stays as it was.
+    Queue(
+        4,
+        16,
+        &[
+            Lets(1, b"abcdef"),
+            LetsNot(2, b"12345678"),
+            Counts(6),
+            Lets(2, b"12345678"),
+            Gives(1, b"abcdef"),
+            LetsNot(3, b"abcd"),
+            Counts(8),
+            LetsNone(3, b"abcdefg"),
+            Lets(3, b"abcd"),
+            Counts(14),
+            Gives(2, b"12345678"),
+            LetsNot(4, b"xyz"),
+            Gives(3, b"abcd"),
+            IsEmpty,
+        ],
+    ),
+    // An empty queue begins at the storage's first place where something is queued, and only then.
+    Queue(
+        2,
+        8,
+        &[
+            Puts(1, b"abcde"),
+            Gives(1, b"abcde"),
+            LetsNot(2, b"12345678"),
+            IsEmpty,
+            LetsNone(2, b"123456789"),
+            Lets(2, b"12345678"),
+            Lets(3, b""),
+            LetsNone(4, b""),
+            Gives(2, b"12345678"),
+            Gives(3, b""),
+            HasNone,
         ],
     ),
     // What a closure refused is kept. The first packet has two bytes of padding before it.
