@@ -137,7 +137,7 @@ answered (Ok k) n Q never is = is
 answered (Err e) n Q never is = absurd (never refl)
 
 -- what a value says of room is so of the ring
-room : (r : Ring ℕ) (held : List (ℕ × ℕ)) (v : Received) (n : ℕ) → received r held ≡ v → n ≤ length v.map → n ≤ length r.free
+pub room : (r : Ring ℕ) (held : List (ℕ × ℕ)) (v : Received) (n : ℕ) → received r held ≡ v → n ≤ length v.map → n ≤ length r.free
 room r held v n is fits =
     let P : Received → Type 0 = λ w. n ≤ length w.map in
     rw (← length-map_from held 0 r.free) (subst P (sym is) fits)

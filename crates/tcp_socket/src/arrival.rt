@@ -524,7 +524,8 @@ impl Socket {
     }
 
     /// The window of a segment and what its ranges name. It is so many duplicates in a row.
-    fn take_window(&mut self, header: &TcpHeader, duplicates: u8, now: Instant)
+    #[inline(always)]
+    pub(crate) fn take_window(&mut self, header: &TcpHeader, duplicates: u8, now: Instant)
         requires unoffered { self.old.offered ≡ None }
         requires moment { IsMoment now }
         ensures { self.new ≡ told self.old header.now duplicates now }
@@ -550,7 +551,7 @@ impl Socket {
     }
 
     /// The echo of a segment is taken, SND.UNA rises by so much, and what is acknowledged is freed.
-    fn acknowledge(&mut self, header: &TcpHeader, by: u32, now: Instant)
+    pub(crate) fn acknowledge(&mut self, header: &TcpHeader, by: u32, now: Instant)
         requires unoffered { self.old.offered ≡ None }
         requires moment { IsMoment now }
         ensures { self.new ≡ acknowledged (echo_heard self.old header.now by now) by now }
@@ -578,7 +579,8 @@ impl Socket {
     }
 
     /// The FIN of a segment whose text was taken, and what answers it. RCV.NXT was `next` before that.
-    fn finish<C: Context>(
+    #[inline(always)]
+    pub(crate) fn finish<C: Context>(
         &mut self,
         cx: &C,
         next: SeqNumber,

@@ -1,5 +1,5 @@
 //! The receive buffer of a socket.
-ghost use Rattle.std.specs.Prelude.{◌≡◌, ℕ, ◌==◌, ◌↔◌, ◌+◌, ◌≤◌, ◌++◌, not, IsTrue, is_ok, length, take, drop, min, []};
+ghost use Rattle.std.specs.Prelude.{◌≡◌, ℕ, ◌==◌, ◌↔◌, ◌+◌, ◌≤◌, ◌<◌, ◌^◌, ◌++◌, not, IsTrue, is_ok, is_some, IfSome, OnSome, None, length, take, drop, min, []};
 ghost use Rattle.std.specs.Fn.{FnOnceTakesAt, FnOnceReturnsAt};
 ghost use Rattle.tcp_socket.specs.Receive.{most_bytes, FitsBuffer, in_order, can_hold, early, unbroken, lent};
 ghost use Rattle.tcp_model.specs.Value.{received_of, room_of, emptied};
@@ -7,7 +7,10 @@ ghost use Rattle.tcp_model.specs.Calls.{read_from};
 ghost use Rattle.tcp_model.specs.Answers.{run_at, others, first_two};
 ghost use Rattle.held_bytes.specs.ReceiveMap.{space, store, front};
 ghost use Rattle.held_bytes.specs.Held.{runs_of};
+ghost use Rattle.ip_wire.specs.Sum.{word_sum, folded};
+ghost use Rattle.net_base.specs.Ring.{overwritten, unbroken_free};
 
+use ip_wire::checksum;
 use net_base::{Assembler, RingBuffer, TooManyHolesError};
 use std::marker::Model;
 
@@ -132,6 +135,26 @@ impl ReceiveBuffer {
         count
     }
 
+    /// Takes bytes that come in order, as `store` does, where nothing is held and the checksum over them and all else, whose sum is
+    /// `rest`, holds. Else nothing changes. They are summed as they are copied.
+    pub(crate) fn store_summed(&mut self, bytes: &[u8], rest: u16) -> Option<usize>
+        requires fits { length bytes.now ≤ length self.old.map }
+        requires nothing_held { length (runs_of self.old.map) ≡ 0 }
+        ensures sum { is_some result ≡ (folded (rest + word_sum bytes.now) == 65535) }
+        ensures count { IfSome result (λ n. n ≡ length (front (store self.old.map 0 bytes.now))) }
+        ensures small { IfSome result (λ n. n ≤ most_bytes) }
+        ensures stored { OnSome result (self.new ≡ in_order self.old bytes.now) }
+        ensures refused { result ≡ None → self.new ≡ self.old }
+    {
+        let sum = copy_summed(&mut self.ring, bytes);
+        if checksum::add(rest, sum) != 0xffff {
+            return None;
+        }
+        let count = self.held.add_then_remove_front(0, bytes.len()).unwrap_or(0);
+        self.ring.enqueue_unallocated(count);
+        Some(count)
+    }
+
     /// Holds bytes that come so far past the next in order, where not too many runs are held with
     /// them. Else nothing changes.
     pub fn hold(&mut self, past: usize, bytes: &[u8]) -> Result<(), TooManyHolesError>
@@ -165,6 +188,31 @@ impl ReceiveBuffer {
     {
         others_than(&self.held, place)
     }
+}
+
+/// Copies bytes over the first free ones, which may go round the end of the storage, and answers their sum. It goes over them once,
+/// and queues nothing.
+fn copy_summed(ring: &mut RingBuffer<u8>, bytes: &[u8]) -> u16
+    requires fits { length bytes.now ≤ length ring.old.free }
+    requires small { length bytes.now < 2 ^ 32 }
+    ensures copied { ring.new ≡ overwritten ring.old 0 bytes.now }
+    ensures sum { result ≡ folded (word_sum bytes.now) }
+{
+    let first = bytes.len().min(ring.contiguous_window());
+    let front = copy_unbroken(ring, 0, &bytes[..first]);
+    let back = copy_unbroken(ring, first, &bytes[first..]);
+    checksum::join(front, first, back)
+}
+
+/// The same of bytes from an offset on, whose places lie behind one another.
+#[inline(always)]
+fn copy_unbroken(ring: &mut RingBuffer<u8>, offset: usize, bytes: &[u8]) -> u16
+    requires unbroken { unbroken_free ring.old offset (length bytes.now) ≡ length bytes.now }
+    requires small { length bytes.now < 2 ^ 32 }
+    ensures copied { ring.new ≡ overwritten ring.old offset bytes.now }
+    ensures sum { result ≡ folded (word_sum bytes.now) }
+{
+    checksum::copy(ring.get_unallocated(offset, bytes.len()), bytes)
 }
 
 /// The run with this place.
