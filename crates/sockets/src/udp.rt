@@ -13,7 +13,7 @@ ghost use Rattle.socket_base.specs.Context.{ContextValue};
 ghost use Rattle.socket_base.specs.Packet.{PacketValue, IsSendable, option_value};
 ghost use Rattle.socket_base.specs.declared.offer.Offer.{Offer};
 ghost use Rattle.socket_base.specs.declared.offer.Offer.TheVariants as Answer;
-ghost use Rattle.sockets.specs.Udp.{UdpValue, made, metadata_to, is_open, bind_answer, bind_after, closed, with_hop_limit, is_unaddressable};
+ghost use Rattle.sockets.specs.Udp.{UdpValue, made, metadata_to, metadata_of, is_open, bind_answer, bind_after, closed, with_hop_limit, is_unaddressable};
 ghost use Rattle.sockets.specs.Header.{header_between, hops};
 ghost use Rattle.sockets.specs.Udp.{send_answer, send_after, accepts, process_after, header_for, settings_of, IsHeaderToSend, Offers};
 ghost use Rattle.sockets.specs.Udp.{offered_in, header_at_once, TakesAtOnce};
@@ -28,7 +28,9 @@ ghost use Rattle.sockets.specs.declared.error.RecvError.TheVariants as Recv;
 pub use crate::error::{BindError, RecvError, SendError};
 use crate::header::{DEFAULT_HOP_LIMIT, forget_offer, write_between};
 use crate::queues::Queues;
-use ip_address::{IpAddress, IpEndpoint, IpListenEndpoint, IpProtocol, Ipv4Address, Ipv6Address};
+use ip_address::{
+    IpAddress, IpEndpoint, IpListenEndpoint, IpProtocol, Ipv4Address, Ipv6Address, checksum,
+};
 use ip_packet::udp::field::HEADER_LEN as UDP_HEADER_LEN;
 use ip_packet::{IpRepr, UdpRepr};
 use net_base::PacketMeta;
@@ -134,6 +136,21 @@ impl Model for Socket {
     } };
 
     ghost invariant = { λ s. IsOpen s.offered s.queues.queued };
+}
+
+/// What is queued beside the bytes of a datagram that arrives. Inlined, it is made where it is to lie.
+#[inline(always)]
+fn metadata_in(meta: PacketMeta, ip_repr: &IpRepr, repr: &UdpRepr) -> UdpMetadata
+    ensures { result ≡ metadata_of ip_repr.now repr.now }
+{
+    UdpMetadata {
+        endpoint: IpEndpoint {
+            addr: ip_repr.src_addr(),
+            port: repr.src_port,
+        },
+        local_address: Some(ip_repr.dst_addr()),
+        meta,
+    }
 }
 
 impl Socket {
@@ -592,14 +609,7 @@ impl Socket {
         ensures { self.new ≡ process_after self.old ip_repr.now repr.now payload.now }
     {
         forget_offer(&mut self.offered);
-        let metadata = UdpMetadata {
-            endpoint: IpEndpoint {
-                addr: ip_repr.src_addr(),
-                port: repr.src_port,
-            },
-            local_address: Some(ip_repr.dst_addr()),
-            meta,
-        };
+        let metadata = metadata_in(meta, ip_repr, repr);
         let _ = self.queues.received.enqueue_slice(metadata, payload);
     }
 
@@ -618,7 +628,22 @@ impl Socket {
         ensures sum { result ≡ (folded (rest + word_sum payload.now) == 65535) }
         ensures queued { self.new ≡ (if folded (rest + word_sum payload.now) == 65535 then process_after self.old ip_repr.now repr.now payload.now else self.old) }
     {
-        false
+        let metadata = metadata_in(meta, ip_repr, repr);
+        let queued = self
+            .queues
+            .received
+            .enqueue_if(payload.len(), metadata, |place: &mut [u8]| {
+                let sum = checksum::copy(place, payload);
+                checksum::add(rest, sum) == 0xffff
+            });
+        let holds = match queued {
+            Ok(holds) => holds,
+            Err(_) => checksum::add(rest, checksum::data(payload)) == 0xffff,
+        };
+        if holds {
+            forget_offer(&mut self.offered);
+        }
+        holds
     }
 
     /// When the socket wants to be polled: at once where a datagram is queued.
