@@ -1,5 +1,5 @@
 -- A segment whose text is stored before the rest of it is taken.
-use Rattle.std.proofs.Common.{◌≡◌, ℕ, zero, suc, ◌+◌, ◌-◌, ◌%◌, ◌==◌, ◌&&◌, ◌||◌, not, nat_lt, nat_le, ◌^◌, min, Bool, true, false, ℤ, List, length, drop, Option, Some, None}
+use Rattle.std.proofs.Common.{◌≡◌, ℕ, zero, suc, ◌+◌, ◌-◌, ◌==◌, ◌&&◌, ◌||◌, not, nat_lt, nat_le, ◌^◌, min, Bool, true, false, ℤ, List, length, drop, Option, Some, None}
 use Rattle.std.proofs.Common.{is_some, if◌then◌else◌, refl, sym, ap, subst, ◌∙◌, arith}
 use Rattle.std.proofs.lemmas.Bool.Decides.{nat_tests}
 use Rattle.std.proofs.lemmas.Bool.{and_parts, and_left, and_right}
@@ -8,7 +8,6 @@ use Rattle.ip_wire.specs.Seq.{distance_of}
 use Rattle.ip_wire.specs.SeqNumber.{SeqNumber}
 use Rattle.ip_wire.specs.TcpHeader.{TcpHeader}
 use Rattle.socket_base.specs.Context.{ContextValue}
-use Rattle.held_bytes.specs.Held.{runs_of}
 use Rattle.held_bytes.specs.ReceiveMap.{store, front}
 use Rattle.net_base.specs.Ring.{Ring}
 use Rattle.tcp_model.specs.Acknowledged.{acknowledged, duplicates_after, state_after_ack, una_moved, in_state, ended_if, names_window, windowed, is_duplicate, tells_of_loss}
@@ -32,7 +31,7 @@ use Rattle.tcp_socket.proofs.Answered.{received_draws}
 use Rattle.tcp_socket.proofs.Steps.{value_of, Leads}
 use Rattle.tcp_socket.specs.Answering.{next_at}
 use Rattle.tcp_socket.specs.Receive.{in_order}
-use Rattle.tcp_socket.specs.OnePass.{is_established, is_passed, comes_next, goes_in_one_pass, stored, told_first, advanced, taken_stored}
+use Rattle.tcp_socket.specs.OnePass.{is_established, comes_next, goes_in_one_pass, stored, told_first, advanced, taken_stored}
 
 -- AN OPEN CONNECTION STAYS OPEN, AND RCV.NXT STAYS, WHILE AN ACKNOWLEDGEMENT AND A WINDOW ARE TAKEN
 

@@ -1,5 +1,5 @@
 -- A segment whose text is gone through once: it is copied behind what waits to be read, and summed by that.
-use Rattle.std.specs.Prelude.{ℕ, ℤ, ◌==◌, nat_le, not, ◌&&◌, ◌||◌, Bool, true, false, List, length, Option, Some, None, is_some}
+use Rattle.std.specs.Prelude.{ℕ, ℤ, ◌==◌, nat_le, not, ◌&&◌, ◌||◌, Bool, true, false, List, length, None, is_some}
 use Rattle.ip_wire.specs.IpRepr.{IpRepr}
 use Rattle.ip_wire.specs.TcpHeader.{TcpHeader}
 use Rattle.socket_base.specs.Context.{ContextValue}
