@@ -3,7 +3,8 @@
 `bench/interface --unproved` links.
 
 `rt try` builds programs without proof, and looks at each index and address as they run. What its compiler is given is taken while it is there,
-and compiled once more as a proved program is: without these looks, for x86-64-v2, the library's comparisons of slices inlined.
+and compiled once more as a proved program is: without these looks, for x86-64-v2, the library's comparisons of slices inlined, and so what the
+sources of this repository mark as `#[inline(always)]`, while what they mark as `#[inline(never)]` isn't.
 """
 import os
 import re
@@ -49,9 +50,31 @@ def module_of(room, crate, kept):
         sys.exit(open(f"{room}/said").read() + f"{crate}: `rt try` built nothing")
 
 
+HINT = re.compile(r"#\[inline\((always|never)\)\]\s*(?:pub(?:\([^)]*\))? )?(?:const )?fn (\w+)")
+BLOCK = re.compile(r"(?m)^impl(?:<[^>]*>)? (?:[\w<>, ]+ for )?(\w+)[^\n]*\{$")
+
+
+def hints_in(room):
+    """What the sources say of inlining: two patterns of names, of functions that are always inlined and of those that never are."""
+    names = {"always": [], "never": []}
+    for at, _, files in os.walk(f"{room}/crates"):
+        for file in files:
+            inside = os.path.relpath(f"{at}/{file}", f"{room}/crates").removesuffix(".rt").split("/")
+            if not file.endswith(".rt") or inside[1:2] != ["src"]:
+                continue
+            with open(f"{at}/{file}") as text:
+                source = text.read()
+            module = "::".join([inside[0], *(it for it in inside[2:] if it not in ("lib", "main"))])
+            for hint in HINT.finditer(source):
+                block = [it for it in BLOCK.finditer(source) if it.start() < hint.start() < source.index("\n}", it.end())]
+                names[hint[1]].append(rf"{inside[0]}::(?:\w+::)*{block[-1][1]}::{hint[2]}" if block else f"{module}::{hint[2]}")
+    return [re.compile(rf'define internal .*@"(?:{"|".join(names[which]) or "-"})(?:::<[^"]*)?"\(') for which in ("always", "never")]
+
+
 def object_of(module, room, exporter=None):
     """Compiles the module without what a quick build adds. What the crate `exporter` has for C is called by its own name, and its `main` not at all."""
     clang = f"{kit()}/toolchain/bin/clang"
+    always, never = hints_in(room)
     subprocess.run([clang, "-S", "-emit-llvm", "-O0", "-Xclang", "-disable-llvm-passes", "-x", "ir", module, "-o", f"{room}/text.ll"], check=True)
     with open(f"{room}/text.ll", errors="surrogateescape") as text, open(f"{room}/made.ll", "w", errors="surrogateescape") as made:
         for line in text:
@@ -60,8 +83,10 @@ def object_of(module, room, exporter=None):
                 continue
             if line.startswith("attributes "):
                 line = line.replace("sanitize_address", "nounwind").replace('"frame-pointer"="all"', "").replace('="x86-64"', '="x86-64-v2"')
-            elif re.match(r'define internal .*@"core::(slice::scan|cmp::slices)::', line):
+            elif re.match(r'define internal .*@"core::(slice::scan|cmp::slices)::', line) or always.match(line):
                 line = re.sub(r"\) #(\d+) \{$", r") alwaysinline #\1 {", line)
+            elif never.match(line):
+                line = re.sub(r"\) #(\d+) \{$", r") noinline #\1 {", line)
             made.write(exported(line, exporter) if exporter else line)
     subprocess.run([clang, "-march=x86-64-v2", "-O3", "-fPIE", "-ffunction-sections", "-Wno-override-module", "-mllvm", "-trap-unreachable",
                     "-c", "-x", "ir", f"{room}/made.ll", "-o", f"{room}/made.o"], check=True)
