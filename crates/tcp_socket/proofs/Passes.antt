@@ -1,8 +1,8 @@
 -- A segment whose text is stored before the rest of it is taken.
-use Rattle.std.proofs.Common.{◌≡◌, ℕ, zero, suc, ◌+◌, ◌-◌, ◌==◌, ◌&&◌, ◌||◌, not, nat_lt, nat_le, ◌^◌, min, Bool, true, false, ℤ, List, length, drop, Option, Some, None}
+use Rattle.std.proofs.Common.{◌≡◌, ℕ, zero, suc, ◌-◌, ◌==◌, ◌&&◌, ◌||◌, not, nat_lt, nat_le, ◌^◌, Bool, true, false, ℤ, List, length, drop, Option, Some, None}
 use Rattle.std.proofs.Common.{is_some, if◌then◌else◌, refl, sym, ap, subst, ◌∙◌, arith}
 use Rattle.std.proofs.lemmas.Bool.Decides.{nat_tests}
-use Rattle.std.proofs.lemmas.Bool.{and_parts, and_left, and_right}
+use Rattle.std.proofs.lemmas.Bool.{and_parts, and_left}
 use Rattle.ip_wire.specs.IpRepr.{IpRepr}
 use Rattle.ip_wire.specs.Seq.{distance_of}
 use Rattle.ip_wire.specs.SeqNumber.{SeqNumber}
@@ -10,17 +10,17 @@ use Rattle.ip_wire.specs.TcpHeader.{TcpHeader}
 use Rattle.socket_base.specs.Context.{ContextValue}
 use Rattle.held_bytes.specs.ReceiveMap.{store, front}
 use Rattle.net_base.specs.Ring.{Ring}
-use Rattle.tcp_model.specs.Acknowledged.{acknowledged, duplicates_after, state_after_ack, una_moved, in_state, ended_if, names_window, windowed, is_duplicate, tells_of_loss}
-use Rattle.tcp_model.specs.Arrival.{is_void_syn, arrives_in, arrives, checked, draws_first, echo_heard, finished, inside, received, taken, told, with_content, passed_outside, reset_comes}
+use Rattle.tcp_model.specs.Acknowledged.{acknowledged, duplicates_after, state_after_ack, una_moved, in_state, ended_if, names_window, windowed}
+use Rattle.tcp_model.specs.Arrival.{is_void_syn, arrives_in, arrives, checked, draws_first, echo_heard, finished, inside, received, taken, told, passed_outside, reset_comes}
 use Rattle.tcp_model.specs.Answers.{drawn}
 use Rattle.tcp_model.specs.Blocks.{unacked}
 use Rattle.tcp_model.specs.Checks.{Check, acknowledgement_check, is_in_window}
 use Rattle.tcp_model.specs.Checks.Check.{Passes}
-use Rattle.tcp_model.specs.Controls.{is_syn, is_rst, is_fin, is_zero}
+use Rattle.tcp_model.specs.Controls.{is_syn, is_rst, is_zero}
 use Rattle.tcp_model.specs.Offsets.{past_by, before_by, meets_window}
 use Rattle.tcp_model.specs.Segments.{segment_len}
 use Rattle.tcp_model.specs.States.{is_closed, takes_text, owes_fin, after_ack, after_ack_of_fin}
-use Rattle.tcp_model.specs.Text.{Texted, texted, is_holding, with_next, with_text, with_text_at, with_bytes_at}
+use Rattle.tcp_model.specs.Text.{Texted, texted, is_holding, with_text, with_text_at, with_bytes_at}
 use Rattle.tcp_model.specs.Reply.{Reply}
 use Rattle.tcp_model.specs.Value.{TcpValue, Received, Arrived, dropped, unoffered, queued_in, free_in}
 use Rattle.tcp_model.specs.declared.block.Block.{Block}
@@ -29,9 +29,8 @@ use Rattle.tcp_model.specs.State.TheVariants as In
 use Rattle.tcp_model.specs.OpenOffer.{OpenOffer}
 use Rattle.tcp_socket.proofs.Answered.{received_draws}
 use Rattle.tcp_socket.proofs.Steps.{value_of, Leads}
-use Rattle.tcp_socket.specs.Answering.{next_at}
 use Rattle.tcp_socket.specs.Receive.{in_order}
-use Rattle.tcp_socket.specs.OnePass.{is_established, comes_next, goes_in_one_pass, stored, told_first, advanced, taken_stored}
+use Rattle.tcp_socket.specs.OnePass.{is_established, comes_next, goes_in_one_pass, stored, advanced, content_by, taken_by}
 
 -- AN OPEN CONNECTION STAYS OPEN, AND RCV.NXT STAYS, WHILE AN ACKNOWLEDGEMENT AND A WINDOW ARE TAKEN
 
@@ -67,14 +66,19 @@ state_told v header count now = state_windowed (names_window v.block header) v.b
 next_told : (v : TcpValue) (header : TcpHeader) (count : ℕ) (now : ℤ) → (told v header count now).block.receiver.next ≡ v.block.receiver.next
 next_told v header count now = next_windowed (names_window v.block header) v.block header
 
-state_first : (v : TcpValue) (header : TcpHeader) (by : ℕ) (now : ℤ) → v.block.state ≡ In.Established → (told_first v header by now).block.state ≡ In.Established
-state_first v header by now is =
-    state_told (acknowledged (echo_heard v header by now) by now) header 0 now ∙ state_acked (echo_heard v header by now) by now is
+-- what is acknowledged, and what the window and the ranges tell
+abbrev told_by : TcpValue → TcpHeader → ℕ → ℕ → ℤ → TcpValue
+told_by v header by count now = told (acknowledged (echo_heard v header by now) by now) header count now
 
-next_first : (v : TcpValue) (header : TcpHeader) (by : ℕ) (now : ℤ) → v.block.state ≡ In.Established
-    → (told_first v header by now).block.receiver.next ≡ v.block.receiver.next
-next_first v header by now is =
-    next_told (acknowledged (echo_heard v header by now) by now) header 0 now ∙ next_acked (echo_heard v header by now) by now is
+state_by : (v : TcpValue) (header : TcpHeader) (by count : ℕ) (now : ℤ) → v.block.state ≡ In.Established
+    → (told_by v header by count now).block.state ≡ In.Established
+state_by v header by count now is =
+    state_told (acknowledged (echo_heard v header by now) by now) header count now ∙ state_acked (echo_heard v header by now) by now is
+
+next_by : (v : TcpValue) (header : TcpHeader) (by count : ℕ) (now : ℤ) → v.block.state ≡ In.Established
+    → (told_by v header by count now).block.receiver.next ≡ v.block.receiver.next
+next_by v header by count now is =
+    next_told (acknowledged (echo_heard v header by now) by now) header count now ∙ next_acked (echo_heard v header by now) by now is
 
 -- THE TEXT THAT COMES NEXT
 
@@ -111,50 +115,42 @@ text_next w header bytes takes next some fits free =
 
 -- THE REST OF THE SEGMENT
 
-no_duplicate : (b : Block) (header : TcpHeader) (size by : ℕ) → (size == 0) ≡ false → duplicates_after b header size by ≡ 0
-no_duplicate b header size by some =
-    let bare : ((by == 0) && (size == 0)) ≡ false = and_right (by == 0) (size == 0) some in
-    let it : is_duplicate b header size by ≡ false =
-    and_left ((by == 0) && (size == 0)) (not (is_fin header.control) && (tells_of_loss b header && not (b.sender.in_flight == 0))) bare
-    in
-    ap (λ (t : Bool). if t then min (b.sender.duplicates + 1) 4 else 0) it
-
--- what is taken of a segment that has text, of an open connection
-abbrev content_of : ContextValue → TcpValue → IpRepr → TcpHeader → List ℕ → ℕ → Arrived
-content_of cx v ip header bytes by = with_content cx (told_first v header by cx.moment) ip header bytes
-
 goes_on : (s : State) (a b : Arrived) → s ≡ In.Established → (if is_closed s then a else b) ≡ b
 goes_on s a b is = subst (λ (x : State). (if is_closed x then a else b) ≡ b) (sym is) refl
 
-taken_open : (cx : ContextValue) (v : TcpValue) (ip : IpRepr) (header : TcpHeader) (bytes : List ℕ) (by : ℕ) → v.block.state ≡ In.Established
-    → (length bytes == 0) ≡ false → taken cx v ip header bytes by ≡ content_of cx v ip header bytes by
-taken_open cx v ip header bytes by is some =
+-- of an open connection what is left is taken, whether its text is stored already or not
+taken_open : (text : Option ℕ) (cx : ContextValue) (v : TcpValue) (ip : IpRepr) (header : TcpHeader) (bytes : List ℕ) (by : ℕ) → v.block.state ≡ In.Established
+    → taken_by text cx v ip header bytes by
+    ≡ content_by text cx (told_by v header by (duplicates_after v.block header (length bytes) by) cx.moment) ip header bytes
+taken_open text cx v ip header bytes by is =
     let a = acknowledged (echo_heard v header by cx.moment) by cx.moment in
     let count = duplicates_after v.block header (length bytes) by in
-    goes_on a.block.state (dropped a) (with_content cx (told a header count cx.moment) ip header bytes)
+    goes_on a.block.state (dropped a) (content_by text cx (told a header count cx.moment) ip header bytes)
     (state_acked (echo_heard v header by cx.moment) by cx.moment is)
-    ∙ ap (λ (n : ℕ). with_content cx (told a header n cx.moment) ip header bytes) (no_duplicate v.block header (length bytes) by some)
 
-by_first : (cx : ContextValue) (v : TcpValue) (ip : IpRepr) (header : TcpHeader) (bytes : List ℕ) (by n : ℕ)
-    → taken_stored cx (stored v bytes) ip header (length bytes) by n
-    ≡ finished cx (told_first v header by cx.moment).block (texted (advanced (stored (told_first v header by cx.moment) bytes) n) n false None) ip header
+-- what is stored neither changes what else is taken, nor is changed by it
+stored_apart : (cx : ContextValue) (v : TcpValue) (ip : IpRepr) (header : TcpHeader) (bytes : List ℕ) (by count n : ℕ)
+    → content_by (Some n) cx (told_by (stored v bytes) header by count cx.moment) ip header bytes
+    ≡ finished cx (told_by v header by count cx.moment).block (texted (advanced (stored (told_by v header by count cx.moment) bytes) n) n false None) ip header
     (length bytes)
-by_first cx v ip header bytes by n = refl
+stored_apart cx v ip header bytes by count n = refl
 
 stored_leads : (cx : ContextValue) (v : TcpValue) (ip : IpRepr) (header : TcpHeader) (bytes : List ℕ) (by n : ℕ) → v.block.state ≡ In.Established
     → distance_of v.block.receiver.next header.seq_number ≡ 0 → (length bytes == 0) ≡ false → nat_le (length bytes) (free_in v) ≡ true
     → is_holding v ≡ false → n ≡ comes_to v bytes
-    → taken_stored cx (stored v bytes) ip header (length bytes) by n ≡ taken cx v ip header bytes by
+    → taken_by (Some n) cx (stored v bytes) ip header bytes by ≡ taken cx v ip header bytes by
 stored_leads cx v ip header bytes by n is next some fits free n_is =
-    let w = told_first v header by cx.moment in
+    let count = duplicates_after v.block header (length bytes) by in
+    let w = told_by v header by count cx.moment in
     let at : distance_of w.block.receiver.next header.seq_number ≡ 0 =
-    ap (λ (k : SeqNumber). distance_of k header.seq_number) (next_first v header by cx.moment is) ∙ next
+    ap (λ (k : SeqNumber). distance_of k header.seq_number) (next_by v header by count cx.moment is) ∙ next
     in
-    let text = text_next w header bytes (ap takes_text (state_first v header by cx.moment is)) at some fits free in
-    ap (λ (k : ℕ). taken_stored cx (stored v bytes) ip header (length bytes) by k) n_is
-    ∙ by_first cx v ip header bytes by (comes_to v bytes)
+    let text = text_next w header bytes (ap takes_text (state_by v header by count cx.moment is)) at some fits free in
+    ap (λ (k : ℕ). taken_by (Some k) cx (stored v bytes) ip header bytes by) n_is
+    ∙ taken_open (Some (comes_to v bytes)) cx (stored v bytes) ip header bytes by is
+    ∙ stored_apart cx v ip header bytes by count (comes_to v bytes)
     ∙ ap (λ (t : Texted). finished cx w.block t ip header (length bytes)) (sym text)
-    ∙ sym (taken_open cx v ip header bytes by is some)
+    ∙ sym (taken_open None cx v ip header bytes by is)
 
 -- WHAT A SEGMENT THAT GOES IN ONE PASS COMES TO
 
@@ -262,38 +258,13 @@ pub one_pass_leads : (cx : ContextValue) (b : Block) (r r2 : Received) (q : Ring
     (bytes : List ℕ) (by n : ℕ) (answer : Option Reply) (socket : TcpValue)
     → value_of b r q o ≡ v → Goes cx.moment v header bytes → distance_of v.block.receiver.next header.seq_number ≡ 0
     → acknowledgement_check v.block header.ack_number ≡ Passes by → n ≡ length (front (store r.map 0 bytes)) → r2 ≡ in_order r bytes
-    → answer ≡ (taken_stored cx (value_of b r2 q o) ip header (length bytes) by n).answer
-    → socket ≡ (taken_stored cx (value_of b r2 q o) ip header (length bytes) by n).socket → Leads (arrives cx v ip header bytes) answer socket
+    → answer ≡ (taken_by (Some n) cx (value_of b r2 q o) ip header bytes by).answer
+    → socket ≡ (taken_by (Some n) cx (value_of b r2 q o) ip header bytes by).socket → Leads (arrives cx v ip header bytes) answer socket
 one_pass_leads cx b r r2 q o v ip header bytes by n answer socket is g next passes n_is r2_is a s =
     let kept : value_of b r2 q o ≡ stored v bytes = ap (λ (x : Received). value_of b x q o) r2_is ∙ ap (λ (w : TcpValue). stored w bytes) is in
     let count : n ≡ comes_to v bytes = n_is ∙ ap (λ (w : TcpValue). comes_to w bytes) is in
-    let all : taken_stored cx (value_of b r2 q o) ip header (length bytes) by n ≡ arrives cx v ip header bytes =
-    ap (λ (w : TcpValue). taken_stored cx w ip header (length bytes) by n) kept
+    let all : taken_by (Some n) cx (value_of b r2 q o) ip header bytes by ≡ arrives cx v ip header bytes =
+    ap (λ (w : TcpValue). taken_by (Some n) cx w ip header bytes by) kept
     ∙ stored_leads cx v ip header bytes by n g.state next g.some g.fits g.free count ∙ sym (arrives_open cx v ip header bytes by g next passes)
     in
     record { answer = a ∙ ap (λ (x : Arrived). x.answer) all; socket = s ∙ ap (λ (x : Arrived). x.socket) all }
-
-abbrev at_last : ContextValue → TcpValue → IpRepr → TcpHeader → ℕ → ℕ → Arrived
-at_last cx w ip header size count =
-    finished cx (next_at (advanced w count).block w.block.receiver.next) (texted (advanced w count) count false None) ip header size
-
--- the steps behind the text
-pub stored_steps : (cx : ContextValue) (b b2 : Block) (r : Received) (q : Ring ℕ) (o : Option OpenOffer) (v w u : TcpValue) (next : SeqNumber) (ip : IpRepr)
-    (header : TcpHeader) (size by count : ℕ) (now : ℤ) (answer : Option Reply) (socket : TcpValue)
-    → value_of b r q o ≡ u → now ≡ cx.moment → w ≡ acknowledged (echo_heard v header by now) by now → u ≡ told w header 0 now → next ≡ b.receiver.next
-    → b2 ≡ with_next b count
-    → answer ≡ (finished cx (next_at b2 next) (texted (value_of b2 r q o) count false None) ip header size).answer
-    → socket ≡ (finished cx (next_at b2 next) (texted (value_of b2 r q o) count false None) ip header size).socket
-    → Leads (taken_stored cx v ip header size by count) answer socket
-stored_steps cx b b2 r q o v w u next ip header size by count now answer socket is now_is w_is u_is next_is b2_is a s =
-    let first : Leads (finished cx (next_at b2 b.receiver.next) (texted (value_of b2 r q o) count false None) ip header size) answer socket =
-    subst (λ (k : SeqNumber). Leads (finished cx (next_at b2 k) (texted (value_of b2 r q o) count false None) ip header size) answer socket) next_is
-    (record { answer = a; socket = s })
-    in
-    let second : Leads (at_last cx (value_of b r q o) ip header size count) answer socket =
-    subst (λ (x : Block). Leads (finished cx (next_at x b.receiver.next) (texted (value_of x r q o) count false None) ip header size) answer socket) b2_is first
-    in
-    let all : value_of b r q o ≡ told_first v header by cx.moment =
-    is ∙ u_is ∙ ap (λ (x : TcpValue). told x header 0 now) w_is ∙ ap (λ (m : ℤ). told_first v header by m) now_is
-    in
-    subst (λ (x : TcpValue). Leads (at_last cx x ip header size count) answer socket) all second

@@ -17,7 +17,7 @@ use Rattle.socket_base.specs.Packet as Carried
 use Rattle.held_bytes.specs.ReceiveMap.{store, front}
 use Rattle.tcp_model.specs.Acknowledged.{acknowledged, duplicates_after}
 use Rattle.tcp_model.specs.Answers.{ack_recorded, acked, drawn, ack_due, answers_at_once, answer_for}
-use Rattle.tcp_model.specs.Arrival.{waiting_anew, outside, passed_outside, tells_news, comes_again, finished, with_content, told, echo_heard, taken}
+use Rattle.tcp_model.specs.Arrival.{waiting_anew, outside, passed_outside, tells_news, comes_again, finished, with_content, told, echo_heard}
 use Rattle.tcp_model.specs.Arrival.{checked, reset_comes, draws_first, received, arrives_in}
 use Rattle.tcp_model.specs.Checks.{acknowledgement_check, is_in_window}
 use Rattle.tcp_model.specs.Checks.Check.{Old}
@@ -39,7 +39,8 @@ use Rattle.tcp_model.specs.State.{State}
 use Rattle.tcp_model.specs.State.TheVariants as In
 use Rattle.tcp_socket.proofs.Answered.{received_draws, takes_answer_draws, later_arrives}
 use Rattle.tcp_socket.proofs.Arrivals.{length-store, length-front, stored_cut}
-use Rattle.tcp_socket.specs.Answering.{next_at, continued_by, reply_of}
+use Rattle.tcp_socket.specs.Answering.{next_at, reply_of}
+use Rattle.tcp_socket.specs.OnePass.{text_by, content_by, rest_by, taken_by}
 use Rattle.tcp_socket.specs.declared.arrival.Due.TheVariants as Is
 use Rattle.tcp_socket.specs.Replies.{replies_in, packet_in, packet_with}
 
@@ -140,24 +141,27 @@ abbrev fin_by : ContextValue → State → SeqNumber → Texted → IpRepr → T
 fin_by cx state next t ip header size =
     finished cx (record (next_at t.socket.block next) { state = state }) t ip header size
 
+state_by : (stored : Option ℕ) (v : TcpValue) (header : TcpHeader) (bytes : List ℕ) → (text_by stored v header bytes).socket.block.state ≡ v.block.state
+state_by None v header bytes = state_text v (past_by v.block.receiver.next header.seq_number) (drop (before_by v.block.receiver.next header.seq_number) bytes)
+state_by (Some count) v header bytes = refl
+
 -- the text is taken, then the FIN
-pub content_leads : (cx : ContextValue) (next : SeqNumber) (v w : TcpValue) (advance : ℕ) (fills : Bool) (early : Option ℕ) (ip : IpRepr) (header : TcpHeader)
-    (bytes : List ℕ) (answer : Option Reply) (socket : TcpValue)
-    → next ≡ v.block.receiver.next → texted w advance fills early ≡ with_text v header bytes
+pub content_leads : (stored : Option ℕ) (cx : ContextValue) (next : SeqNumber) (v w : TcpValue) (advance : ℕ) (fills : Bool) (early : Option ℕ) (ip : IpRepr)
+    (header : TcpHeader) (bytes : List ℕ) (answer : Option Reply) (socket : TcpValue)
+    → next ≡ v.block.receiver.next → texted w advance fills early ≡ text_by stored v header bytes
     → answer ≡ (finished cx (next_at w.block next) (texted w advance fills early) ip header (length bytes)).answer →
     socket ≡ (finished cx (next_at w.block next) (texted w advance fills early) ip header (length bytes)).socket
-    → Leads (finished cx v.block (with_text v header bytes) ip header (length bytes)) answer socket
-content_leads cx next v w advance fills early ip header bytes answer socket next_is text a s =
+    → Leads (content_by stored cx v ip header bytes) answer socket
+content_leads stored cx next v w advance fills early ip header bytes answer socket next_is text a s =
     let size = length bytes in
-    let t = with_text v header bytes in
+    let t = text_by stored v header bytes in
     let first : Leads (fin_by cx t.socket.block.state next t ip header size) answer socket =
     subst (λ (x : Texted). Leads (fin_by cx x.socket.block.state next x ip header size) answer socket) text (record { answer = a; socket = s })
     in
     let second : Leads (fin_by cx t.socket.block.state v.block.receiver.next t ip header size) answer socket =
     subst (λ (n : SeqNumber). Leads (fin_by cx t.socket.block.state n t ip header size) answer socket) next_is first
     in
-    let state = state_text v (past_by v.block.receiver.next header.seq_number) (drop (before_by v.block.receiver.next header.seq_number) bytes) in
-    subst (λ (x : State). Leads (fin_by cx x v.block.receiver.next t ip header size) answer socket) state second
+    subst (λ (x : State). Leads (fin_by cx x v.block.receiver.next t ip header size) answer socket) (state_by stored v header bytes) second
 
 if_open : (closed : Bool) (a b : Arrived) (answer : Option Reply) (socket : TcpValue) → closed ≡ false → Leads b answer socket →
     Leads (if closed then a else b) answer socket
@@ -165,31 +169,30 @@ if_open true a b answer socket is leads = absurd (cc)
 if_open false a b answer socket is leads = leads
 
 -- the window is taken, then text and FIN
-pub rest_leads : (cx : ContextValue) (duplicates : ℕ) (v w : TcpValue) (ip : IpRepr) (header : TcpHeader) (bytes : List ℕ) (answer : Option Reply)
-    (socket : TcpValue)
+pub rest_leads : (stored : Option ℕ) (cx : ContextValue) (duplicates : ℕ) (v w : TcpValue) (ip : IpRepr) (header : TcpHeader) (bytes : List ℕ)
+    (answer : Option Reply) (socket : TcpValue)
     → is_closed v.block.state ≡ false → w ≡ told v header duplicates cx.moment
-    → answer ≡ (finished cx w.block (with_text w header bytes) ip header (length bytes)).answer →
-    socket ≡ (finished cx w.block (with_text w header bytes) ip header (length bytes)).socket
-    → Leads (continued_by cx duplicates v ip header bytes) answer socket
-rest_leads cx duplicates v w ip header bytes answer socket opened w_is a s =
+    → answer ≡ (content_by stored cx w ip header bytes).answer → socket ≡ (content_by stored cx w ip header bytes).socket
+    → Leads (rest_by stored cx duplicates v ip header bytes) answer socket
+rest_leads stored cx duplicates v w ip header bytes answer socket opened w_is a s =
     let counts = told v header duplicates cx.moment in
-    let first = leads_to (λ (x : TcpValue). finished cx x.block (with_text x header bytes) ip header (length bytes)) w counts answer socket w_is a s in
-    if_open (is_closed v.block.state) (dropped v) (finished cx counts.block (with_text counts header bytes) ip header (length bytes)) answer socket opened first
+    let first = leads_to (λ (x : TcpValue). content_by stored cx x ip header bytes) w counts answer socket w_is a s in
+    if_open (is_closed v.block.state) (dropped v) (content_by stored cx counts ip header bytes) answer socket opened first
 
 -- the acknowledgement is taken, then the rest
-pub taken_leads : (cx : ContextValue) (duplicates : ℕ) (v w : TcpValue) (now : ℤ) (ip : IpRepr) (header : TcpHeader) (bytes : List ℕ) (by : ℕ)
+pub taken_leads : (stored : Option ℕ) (cx : ContextValue) (duplicates : ℕ) (v w : TcpValue) (now : ℤ) (ip : IpRepr) (header : TcpHeader) (bytes : List ℕ) (by : ℕ)
     (answer : Option Reply) (socket : TcpValue)
     → duplicates ≡ duplicates_after v.block header (length bytes) by → now ≡ cx.moment → w ≡ acknowledged (echo_heard v header by now) by now
-    → answer ≡ (continued_by cx duplicates w ip header bytes).answer → socket ≡ (continued_by cx duplicates w ip header bytes).socket
-    → Leads (taken cx v ip header bytes by) answer socket
-taken_leads cx duplicates v w now ip header bytes by answer socket count now_is w_is a s =
+    → answer ≡ (rest_by stored cx duplicates w ip header bytes).answer → socket ≡ (rest_by stored cx duplicates w ip header bytes).socket
+    → Leads (taken_by stored cx v ip header bytes by) answer socket
+taken_leads stored cx duplicates v w now ip header bytes by answer socket count now_is w_is a s =
     let acked : w ≡ acknowledged (echo_heard v header by cx.moment) by cx.moment =
     w_is ∙ ap (λ (m : ℤ). acknowledged (echo_heard v header by m) by m) now_is
     in
-    let first : Leads (continued_by cx (duplicates_after v.block header (length bytes) by) w ip header bytes) answer socket =
-    subst (λ (n : ℕ). Leads (continued_by cx n w ip header bytes) answer socket) count (record { answer = a; socket = s })
+    let first : Leads (rest_by stored cx (duplicates_after v.block header (length bytes) by) w ip header bytes) answer socket =
+    subst (λ (n : ℕ). Leads (rest_by stored cx n w ip header bytes) answer socket) count (record { answer = a; socket = s })
     in
-    leads_to (λ (x : TcpValue). continued_by cx (duplicates_after v.block header (length bytes) by) x ip header bytes) w
+    leads_to (λ (x : TcpValue). rest_by stored cx (duplicates_after v.block header (length bytes) by) x ip header bytes) w
     (acknowledged (echo_heard v header by cx.moment) by cx.moment) answer socket acked first.answer first.socket
 
 -- of two arrivals the first, or the second

@@ -1,18 +1,15 @@
 -- The answer that is due to a segment, which is made of the socket as the segment left it; and what is kept of the socket as it
 -- was before.
-use Rattle.std.specs.Prelude.{ℕ, ℤ, if◌then◌else◌, List, Option, Some, None}
+use Rattle.std.specs.Prelude.{ℕ, ℤ, List, Option, Some, None}
 use Rattle.ip_wire.specs.IpRepr.{IpRepr}
 use Rattle.ip_wire.specs.SeqNumber.{SeqNumber}
 use Rattle.ip_wire.specs.TcpHeader.{TcpHeader}
-use Rattle.socket_base.specs.Context.{ContextValue}
 use Rattle.tcp_model.specs.declared.block.Block.{Block}
 use Rattle.tcp_model.specs.Answers.{ranges_held}
-use Rattle.tcp_model.specs.Arrival.{with_content, told}
 use Rattle.tcp_model.specs.Endpoints.{pair_in}
 use Rattle.tcp_model.specs.Reply.{Reply}
 use Rattle.tcp_model.specs.Segments.{no_ranges, sack_segment, reply_to, rst_reply, hops_of}
-use Rattle.tcp_model.specs.States.{is_closed}
-use Rattle.tcp_model.specs.Value.{TcpValue, Arrived, dropped}
+use Rattle.tcp_model.specs.Value.{TcpValue}
 use Rattle.tcp_socket.specs.declared.arrival.Due.{Due}
 use Rattle.tcp_socket.specs.declared.arrival.Due.TheVariants as Is
 
@@ -33,9 +30,3 @@ answer_of (Some due) now v ip header size = Some (reply_of due now v ip header s
 -- the block with another RCV.NXT
 abbrev pub next_at : Block → SeqNumber → Block
 next_at b next = record b { receiver = record b.receiver { next = next } }
-
--- `continued` where so many duplicates came in a row
-abbrev pub continued_by : ContextValue → ℕ → TcpValue → IpRepr → TcpHeader → List ℕ → Arrived
-continued_by cx duplicates v ip header bytes =
-    if is_closed v.block.state then dropped v
-    else with_content cx (told v header duplicates cx.moment) ip header bytes

@@ -1,18 +1,18 @@
 -- A segment whose text is gone through once: it is copied behind what waits to be read, and summed by that.
-use Rattle.std.specs.Prelude.{ℕ, ℤ, ◌==◌, nat_le, not, ◌&&◌, ◌||◌, Bool, true, false, List, length, None, is_some}
+use Rattle.std.specs.Prelude.{ℕ, ℤ, ◌==◌, nat_le, not, ◌&&◌, ◌||◌, Bool, true, false, if◌then◌else◌, List, length, Option, Some, None, is_some}
 use Rattle.ip_wire.specs.IpRepr.{IpRepr}
 use Rattle.ip_wire.specs.TcpHeader.{TcpHeader}
 use Rattle.socket_base.specs.Context.{ContextValue}
-use Rattle.tcp_model.specs.Acknowledged.{acknowledged}
+use Rattle.tcp_model.specs.Acknowledged.{acknowledged, duplicates_after}
 use Rattle.tcp_model.specs.Arrival.{draws_first, echo_heard, told, finished}
 use Rattle.tcp_model.specs.Checks.{Check, acknowledgement_check}
 use Rattle.tcp_model.specs.Checks.Check.{Passes}
 use Rattle.tcp_model.specs.Controls.{is_syn, is_rst}
-use Rattle.tcp_model.specs.Text.{is_holding, with_next, texted}
-use Rattle.tcp_model.specs.Value.{TcpValue, Arrived, with_block, free_in}
+use Rattle.tcp_model.specs.States.{is_closed}
+use Rattle.tcp_model.specs.Text.{Texted, is_holding, with_next, with_text, texted}
+use Rattle.tcp_model.specs.Value.{TcpValue, Arrived, dropped, with_block, free_in}
 use Rattle.tcp_model.specs.State.{State}
 use Rattle.tcp_model.specs.State.TheVariants as In
-use Rattle.tcp_socket.specs.Answering.{next_at}
 use Rattle.tcp_socket.specs.Receive.{in_order}
 
 abbrev pub is_established : State → Bool
@@ -41,16 +41,26 @@ goes_in_one_pass now v header bytes =
 abbrev pub stored : TcpValue → List ℕ → TcpValue
 stored v bytes = record v { received = in_order v.received bytes }
 
--- what is acknowledged and what its window and its ranges tell, of a segment with text, which is no duplicate
-abbrev pub told_first : TcpValue → TcpHeader → ℕ → ℤ → TcpValue
-told_first v header by now = told (acknowledged (echo_heard v header by now) by now) header 0 now
-
 -- RCV.NXT rises by so much
 abbrev pub advanced : TcpValue → ℕ → TcpValue
 advanced v count = with_block v (with_next v.block count)
 
--- the rest of such a segment, with so many bytes stored already
-abbrev pub taken_stored : ContextValue → TcpValue → IpRepr → TcpHeader → ℕ → ℕ → ℕ → Arrived
-taken_stored cx v ip header size by count =
-    finished cx (next_at (advanced (told_first v header by cx.moment) count).block (told_first v header by cx.moment).block.receiver.next)
-    (texted (advanced (told_first v header by cx.moment) count) count false None) ip header size
+-- the text of a segment; where so many bytes are stored already, RCV.NXT rises by them
+abbrev pub text_by : Option ℕ → TcpValue → TcpHeader → List ℕ → Texted
+text_by None v header bytes = with_text v header bytes
+text_by (Some count) v header bytes = texted (advanced v count) count false None
+
+-- its text and its FIN
+abbrev pub content_by : Option ℕ → ContextValue → TcpValue → IpRepr → TcpHeader → List ℕ → Arrived
+content_by stored cx v ip header bytes = finished cx v.block (text_by stored v header bytes) ip header (length bytes)
+
+-- what is left of it where its acknowledgement was taken, and so many duplicates came in a row
+abbrev pub rest_by : Option ℕ → ContextValue → ℕ → TcpValue → IpRepr → TcpHeader → List ℕ → Arrived
+rest_by stored cx duplicates v ip header bytes =
+    if is_closed v.block.state then dropped v
+    else content_by stored cx (told v header duplicates cx.moment) ip header bytes
+
+-- an accepted segment
+abbrev pub taken_by : Option ℕ → ContextValue → TcpValue → IpRepr → TcpHeader → List ℕ → ℕ → Arrived
+taken_by stored cx v ip header bytes by =
+    rest_by stored cx (duplicates_after v.block header (length bytes) by) (acknowledged (echo_heard v header by cx.moment) by cx.moment) ip header bytes

@@ -7,7 +7,7 @@ ghost use Rattle.ip_wire.specs.Tcp.{header_of};
 ghost use Rattle.tcp_model.specs.Acknowledged.{acknowledged};
 ghost use Rattle.tcp_model.specs.Answers.{ack_recorded, acked, drawn, ack_due, ranges_held, answers_at_once, answer_for};
 ghost use Rattle.tcp_model.specs.Arrival.{waiting_anew, outside, tells_news, comes_again, passed_outside, finished, told};
-ghost use Rattle.tcp_model.specs.Arrival.{echo_heard, taken, inside, checked, challenges_reset};
+ghost use Rattle.tcp_model.specs.Arrival.{echo_heard, inside, checked, challenges_reset};
 ghost use Rattle.tcp_model.specs.Arrival.{reset_comes, draws_first, received, is_void_syn, arrives_in, arrives};
 ghost use Rattle.tcp_model.specs.Checks.{acknowledgement_check, taken_down};
 ghost use Rattle.tcp_model.specs.Checks.Check.{Passes, Old};
@@ -15,11 +15,12 @@ ghost use Rattle.tcp_model.specs.Controls.{is_zero};
 ghost use Rattle.tcp_model.specs.Names.{accepts};
 ghost use Rattle.tcp_model.specs.Opening.{acks_syn, is_first_syn, opens, syn_answered, takes_answer};
 ghost use Rattle.tcp_model.specs.Segments.{rst_reply, no_ranges};
-ghost use Rattle.tcp_model.specs.Text.{texted, with_text, with_fin};
+ghost use Rattle.tcp_model.specs.Text.{texted, with_fin};
 ghost use Rattle.tcp_model.specs.Timeout.{timeout_restarted};
 ghost use Rattle.tcp_model.specs.Value.{ended, queued_in, room_of, window_of, with_block};
 ghost use Rattle.tcp_socket.specs.Replies.{replies_in, packet_in, packet_with};
-ghost use Rattle.tcp_socket.specs.Answering.{acknowledgement, reply_of, answer_of, next_at, continued_by};
+ghost use Rattle.tcp_socket.specs.Answering.{acknowledgement, reply_of, answer_of, next_at};
+ghost use Rattle.tcp_socket.specs.OnePass.{taken_by, rest_by, content_by};
 
 use crate::Socket;
 use crate::text::Text;
@@ -366,7 +367,7 @@ impl Socket {
         {
             self.block.hear();
             self.block.take_stamp(incoming.header, cx.now());
-            self.take_content(cx, incoming)
+            self.take_content(cx, incoming, None)
         } else {
             let again = self.comes_again(incoming);
             self.answer_outside(cx, incoming, again)
@@ -472,7 +473,7 @@ impl Socket {
         if is_syn(incoming.header.control) {
             self.draw(cx, incoming)
         } else {
-            self.take(cx, incoming, by)
+            self.take(cx, incoming, by, None)
         }
     }
 
@@ -488,18 +489,26 @@ impl Socket {
         }
     }
 
-    /// An accepted segment.
-    fn take<C: Context>(&mut self, cx: &C, incoming: &Incoming<'_>, by: u32) -> Option<Due>
+    /// An accepted segment. Of its text so many bytes may be stored already, by which RCV.NXT is to rise.
+    pub(crate) fn take<C: Context>(
+        &mut self,
+        cx: &C,
+        incoming: &Incoming<'_>,
+        by: u32,
+        stored: Option<usize>,
+    ) -> Option<Due>
         requires unoffered { self.old.offered ≡ None }
+        requires small { IfSome stored (λ n. n ≤ 2 ^ 30) }
         ensures answer { answer_of result (C.context cx.now).moment self.new incoming.now.ip_repr.now incoming.now.header.now (length incoming.now.bytes.now) ≡
-            (taken (C.context cx.now) self.old incoming.now.ip_repr.now incoming.now.header.now incoming.now.bytes.now by).answer }
-        ensures socket { self.new ≡ (taken (C.context cx.now) self.old incoming.now.ip_repr.now incoming.now.header.now incoming.now.bytes.now by).socket }
+            (taken_by stored (C.context cx.now) self.old incoming.now.ip_repr.now incoming.now.header.now incoming.now.bytes.now by).answer }
+        ensures socket { self.new ≡
+            (taken_by stored (C.context cx.now) self.old incoming.now.ip_repr.now incoming.now.header.now incoming.now.bytes.now by).socket }
     {
         let duplicates = self
             .block
             .duplicates_after(incoming.header, incoming.bytes.len(), by);
         self.acknowledge(incoming.header, by, cx.now());
-        self.take_rest(cx, duplicates, incoming)
+        self.take_rest(cx, duplicates, incoming, stored)
     }
 
     /// What is left of a segment whose acknowledgement was taken, and which is so many duplicates in a
@@ -509,23 +518,24 @@ impl Socket {
         cx: &C,
         duplicates: u8,
         incoming: &Incoming<'_>,
+        stored: Option<usize>,
     ) -> Option<Due>
         requires unoffered { self.old.offered ≡ None }
+        requires small { IfSome stored (λ n. n ≤ 2 ^ 30) }
         ensures answer { answer_of result (C.context cx.now).moment self.new incoming.now.ip_repr.now incoming.now.header.now (length incoming.now.bytes.now) ≡
-            (continued_by (C.context cx.now) duplicates self.old incoming.now.ip_repr.now incoming.now.header.now incoming.now.bytes.now).answer }
+            (rest_by stored (C.context cx.now) duplicates self.old incoming.now.ip_repr.now incoming.now.header.now incoming.now.bytes.now).answer }
         ensures socket { self.new ≡
-            (continued_by (C.context cx.now) duplicates self.old incoming.now.ip_repr.now incoming.now.header.now incoming.now.bytes.now).socket }
+            (rest_by stored (C.context cx.now) duplicates self.old incoming.now.ip_repr.now incoming.now.header.now incoming.now.bytes.now).socket }
     {
         if self.block.state.is_closed() {
             return None;
         }
         self.take_window(incoming.header, duplicates, cx.now());
-        self.take_content(cx, incoming)
+        self.take_content(cx, incoming, stored)
     }
 
     /// The window of a segment and what its ranges name. It is so many duplicates in a row.
-    #[inline(always)]
-    pub(crate) fn take_window(&mut self, header: &TcpHeader, duplicates: u8, now: Instant)
+    fn take_window(&mut self, header: &TcpHeader, duplicates: u8, now: Instant)
         requires unoffered { self.old.offered ≡ None }
         requires moment { IsMoment now }
         ensures { self.new ≡ told self.old header.now duplicates now }
@@ -551,7 +561,7 @@ impl Socket {
     }
 
     /// The echo of a segment is taken, SND.UNA rises by so much, and what is acknowledged is freed.
-    pub(crate) fn acknowledge(&mut self, header: &TcpHeader, by: u32, now: Instant)
+    fn acknowledge(&mut self, header: &TcpHeader, by: u32, now: Instant)
         requires unoffered { self.old.offered ≡ None }
         requires moment { IsMoment now }
         ensures { self.new ≡ acknowledged (echo_heard self.old header.now by now) by now }
@@ -564,23 +574,26 @@ impl Socket {
     }
 
     /// The text and the FIN of an accepted segment, and what answers it.
-    fn take_content<C: Context>(&mut self, cx: &C, incoming: &Incoming<'_>) -> Option<Due>
+    fn take_content<C: Context>(
+        &mut self,
+        cx: &C,
+        incoming: &Incoming<'_>,
+        stored: Option<usize>,
+    ) -> Option<Due>
         requires unoffered { self.old.offered ≡ None }
+        requires small { IfSome stored (λ n. n ≤ 2 ^ 30) }
         ensures answer { answer_of result (C.context cx.now).moment self.new incoming.now.ip_repr.now incoming.now.header.now (length incoming.now.bytes.now) ≡
-            (finished (C.context cx.now) self.old.block (with_text self.old incoming.now.header.now incoming.now.bytes.now) incoming.now.ip_repr.now
-            incoming.now.header.now (length incoming.now.bytes.now)).answer }
+            (content_by stored (C.context cx.now) self.old incoming.now.ip_repr.now incoming.now.header.now incoming.now.bytes.now).answer }
         ensures socket { self.new ≡
-            (finished (C.context cx.now) self.old.block (with_text self.old incoming.now.header.now incoming.now.bytes.now) incoming.now.ip_repr.now
-            incoming.now.header.now (length incoming.now.bytes.now)).socket }
+            (content_by stored (C.context cx.now) self.old incoming.now.ip_repr.now incoming.now.header.now incoming.now.bytes.now).socket }
     {
         let next = self.block.receiver.next;
-        let text = self.take_text(incoming.header, incoming.bytes);
+        let text = self.take_text(incoming.header, incoming.bytes, stored);
         self.finish(cx, next, &text, incoming)
     }
 
     /// The FIN of a segment whose text was taken, and what answers it. RCV.NXT was `next` before that.
-    #[inline(always)]
-    pub(crate) fn finish<C: Context>(
+    fn finish<C: Context>(
         &mut self,
         cx: &C,
         next: SeqNumber,

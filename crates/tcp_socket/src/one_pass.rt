@@ -9,12 +9,11 @@ ghost use Rattle.tcp_model.specs.Checks.Check.{Passes};
 ghost use Rattle.tcp_model.specs.Controls.{is_syn, is_rst};
 ghost use Rattle.tcp_model.specs.Text.{is_holding};
 ghost use Rattle.tcp_socket.specs.Answering.{answer_of};
-ghost use Rattle.tcp_socket.specs.OnePass.{is_established, is_passed, comes_next, goes_in_one_pass, taken_stored};
+ghost use Rattle.tcp_socket.specs.OnePass.{is_established, is_passed, comes_next, goes_in_one_pass};
 ghost use Rattle.tcp_socket.specs.Replies.{packet_in};
 
 use crate::Socket;
 use crate::arrival::{Due, Incoming};
-use crate::text::Text;
 use ip_wire::{IpRepr, SeqNumber, TcpHeader};
 use net_base::Instant;
 use socket_base::Context;
@@ -60,7 +59,7 @@ impl Socket {
             header,
             bytes,
         };
-        Ok(self.take_stored(cx, &incoming, by, count))
+        Ok(self.take(cx, &incoming, by, Some(count)))
     }
 
     /// How far past SND.UNA a segment acknowledges, where it goes in one pass.
@@ -102,35 +101,6 @@ impl Socket {
         ensures { result ≡ (not (is_syn header.now.control || is_rst header.now.control) && not (draws_first self.now.block header.now now)) }
     {
         !is_syn(header.control) && !is_rst(header.control) && !self.block.is_stale(header, now)
-    }
-
-    /// What is left of such a segment, of whose text so many bytes are stored. It is no duplicate, since it has text.
-    #[inline(never)]
-    fn take_stored<C: Context>(
-        &mut self,
-        cx: &C,
-        incoming: &Incoming<'_>,
-        by: u32,
-        count: usize,
-    ) -> Option<Due>
-        requires unoffered { self.old.offered ≡ None }
-        requires small { count ≤ 2 ^ 30 }
-        ensures answer { answer_of result (C.context cx.now).moment self.new incoming.now.ip_repr.now incoming.now.header.now (length incoming.now.bytes.now) ≡
-            (taken_stored (C.context cx.now) self.old incoming.now.ip_repr.now incoming.now.header.now (length incoming.now.bytes.now) by count).answer }
-        ensures socket { self.new ≡
-            (taken_stored (C.context cx.now) self.old incoming.now.ip_repr.now incoming.now.header.now (length incoming.now.bytes.now) by count).socket }
-    {
-        let (header, now) = (incoming.header, cx.now());
-        self.acknowledge(header, by, now);
-        self.take_window(header, 0, now);
-        let next = self.block.receiver.next;
-        self.block.advance(count);
-        let text = Text {
-            advance: count,
-            fills: false,
-            early: None,
-        };
-        self.finish(cx, next, &text, incoming)
     }
 }
 

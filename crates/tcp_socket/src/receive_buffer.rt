@@ -200,6 +200,9 @@ fn copy_summed(ring: &mut RingBuffer<u8>, bytes: &[u8]) -> u16
 {
     let first = bytes.len().min(ring.contiguous_window());
     let front = copy_unbroken(ring, 0, &bytes[..first]);
+    if first == bytes.len() {
+        return front;
+    }
     let back = copy_unbroken(ring, first, &bytes[first..]);
     checksum::join(front, first, back)
 }

@@ -1,6 +1,7 @@
 //! The text of a segment that is taken.
-ghost use Rattle.std.specs.Prelude.{◌≡◌, ◌+◌, ◌≤◌, ◌^◌, length, None};
+ghost use Rattle.std.specs.Prelude.{◌≡◌, ◌+◌, ◌≤◌, ◌^◌, length, IfSome, None};
 ghost use Rattle.tcp_model.specs.Text.{texted, with_text, with_text_at, with_bytes_at};
+ghost use Rattle.tcp_socket.specs.OnePass.{text_by};
 
 use crate::Socket;
 use ip_wire::TcpHeader;
@@ -24,8 +25,34 @@ impl Text {
 }
 
 impl Socket {
-    /// The text of an accepted segment.
-    pub(crate) fn take_text(&mut self, header: &TcpHeader, bytes: &[u8]) -> Text
+    /// The text of an accepted segment. Where so many bytes are stored already, RCV.NXT rises by them.
+    pub(crate) fn take_text(
+        &mut self,
+        header: &TcpHeader,
+        bytes: &[u8],
+        stored: Option<usize>,
+    ) -> Text
+        requires unoffered { self.old.offered ≡ None }
+        requires small { IfSome stored (λ n. n ≤ 2 ^ 30) }
+        ensures text { texted self.new result.advance result.fills result.early ≡ text_by stored self.old header.now bytes.now }
+        ensures small { result.advance ≤ 2 ^ 30 }
+        ensures unoffered { self.new.offered ≡ None }
+    {
+        match stored {
+            Some(advance) => {
+                self.block.advance(advance);
+                Text {
+                    advance,
+                    fills: false,
+                    early: None,
+                }
+            }
+            None => self.store_text(header, bytes),
+        }
+    }
+
+    /// The text of an accepted segment, of which nothing is stored.
+    fn store_text(&mut self, header: &TcpHeader, bytes: &[u8]) -> Text
         requires unoffered { self.old.offered ≡ None }
         ensures text { texted self.new result.advance result.fills result.early ≡ with_text self.old header.now bytes.now }
         ensures small { result.advance ≤ 2 ^ 30 }

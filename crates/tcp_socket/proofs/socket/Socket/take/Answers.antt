@@ -12,7 +12,7 @@ returns-clause-answer g c =
     let count : c.duplicates_after-duplicates.result ≡ duplicates_after c.args.self.now.block i.header.now (length i.bytes.now) c.args.by =
     c.duplicates_after-duplicates.ensures ∙ ap (λ (w : TcpValue). duplicates_after w.block i.header.now (length i.bytes.now) c.args.by) c.self.view_is
     in
-    (taken_leads cx c.duplicates_after-duplicates.result c.args.self.now c.acknowledge.new.self c.now.result i.ip_repr.now i.header.now i.bytes.now c.args.by
+    (taken_leads c.args.stored cx c.duplicates_after-duplicates.result c.args.self.now c.acknowledge.new.self c.now.result i.ip_repr.now i.header.now i.bytes.now c.args.by
     (answer_of c.take_rest.result cx.moment c.take_rest.new.self i.ip_repr.now i.header.now (length i.bytes.now)) c.take_rest.new.self count c.now.ensures.value
     c.acknowledge.ensures c.take_rest.ensures.answer c.take_rest.ensures.socket).answer
 
@@ -23,6 +23,6 @@ returns-clause-socket g c =
     let count : c.duplicates_after-duplicates.result ≡ duplicates_after c.args.self.now.block i.header.now (length i.bytes.now) c.args.by =
     c.duplicates_after-duplicates.ensures ∙ ap (λ (w : TcpValue). duplicates_after w.block i.header.now (length i.bytes.now) c.args.by) c.self.view_is
     in
-    (taken_leads cx c.duplicates_after-duplicates.result c.args.self.now c.acknowledge.new.self c.now.result i.ip_repr.now i.header.now i.bytes.now c.args.by
+    (taken_leads c.args.stored cx c.duplicates_after-duplicates.result c.args.self.now c.acknowledge.new.self c.now.result i.ip_repr.now i.header.now i.bytes.now c.args.by
     (answer_of c.take_rest.result cx.moment c.take_rest.new.self i.ip_repr.now i.header.now (length i.bytes.now)) c.take_rest.new.self count c.now.ensures.value
     c.acknowledge.ensures c.take_rest.ensures.answer c.take_rest.ensures.socket).socket

@@ -16,9 +16,9 @@ returns-clause-answer g c =
     let header = c.args.header.now in
     let bytes = c.args.bytes.now in
     (one_pass_leads cx c.self.inside.block c.self.inside.received c.store_summed.new.self c.self.inside.queued c.self.inside.offered v ip header bytes c.in-Some.by
-    c.in-Some-store_summed.count (answer_of c.take_stored.result cx.moment c.take_stored.new.self ip header (length bytes)) c.take_stored.new.self
+    c.in-Some-store_summed.count (answer_of c.take.result cx.moment c.take.new.self ip header (length bytes)) c.take.new.self
     c.self.view_is (goes_at c.now.result cx.moment v header bytes c.now.ensures.value c.in-Some.ensures.test) c.in-Some.ensures.next c.in-Some.ensures.by
-    c.in-Some-store_summed.ensures.count c.in-Some-store_summed.ensures.stored c.take_stored.ensures.answer c.take_stored.ensures.socket).answer
+    c.in-Some-store_summed.ensures.count c.in-Some-store_summed.ensures.stored c.take.ensures.answer c.take.ensures.socket).answer
 
 pub returns-clause-socket : goal.returns-clause-socket
 returns-clause-socket g c =
@@ -28,9 +28,9 @@ returns-clause-socket g c =
     let header = c.args.header.now in
     let bytes = c.args.bytes.now in
     (one_pass_leads cx c.self.inside.block c.self.inside.received c.store_summed.new.self c.self.inside.queued c.self.inside.offered v ip header bytes c.in-Some.by
-    c.in-Some-store_summed.count (answer_of c.take_stored.result cx.moment c.take_stored.new.self ip header (length bytes)) c.take_stored.new.self
+    c.in-Some-store_summed.count (answer_of c.take.result cx.moment c.take.new.self ip header (length bytes)) c.take.new.self
     c.self.view_is (goes_at c.now.result cx.moment v header bytes c.now.ensures.value c.in-Some.ensures.test) c.in-Some.ensures.next c.in-Some.ensures.by
-    c.in-Some-store_summed.ensures.count c.in-Some-store_summed.ensures.stored c.take_stored.ensures.answer c.take_stored.ensures.socket).socket
+    c.in-Some-store_summed.ensures.count c.in-Some-store_summed.ensures.stored c.take.ensures.answer c.take.ensures.socket).socket
 
 pub returns-clause-sendable : goal.returns-clause-sendable
 returns-clause-sendable g c =
@@ -41,9 +41,9 @@ returns-clause-sendable g c =
     let bytes = c.args.bytes.now in
     subst (λ (o : Option Reply). IfSome o (λ x. IsSendable (packet_in x)))
     (sym (one_pass_leads cx c.self.inside.block c.self.inside.received c.store_summed.new.self c.self.inside.queued c.self.inside.offered v ip header bytes c.in-Some.by
-    c.in-Some-store_summed.count (answer_of c.take_stored.result cx.moment c.take_stored.new.self ip header (length bytes)) c.take_stored.new.self
+    c.in-Some-store_summed.count (answer_of c.take.result cx.moment c.take.new.self ip header (length bytes)) c.take.new.self
     c.self.view_is (goes_at c.now.result cx.moment v header bytes c.now.ensures.value c.in-Some.ensures.test) c.in-Some.ensures.next c.in-Some.ensures.by
-    c.in-Some-store_summed.ensures.count c.in-Some-store_summed.ensures.stored c.take_stored.ensures.answer c.take_stored.ensures.socket).answer)
+    c.in-Some-store_summed.ensures.count c.in-Some-store_summed.ensures.stored c.take.ensures.answer c.take.ensures.socket).answer)
     (sendable_answer cx v ip header bytes)
 
 pub returns-clause-quiet : goal.returns-clause-quiet

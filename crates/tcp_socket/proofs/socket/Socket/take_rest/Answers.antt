@@ -16,7 +16,7 @@ returns-clause-answer g c =
     let heard : c.take_window.new.self ≡ told v i.header.now c.args.duplicates cx.moment =
     c.take_window.ensures ∙ ap (λ (m : ℤ). told v i.header.now c.args.duplicates m) c.now.ensures.value
     in
-    (rest_leads cx c.args.duplicates v c.take_window.new.self i.ip_repr.now i.header.now i.bytes.now
+    (rest_leads c.args.stored cx c.args.duplicates v c.take_window.new.self i.ip_repr.now i.header.now i.bytes.now
     (answer_of c.take_content.result cx.moment c.take_content.new.self i.ip_repr.now i.header.now (length i.bytes.now)) c.take_content.new.self opened heard
     c.take_content.ensures.answer c.take_content.ensures.socket).answer
 
@@ -30,6 +30,6 @@ returns-clause-socket g c =
     let heard : c.take_window.new.self ≡ told v i.header.now c.args.duplicates cx.moment =
     c.take_window.ensures ∙ ap (λ (m : ℤ). told v i.header.now c.args.duplicates m) c.now.ensures.value
     in
-    (rest_leads cx c.args.duplicates v c.take_window.new.self i.ip_repr.now i.header.now i.bytes.now
+    (rest_leads c.args.stored cx c.args.duplicates v c.take_window.new.self i.ip_repr.now i.header.now i.bytes.now
     (answer_of c.take_content.result cx.moment c.take_content.new.self i.ip_repr.now i.header.now (length i.bytes.now)) c.take_content.new.self opened heard
     c.take_content.ensures.answer c.take_content.ensures.socket).socket

@@ -1,7 +1,7 @@
 use Rattle.std.proofs.Common.{ap}
 use Rattle.tcp_model.specs.Value.{TcpValue}
 use Rattle.tcp_socket.proofs.Steps.{text_leads}
-use Rattle.tcp_socket.proofs.socket.Socket.take_text.Goals as goal
+use Rattle.tcp_socket.proofs.socket.Socket.store_text.Goals as goal
 
 pub returns-clause-text : goal.returns-clause-text
 returns-clause-text c =
