@@ -1,6 +1,9 @@
 -- A place that is changed where it stands.
 use Rattle.std.proofs.Common.{◌≡◌, ℕ, Bool, List, Option, None, Some, refl, sym, ap, subst}
 use Rattle.std.specs.Prelude.{slice_get, slice_set}
+use Rattle.std.proofs.Common.{◌∙◌}
+use Rattle.std.proofs.lemmas.List.{set-get_or}
+use Rattle.std.proofs.lemmas.Option.{get_or_from_slice_get}
 use Rattle.ip_wire.specs.IpRepr.{IpRepr}
 use Rattle.ip_wire.specs.UdpRepr.{UdpRepr}
 use Rattle.sockets.specs.Context.{ContextValue}
@@ -22,6 +25,13 @@ answer_here f places at place got = ap (λ o. answer_by f o) got
 pub passes_here : (f : Socket → Bool) (places : Places) (at : ℕ) (place : SocketStorage Socket) → slice_get places at ≡ Some place →
     passes_at f (Some at) places ≡ passes f place
 passes_here f places at place got = ap (λ o. passes_by f o) got
+
+-- a place that is put back as it was
+pub same_here : (places : Places) (at : ℕ) (place other : SocketStorage Socket) → slice_get places at ≡ Some place → other ≡ place →
+    slice_set places at other ≡ places
+same_here places at place other got same =
+    ap (λ (x : SocketStorage Socket). slice_set places at x) same ∙
+    subst (λ (x : SocketStorage Socket). slice_set places at x ≡ places) (get_or_from_slice_get places at place place got) (set-get_or places at place)
 
 pub given_here : (cx : ContextValue) (ip : IpRepr) (udp : UdpRepr) (bytes : List ℕ) (places : Places) (at : ℕ) (place place' : SocketStorage Socket) →
     slice_get places at ≡ Some place → PlaceTakes cx ip udp bytes place place' → GivenAt cx ip udp bytes (Some at) places (slice_set places at place')

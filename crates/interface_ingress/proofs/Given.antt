@@ -1,5 +1,5 @@
 -- Something that arrived for no socket changes none.
-use Rattle.std.proofs.Common.{◌≡◌, Bool, false, Option, None, Some, ap, ap₂, refl, sym, ◌∙◌, length}
+use Rattle.std.proofs.Common.{◌≡◌, Bool, false, Option, None, Some, ap, ap₂, refl, sym, ◌∙◌}
 use Rattle.std.specs.Prelude.{if◌then◌else◌, ◌∷◌, []}
 use Rattle.std.specs.List.{list_any}
 use Rattle.std.proofs.lemmas.Bool.{or_parts}

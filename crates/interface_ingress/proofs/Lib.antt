@@ -25,3 +25,4 @@ pub mod PieceSlots
 pub mod ShortWay
 pub mod OwnSources
 pub mod Sought
+pub mod OnePass

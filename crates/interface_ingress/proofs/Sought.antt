@@ -1,5 +1,5 @@
 -- Whoever something arrived for is found by the keys that it tells.
-use Rattle.std.proofs.Common.{◌≡◌, ◌⊎◌, inl, inr, ℕ, ◌&&◌, not, nat_lt, if◌then◌else◌, Bool, true, false, List, [], ◌∷◌, length, Option, Some, None, is_some, position, refl, sym, ap, ◌∙◌, arith}
+use Rattle.std.proofs.Common.{◌≡◌, ◌⊎◌, inl, inr, ℕ, not, nat_lt, if◌then◌else◌, Bool, true, false, List, [], ◌∷◌, length, Some, None, is_some, position, refl, sym, ap, ◌∙◌, arith}
 use Rattle.std.specs.List.{list_any, position_or_len}
 use Rattle.std.proofs.lemmas.Bool.{and_parts}
 use Rattle.ip_wire.specs.IpRepr.{IpRepr}
@@ -9,11 +9,10 @@ use Rattle.sockets.specs.Context.{ContextValue}
 use Rattle.sockets.specs.Keys.{key_of, of_clients, of_listeners, of_port, of_ports}
 use Rattle.sockets.specs.Socket.{accepts_datagram, accepts_segment}
 use Rattle.sockets.specs.TcpStates.{is_listening}
-use Rattle.sockets.specs.TcpValue.{TcpValue}
 use Rattle.sockets.specs.declared.socket.Socket.{Socket}
 use Rattle.sockets.specs.declared.socket.Socket.TheVariants as Kind
 use Rattle.sockets.proofs.Found.{of_connection, of_datagram, of_segment}
-use Rattle.interface_ingress.specs.Delivered.{is_connected, is_listener}
+use Rattle.interface_ingress.specs.Delivered.{is_connected}
 
 either : (a b k : ℕ) → (k ≡ a) ⊎ (k ≡ b) → (k ≡ a) ⊎ (Some b ≡ Some k)
 either a b k (inl one) = inl one

@@ -14,7 +14,7 @@ ghost use Rattle.interface_ingress.specs.Handed.{if_it_may, counted_in, let_go, 
 
 use crate::places::{Arrival, give_all, is_for_any};
 use crate::reply::Reply;
-use crate::search::{datagram_place, segment_place};
+use crate::search::{TESTED, datagram_place, segment_place};
 use crate::stream::process_segment;
 use icmpv4::Icmpv4Repr;
 use icmpv6::Icmpv6Repr;
@@ -210,7 +210,7 @@ pub fn deliver_datagram(
     ensures taken { result ≡ is_some (datagram_place (context_of inner.now) header.now udp.now places.old) }
     ensures places { IsDelivered (context_of inner.now) header.now udp.now bytes.now places.old places.new }
 {
-    match datagram_place(inner, places, header, udp) {
+    match datagram_place::<TESTED>(inner, places, header, udp) {
         Some(at) => {
             process_datagram_at(inner, places, at, header, udp, bytes);
             true
@@ -313,7 +313,7 @@ pub fn deliver_segment<'a>(
         (segment_answer (context_of inner.old) header.now segment.now bytes.now is_taken places.old)
         (drawn_if (segment_draws (context_of inner.old) header.now segment.now bytes.now places.old) inner.old) }
 {
-    match segment_place(places, header, segment) {
+    match segment_place::<TESTED>(places, header, segment) {
         Some(at) => process_at(inner, places, at, header, segment, bytes, reply),
         None => reset(inner, header, segment, bytes, is_taken, reply),
     }

@@ -27,6 +27,7 @@ use crate::heard::hear;
 use crate::icmp_reply::{
     echo_ipv4, echo_ipv6, parameter_problem, port_unreachable, protocol_unreachable,
 };
+use crate::one_pass::{take_long_datagram, take_long_segment};
 use crate::path::{hear_of_path_v4, hear_of_path_v6};
 use crate::reassemble::is_control;
 use crate::reply::{Reply, packet_reply};
@@ -122,7 +123,8 @@ fn is_for_many(inner: &InterfaceInner, address: &IpAddress) -> bool
 }
 
 /// Whether an address of the packet names no end of a connection.
-fn names_nobody(inner: &InterfaceInner, header: &IpRepr) -> bool
+#[inline(always)]
+pub(crate) fn names_nobody(inner: &InterfaceInner, header: &IpRepr) -> bool
     ensures { result ≡ names_nobody inner.now header.now }
 {
     let destination = header.dst_addr();
@@ -344,8 +346,8 @@ fn hand_datagram<'a>(
     }
 }
 
-/// Reads the datagram of a packet for the host, gives it to whom it concerns, and answers it.
-fn hand_udp<'a>(
+/// Reads the datagram of a packet for the host, its checksum too, gives it to whom it concerns, and answers it.
+fn hand_read_udp<'a>(
     inner: &mut InterfaceInner,
     places: &mut Places<Socket>,
     header: &IpRepr,
@@ -364,6 +366,30 @@ fn hand_udp<'a>(
 {
     let datagram = read_udp(upper.header, upper.bytes, &inner.checksum_caps());
     hand_datagram(inner, places, header, payload, is_taken, &datagram, reply);
+}
+
+/// Reads the datagram of a packet for the host, gives it to whom it concerns, and answers it: a long one in one pass, if it goes so.
+fn hand_udp<'a>(
+    inner: &mut InterfaceInner,
+    places: &mut Places<Socket>,
+    header: &IpRepr,
+    payload: &'a [u8],
+    is_taken: bool,
+    upper: &Upper<'_, 'a>,
+    reply: &mut Option<Reply<'a>>,
+)
+    requires protocol { carried_in upper.now.header.now ≡ Protocol.Udp }
+    requires fits { Fits header.now }
+    requires short { length payload.now < 2 ^ 16 }
+    requires none { reply.old ≡ None }
+    ensures hands { HandsUpper inner.old places.old header.now payload.now is_taken upper.now.header.now upper.now.bytes.now
+        (arrived inner.new places.new (reply_of reply.new)) }
+    ensures sendable { IfCanGo (reply_of reply.new) }
+{
+    if take_long_datagram(inner, places, header, upper.header, upper.bytes) {
+        return;
+    }
+    hand_read_udp(inner, places, header, payload, is_taken, upper, reply);
 }
 
 /// Gives a segment to its connection, else to the first socket that accepts it, and answers it.
@@ -416,8 +442,8 @@ fn hand_segment<'a>(
     }
 }
 
-/// Reads the segment of a packet for the host, gives it to whom it concerns, and answers it.
-fn hand_tcp<'a>(
+/// Reads the segment of a packet for the host, its checksum too, gives it to whom it concerns, and answers it.
+fn hand_read_tcp<'a>(
     inner: &mut InterfaceInner,
     places: &mut Places<Socket>,
     header: &IpRepr,
@@ -441,6 +467,31 @@ fn hand_tcp<'a>(
     hand_segment(
         inner, places, header, payload, is_taken, &segment, bytes, reply,
     );
+}
+
+/// Reads the segment of a packet for the host, gives it to whom it concerns, and answers it: a long one in one pass, if it goes so.
+fn hand_tcp<'a>(
+    inner: &mut InterfaceInner,
+    places: &mut Places<Socket>,
+    header: &IpRepr,
+    payload: &'a [u8],
+    is_taken: bool,
+    upper: &Upper<'_, 'a>,
+    reply: &mut Option<Reply<'a>>,
+)
+    requires protocol { carried_in upper.now.header.now ≡ Protocol.Tcp }
+    requires fits { Fits header.now }
+    requires short { length payload.now < 2 ^ 16 }
+    requires upper_short { length upper.now.bytes.now < 2 ^ 16 }
+    requires none { reply.old ≡ None }
+    ensures hands { HandsUpper inner.old places.old header.now payload.now is_taken upper.now.header.now upper.now.bytes.now
+        (arrived inner.new places.new (reply_of reply.new)) }
+    ensures sendable { IfCanGo (reply_of reply.new) }
+{
+    if take_long_segment(inner, places, header, upper.header, upper.bytes, reply) {
+        return;
+    }
+    hand_read_tcp(inner, places, header, payload, is_taken, upper, reply);
 }
 
 /// Gives a packet's control message to whom it concerns, and answers it, or answers that nothing was read.

@@ -17,6 +17,7 @@ mod icmp_reply;
 mod incoming;
 pub mod laws;
 pub mod limit_laws;
+mod one_pass;
 mod path;
 pub mod path_laws;
 pub mod piece_laws;

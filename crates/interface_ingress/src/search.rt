@@ -1,4 +1,5 @@
-//! For which socket something arrived.
+//! For which socket something arrived. Each way in has copies of its own (`WAY`), which the compiler makes parts of it: what is called
+//! from two ways is part of neither.
 ghost use Rattle.std.specs.Prelude.{◌≡◌, ◌<◌, length};
 ghost use Rattle.std.specs.Option.{ForSome};
 ghost use Rattle.sockets.specs.Socket.{accepts_segment};
@@ -9,15 +10,21 @@ use interface_egress::{InterfaceInner, Places, Wanted};
 use ip_wire::{IpRepr, TcpHeader, UdpRepr};
 use sockets::{Socket, keys};
 
+/// The way on which a checksum is tested first.
+pub(crate) const TESTED: usize = 0;
+
+/// The way in one pass.
+pub(crate) const IN_ONE_PASS: usize = 1;
+
 /// Whom a datagram is for: a UDP socket, or a client of DHCP or DNS.
 #[derive(Drop)]
-struct Readers<'a> {
+struct Readers<'a, const WAY: usize> {
     inner: &'a InterfaceInner,
     header: &'a IpRepr,
     udp: &'a UdpRepr,
 }
 
-impl<'a> Wanted for Readers<'a> {
+impl<'a, const WAY: usize> Wanted for Readers<'a, WAY> {
     ghost use Rattle.interface_egress.specs.Inner.{context_of};
     ghost use Rattle.sockets.specs.Socket.{accepts_datagram};
 
@@ -37,7 +44,7 @@ impl<'a> Wanted for Readers<'a> {
 
 /// The first place whose socket accepts a datagram.
 #[tactic(auto, using(crate::proofs::Sought::of_readers))]
-pub(crate) fn datagram_place(
+pub(crate) fn datagram_place<const WAY: usize>(
     inner: &InterfaceInner,
     places: &Places<Socket>,
     header: &IpRepr,
@@ -46,7 +53,7 @@ pub(crate) fn datagram_place(
     ensures place { result ≡ datagram_place (context_of inner.now) header.now udp.now places.now }
     ensures in_range { ForSome result (λ at. at < length places.now) }
 {
-    let readers = Readers { inner, header, udp };
+    let readers: Readers<'_, WAY> = Readers { inner, header, udp };
     places.find(
         keys::of_port(udp.dst_port),
         Some(keys::of_clients()),
@@ -56,12 +63,12 @@ pub(crate) fn datagram_place(
 
 /// The sockets that have a segment's connection.
 #[derive(Drop)]
-struct Connected<'a> {
+struct Connected<'a, const WAY: usize> {
     header: &'a IpRepr,
     segment: &'a TcpHeader,
 }
 
-impl<'a> Wanted for Connected<'a> {
+impl<'a, const WAY: usize> Wanted for Connected<'a, WAY> {
     ghost use Rattle.interface_ingress.specs.Delivered.{is_connected};
 
     type Socket = Socket;
@@ -80,11 +87,15 @@ impl<'a> Wanted for Connected<'a> {
 
 /// The first place whose socket has a segment's connection.
 #[tactic(auto, using(crate::proofs::Sought::of_connected))]
-fn connection_place(places: &Places<Socket>, header: &IpRepr, segment: &TcpHeader) -> Option<usize>
+fn connection_place<const WAY: usize>(
+    places: &Places<Socket>,
+    header: &IpRepr,
+    segment: &TcpHeader,
+) -> Option<usize>
     ensures place { result ≡ first_place (λ s. is_connected s header.now segment.now) places.now }
     ensures in_range { ForSome result (λ at. at < length places.now) }
 {
-    let connected = Connected { header, segment };
+    let connected: Connected<'_, WAY> = Connected { header, segment };
     places.find(
         keys::of_ports(segment.dst_port, segment.src_port),
         None,
@@ -94,12 +105,12 @@ fn connection_place(places: &Places<Socket>, header: &IpRepr, segment: &TcpHeade
 
 /// The sockets that accept a segment.
 #[derive(Drop)]
-struct Acceptors<'a> {
+struct Acceptors<'a, const WAY: usize> {
     header: &'a IpRepr,
     segment: &'a TcpHeader,
 }
 
-impl<'a> Wanted for Acceptors<'a> {
+impl<'a, const WAY: usize> Wanted for Acceptors<'a, WAY> {
     ghost use Rattle.sockets.specs.Socket.{accepts_segment};
 
     type Socket = Socket;
@@ -116,11 +127,15 @@ impl<'a> Wanted for Acceptors<'a> {
 
 /// The first place whose socket accepts a segment.
 #[tactic(auto, using(crate::proofs::Sought::of_acceptors))]
-fn accepting_place(places: &Places<Socket>, header: &IpRepr, segment: &TcpHeader) -> Option<usize>
+fn accepting_place<const WAY: usize>(
+    places: &Places<Socket>,
+    header: &IpRepr,
+    segment: &TcpHeader,
+) -> Option<usize>
     ensures place { result ≡ first_place (λ s. accepts_segment s header.now segment.now) places.now }
     ensures in_range { ForSome result (λ at. at < length places.now) }
 {
-    let acceptors = Acceptors { header, segment };
+    let acceptors: Acceptors<'_, WAY> = Acceptors { header, segment };
     places.find(
         keys::of_ports(segment.dst_port, segment.src_port),
         Some(keys::of_listeners(segment.dst_port)),
@@ -129,7 +144,7 @@ fn accepting_place(places: &Places<Socket>, header: &IpRepr, segment: &TcpHeader
 }
 
 /// The place whose socket gets a segment: that of its connection, else the first that accepts it.
-pub(crate) fn segment_place(
+pub(crate) fn segment_place<const WAY: usize>(
     places: &Places<Socket>,
     header: &IpRepr,
     segment: &TcpHeader,
@@ -137,8 +152,8 @@ pub(crate) fn segment_place(
     ensures place { result ≡ segment_place header.now segment.now places.now }
     ensures in_range { ForSome result (λ at. at < length places.now) }
 {
-    match connection_place(places, header, segment) {
+    match connection_place::<WAY>(places, header, segment) {
         Some(at) => Some(at),
-        None => accepting_place(places, header, segment),
+        None => accepting_place::<WAY>(places, header, segment),
     }
 }

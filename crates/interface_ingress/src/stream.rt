@@ -61,7 +61,7 @@ pub(crate) fn process_segment<'a>(
 
 /// Writes the packet of the answer that is due to a segment, in a place of its own: so its packet isn't made ready where none is.
 #[inline(never)]
-fn write_answer<'a>(
+pub(crate) fn write_answer<'a>(
     socket: &tcp::Socket,
     due: Due,
     now: Instant,
