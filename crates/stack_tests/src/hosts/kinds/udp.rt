@@ -17,6 +17,8 @@ enum Call {
     Writes(&'static [u8], Result<(), SendError>),
     /// A datagram of the bytes abcdef comes, from 192.168.1.2:53 to 192.168.1.1:48896.
     Comes,
+    /// The same in one pass, beside this sum of all else that its checksum covers, and whether that holds.
+    ComesInOnePass(u16, bool),
     CanReceive(bool),
     /// `send_queue`: how many bytes wait.
     Queued(usize),
@@ -33,8 +35,8 @@ enum Call {
 }
 
 use Call::{
-    Binds, CanReceive, Comes, HandsAbc, HandsOut, Peeks, PeeksSlice, Queued, Reads, ReadsSlice,
-    Sends, Writes,
+    Binds, CanReceive, Comes, ComesInOnePass, HandsAbc, HandsOut, Peeks, PeeksSlice, Queued, Reads,
+    ReadsSlice, Sends, Writes,
 };
 
 impl Goes<Socket> for Call {
@@ -59,6 +61,7 @@ fn goes_alone(socket: &mut Socket, call: &Call) -> bool {
             comes(socket);
             true
         }
+        ComesInOnePass(rest, holds) => comes_in_one_pass(socket, *rest) == *holds,
         CanReceive(answer) => socket.can_recv() == *answer,
         Queued(count) => socket.send_queue() == *count,
         HandsOut(answer) => socket.dispatch(&make_host(None), length_of) == *answer,
@@ -86,13 +89,20 @@ fn writes(socket: &mut Socket, bytes: &[u8]) -> Result<(), SendError> {
     }
 }
 
+/// The ports of the datagram that comes.
+const PORTS: UdpRepr = UdpRepr {
+    src_port: 53,
+    dst_port: 48896,
+};
+
 fn comes(socket: &mut Socket) {
     let header = IpRepr::new(V4, OWN, IpProtocol::Udp, 14, 64);
-    let repr = UdpRepr {
-        src_port: 53,
-        dst_port: 48896,
-    };
-    socket.process(PacketMeta {}, &header, &repr, b"abcdef");
+    socket.process(PacketMeta {}, &header, &PORTS, b"abcdef");
+}
+
+fn comes_in_one_pass(socket: &mut Socket, rest: u16) -> bool {
+    let header = IpRepr::new(V4, OWN, IpProtocol::Udp, 14, 64);
+    socket.process_in_one_pass(PacketMeta {}, &header, &PORTS, b"abcdef", rest)
 }
 
 /// What is read into a slice.
@@ -200,7 +210,7 @@ impl Life for Datagrams {
     }
 }
 
-static LIVES: [Datagrams; 8] = [
+static LIVES: [Datagrams; 9] = [
     // A short slice truncates and stays as it was.
     Datagrams(
         64,
@@ -229,6 +239,20 @@ static LIVES: [Datagrams; 8] = [
         &[
             Reads(Err(RecvError::Exhausted)),
             Comes,
+            Reads(Ok((b"abcdef", FROM_V4))),
+            CanReceive(false),
+        ],
+    ),
+    // What comes in one pass is queued where its checksum holds, and where it is full that is still told. The words of abcdef sum to
+    // 0x2a2d.
+    Datagrams(
+        6,
+        &[
+            ComesInOnePass(0xd5d3, false),
+            CanReceive(false),
+            ComesInOnePass(0xd5d2, true),
+            ComesInOnePass(0xd5d2, true),
+            ComesInOnePass(0xd5d3, false),
             Reads(Ok((b"abcdef", FROM_V4))),
             CanReceive(false),
         ],
