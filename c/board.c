@@ -1,6 +1,6 @@
 /* The loop of a bare board: no operating system, no files. Two functions stand for its Ethernet controller and one for its clock; here
  * they are stubs, whose controller loops one ARP request in, so that the program can be run anywhere. Of the C library it needs what the
- * stack needs (docs/C.md). It compiles with -ffreestanding.
+ * stack needs (docs/guide/c_and_rust.md). It compiles with -ffreestanding.
  */
 #include "zemplovir.h"
 

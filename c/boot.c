@@ -1,7 +1,7 @@
 /* A first boot: a station without an address asks for one by DHCP over a TAP device of Linux, sets it with its router, and asks the server
  * of names that it was told of for the addresses of a name.
  *
- *   boot NAME HOST-NAME [SECONDS]        as root, the device made before: docs/C.md. It gives up after so many seconds, 20 by default.
+ *   boot NAME HOST-NAME [SECONDS]        as root, the device made before: docs/guide/c_and_rust.md. It gives up after so many seconds, 20 by default.
  */
 #include "zemplovir.h"
 

@@ -1,5 +1,5 @@
 /* What the library asks for memory by, over malloc, realloc and free: for machines for which the kit has no C library of its own, in place of
- * libos_c.a and liblibc_c.a (docs/C.md). On x86-64 it does what they do.
+ * libos_c.a and liblibc_c.a (docs/guide/c_and_rust.md). On x86-64 it does what they do.
  */
 #include <stddef.h>
 

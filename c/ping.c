@@ -1,7 +1,7 @@
 /* Pings a host through a TUN device of Linux, five times by default. It ends with status 0 where any ping was answered: Linux may take a
  * moment to send once its device is open.
  *
- *   ping NAME OWN-ADDRESS PREFIX REMOTE [COUNT]        IPv4; as root, the device made before: docs/C.md
+ *   ping NAME OWN-ADDRESS PREFIX REMOTE [COUNT]        IPv4; as root, the device made before: docs/guide/c_and_rust.md
  */
 #include "zemplovir.h"
 

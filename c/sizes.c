@@ -1,6 +1,7 @@
 /* What a host and its sockets ask malloc for, and that frames which come and go ask for nothing once as many have waited as ever do: it ends
  * with status 1 where they do. Link it with -Wl,--wrap=malloc,--wrap=realloc.
  */
+#define ZV_MAY_IGNORE /* what is asked for is printed, and would be seen to be less */
 #include "zemplovir.h"
 
 #include <stdio.h>

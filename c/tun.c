@@ -1,24 +1,23 @@
 /* A host on a TUN or TAP device of Linux that sends back what it gets: UDP and TCP at port 7, a page at port 80, and answers to pings.
  *
- *   tun NAME tun|tap ADDRESS PREFIX [ROUTER]        as root, the device made before: docs/C.md
+ *   tun NAME tun|tap ADDRESS PREFIX [ROUTER]        as root, the device made before: docs/guide/c_and_rust.md
+ *
+ * Frames go behind a header of virtio, many in one call (offload.h).
  */
+#include "offload.h"
 #include "zemplovir.h"
 
 #include <arpa/inet.h>
-#include <errno.h>
 #include <fcntl.h>
-#include <linux/if.h>
-#include <linux/if_tun.h>
 #include <poll.h>
 #include <signal.h>
 #include <stdio.h>
 #include <stdlib.h>
 #include <string.h>
-#include <sys/ioctl.h>
 #include <time.h>
 #include <unistd.h>
 
-enum { STREAMS = 4, PAGES = 4, MTU = 1500, BUDGET = 64 };
+enum { STREAMS = 4, PAGES = 4, BUDGET = 64 };
 
 /* No socket. */
 #define NONE ((size_t)-1)
@@ -50,24 +49,6 @@ static int64_t now(void)
     return micros - first;
 }
 
-static int open_device(const char *name, int is_tap)
-{
-    struct ifreq request;
-    int device = open("/dev/net/tun", O_RDWR | O_NONBLOCK);
-    if (device < 0) {
-        perror("tun: /dev/net/tun");
-        exit(1);
-    }
-    memset(&request, 0, sizeof request);
-    request.ifr_flags = (short)((is_tap ? IFF_TAP : IFF_TUN) | IFF_NO_PI);
-    strncpy(request.ifr_name, name, IFNAMSIZ - 1);
-    if (ioctl(device, TUNSETIFF, &request) < 0) {
-        perror("tun: TUNSETIFF");
-        exit(1);
-    }
-    return device;
-}
-
 static zv_address read_address(const char *text)
 {
     zv_address address = {0, {0}};
@@ -85,18 +66,23 @@ static void wait_for(int device, int64_t left)
     poll(&waits, 1, left > 1000000 ? 1000 : (int)((left + 999) / 1000));
 }
 
-static uint8_t frame[65549];
+static struct offload joined;
 
-/* Frames that came go to the host, at most so many. Says how many there were. */
-static int take(zv_host *host, int device, int most)
+static void frame_in(void *host, const uint8_t *frame, size_t length)
 {
+    zv_frame_in(host, frame, length);
+}
+
+/* What came goes to the host, reads of so many frames or some more. Says how many frames there were: one read may have many. */
+static int take(int device, int most)
+{
+    static uint8_t bytes[OFFLOAD_READ];
     int taken = 0;
     while (taken < most) {
-        ssize_t length = read(device, frame, sizeof frame);
+        ssize_t length = read(device, bytes, sizeof bytes);
         if (length <= 0)
             break;
-        zv_frame_in(host, frame, (size_t)length);
-        taken++;
+        taken += offload_in(&joined, bytes, (size_t)length);
     }
     return taken;
 }
@@ -110,12 +96,12 @@ static int polled(zv_host *host, int64_t moment, uint16_t budget)
 }
 
 /* The frames that are to go go to the device. */
-static void send_frames(zv_host *host, int device)
+static void send_frames(zv_host *host)
 {
     size_t count;
-    while (zv_frame_out(host, frame, sizeof frame, &count) == ZV_OK)
-        if (write(device, frame, count) < 0 && errno != EAGAIN && errno != EIO)
-            perror("tun: write");
+    while (zv_frame_out(host, offload_room(&joined), OFFLOAD_LONGEST, &count) == ZV_OK)
+        offload_out(&joined, count);
+    offload_flush(&joined);
 }
 
 /* Says whether there was one. */
@@ -176,10 +162,11 @@ static int serve_page(zv_host *host, size_t socket)
     size_t count;
     uint8_t state;
     must(zv_tcp_state(host, socket, &state), "state");
-    if (zv_tcp_recv(host, socket, request, sizeof request, &count) == ZV_OK && count > 3)
-        zv_tcp_send(host, socket, (const uint8_t *)page, sizeof page - 1, &count);
-    else if (state == ZV_ESTABLISHED)
+    const int is_asked = zv_tcp_recv(host, socket, request, sizeof request, &count) == ZV_OK && count > 3;
+    if (!is_asked && state == ZV_ESTABLISHED)
         return 0;
+    if (is_asked && zv_tcp_send(host, socket, (const uint8_t *)page, sizeof page - 1, &count) != ZV_OK)
+        zv_tcp_abort(host, socket);
     zv_tcp_close(host, socket);
     return 1;
 }
@@ -246,21 +233,23 @@ static int serve(zv_host *host, struct sockets *it)
     return any | serve_pages(host, it->listener, it->accepted);
 }
 
-/* Behind a wait one frame is taken alone and answered, so that the answer goes at once; then as many as there are. */
+/* Behind a wait what one read has is taken alone and answered, so that the answer goes at once; then as much as there is. */
 static void run(zv_host *host, int device, struct sockets *it)
 {
     int64_t at = 0;
     int most = BUDGET;
     while (!is_over) {
         const int64_t moment = now();
-        if (take(host, device, most) == 0 && moment < at) {
+        const int taken = take(device, most);
+        if (taken == 0 && moment < at) {
             wait_for(device, at - moment);
             most = 1;
             continue;
         }
-        if (polled(host, moment, (uint16_t)most) && serve(host, it))
-            polled(host, moment, (uint16_t)most);
-        send_frames(host, device);
+        const uint16_t budget = (uint16_t)(taken > most ? taken : most);
+        if (polled(host, moment, budget) && serve(host, it))
+            polled(host, moment, budget);
+        send_frames(host);
         must(zv_poll_at(host, moment, &at), "poll_at");
         most = BUDGET;
     }
@@ -274,12 +263,18 @@ int main(int count, char **words)
         return 2;
     }
     const int is_tap = strcmp(words[2], "tap") == 0;
-    const int device = open_device(words[1], is_tap);
+    const int device = offload_open(&joined, words[1], is_tap, O_NONBLOCK);
+    if (device < 0) {
+        perror("tun: device");
+        return 1;
+    }
+    offload_set(&joined, is_tap, 1, frame_in, &host);
+    joined.is_trusted = 1;
     const zv_address own = read_address(words[3]);
     zv_settings settings = {
         .medium = is_tap ? ZV_ETHERNET : ZV_IP,
         .hardware = {2, 0, 0, 0, 0, 1},
-        .mtu = is_tap ? MTU + 14 : MTU,
+        .mtu = is_tap ? OFFLOAD_LONGEST : OFFLOAD_LONGEST - 14,
         .frames = 256,
         .keyed = 1,
     };
@@ -305,8 +300,9 @@ int main(int count, char **words)
 
     zv_counts counts;
     must(zv_counters(&host, &counts), "counters");
-    fprintf(stderr, "tun: %llu frames came, %llu were dropped, %llu went\n", (unsigned long long)counts.frames_in,
-            (unsigned long long)counts.frames_dropped, (unsigned long long)counts.frames_out);
+    fprintf(stderr, "tun: %llu frames came in %llu reads, %llu were dropped, %llu went in %llu writes\n", (unsigned long long)counts.frames_in,
+            (unsigned long long)joined.read, (unsigned long long)counts.frames_dropped, (unsigned long long)counts.frames_out,
+            (unsigned long long)joined.written);
     must(zv_host_free(&host), "free");
     close(device);
     return 0;

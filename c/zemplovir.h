@@ -1,6 +1,6 @@
 /* Zemplovir: a TCP/IP stack without threads, clocks or devices of its own, for C99 and later.
  *
- * A program hands frames in, polls, and fetches frames; sockets are called between polls. docs/C.md has a first program.
+ * A program hands frames in, polls, and fetches frames; sockets are called between polls. docs/guide/c_and_rust.md has a first program.
  *
  * What every call shares
  *   host       A zv_host that is all zero before its first call. Only these calls write it. It may be moved, not copied. One call at a
@@ -20,6 +20,14 @@
 
 #include <stddef.h>
 #include <stdint.h>
+
+/* The version of this header and of the library that it is for: a new first number where a program has to be changed, a second one where
+ * there is more than before. */
+#define ZEMPLOVIR_VERSION_MAJOR 0
+#define ZEMPLOVIR_VERSION_MINOR 1
+#define ZEMPLOVIR_VERSION_PATCH 0
+#define ZEMPLOVIR_VERSION_STRING "0.1.0"
+#define ZEMPLOVIR_VERSION (ZEMPLOVIR_VERSION_MAJOR * 10000 + ZEMPLOVIR_VERSION_MINOR * 100 + ZEMPLOVIR_VERSION_PATCH)
 
 #ifdef __cplusplus
 extern "C" {
@@ -530,6 +538,55 @@ static inline uint32_t zv_dns_turn(zv_host *host, size_t socket, uint16_t *port)
     }
     return zv_dns_sent(host, zv_udp_send(host, socket, bytes, count, &remote, &own.address) == ZV_OK);
 }
+
+/* Calls that make or bind something, or that write behind a pointer on ZV_OK alone: a compiler warns where their answer isn't looked at. A
+ * program that means to defines ZV_MAY_IGNORE before it includes this. */
+#if defined(__GNUC__) && !defined(ZV_MAY_IGNORE)
+#define ZV_MUST_LOOK(call) extern __typeof__(call) call __attribute__((warn_unused_result))
+ZV_MUST_LOOK(zv_host_new);
+ZV_MUST_LOOK(zv_address_add);
+ZV_MUST_LOOK(zv_route_add);
+ZV_MUST_LOOK(zv_host_set_hardware);
+ZV_MUST_LOOK(zv_host_set_reassembly_slots);
+ZV_MUST_LOOK(zv_frame_out);
+ZV_MUST_LOOK(zv_frame_out_length);
+ZV_MUST_LOOK(zv_poll);
+ZV_MUST_LOOK(zv_poll_at);
+ZV_MUST_LOOK(zv_counters);
+ZV_MUST_LOOK(zv_udp_new);
+ZV_MUST_LOOK(zv_udp_bind);
+ZV_MUST_LOOK(zv_udp_recv);
+ZV_MUST_LOOK(zv_tcp_new);
+ZV_MUST_LOOK(zv_tcp_listen);
+ZV_MUST_LOOK(zv_tcp_connect);
+ZV_MUST_LOOK(zv_tcp_send);
+ZV_MUST_LOOK(zv_tcp_recv);
+ZV_MUST_LOOK(zv_tcp_peek);
+ZV_MUST_LOOK(zv_tcp_state);
+ZV_MUST_LOOK(zv_tcp_peer);
+ZV_MUST_LOOK(zv_tcp_queues);
+ZV_MUST_LOOK(zv_listener_new);
+ZV_MUST_LOOK(zv_listener_add);
+ZV_MUST_LOOK(zv_listener_add_keeper);
+ZV_MUST_LOOK(zv_listener_accept);
+ZV_MUST_LOOK(zv_icmp_new);
+ZV_MUST_LOOK(zv_icmp_bind);
+ZV_MUST_LOOK(zv_icmp_bind_udp);
+ZV_MUST_LOOK(zv_icmp_bind_tcp);
+ZV_MUST_LOOK(zv_icmp_recv);
+ZV_MUST_LOOK(zv_raw_new);
+ZV_MUST_LOOK(zv_raw_recv);
+ZV_MUST_LOOK(zv_dhcp_new);
+ZV_MUST_LOOK(zv_dhcp_send);
+ZV_MUST_LOOK(zv_dhcp_poll);
+ZV_MUST_LOOK(zv_dhcp_poll_at);
+ZV_MUST_LOOK(zv_dns_new);
+ZV_MUST_LOOK(zv_dns_ask);
+ZV_MUST_LOOK(zv_dns_send);
+ZV_MUST_LOOK(zv_dns_result);
+ZV_MUST_LOOK(zv_dns_poll_at);
+#undef ZV_MUST_LOOK
+#endif
 
 #ifdef __cplusplus
 }

@@ -117,7 +117,7 @@ def echoes(it, count=1000):
     return got == sent
 
 
-def comes_again():
+def is_repeated():
     """A client is killed, and another comes from its port at once."""
     first = connected(7)
     port = first.getsockname()[1]
@@ -312,11 +312,11 @@ def main():
     pump_program, program, folder, *rest = [*sys.argv[1:], ""]
     syns, count = ([int(it) for it in rest if it.isdigit()] + [10_000, 1000][sum(it.isdigit() for it in rest):])[:2]
     trials = (
-        (talk.pings,), (pages, "at first", 10), (comes_again,), (attacks,), (long_packets,), (talk.stream, 1_000_000),
+        (talk.pings,), (pages, "at first", 10), (is_repeated,), (attacks,), (long_packets,), (talk.stream, 1_000_000),
         (flood, syns), (pages, "one after the other", count), (pages, "50 at a time", count, 50), (by_ab, count, 1), (by_ab, count // 2, min(50, count // 2)),
         (pages, "at last", 20),
     )
-    pump = start(pump_program, program, *(("-e", STATION) if "tap" in rest else ()))
+    pump = start(pump_program, program, "-1", *(("-e", STATION) if "tap" in rest else ()))
     taken = capture(folder)
     well = [tried(*it) for it in trials if it[0] is not by_ab or shutil.which("ab")]
     well += [tried(vanished, pump), tried(pages, "an hour later", 20)]

@@ -179,7 +179,7 @@ def rebuilt(client, at):
 
 def main():
     pump_program, program, folder, *rest = [*sys.argv[1:], ""]
-    pump = hostile.start(pump_program, program, *(("-e", STATION) if "tap" in rest else ()))
+    pump = hostile.start(pump_program, program, "-1", *(("-e", STATION) if "tap" in rest else ()))
     taken = hostile.capture(folder)
     client = set_up()
     well = []

@@ -1,6 +1,10 @@
 // Owns a TUN or TAP device, the clock and the waiting for the program `host`, as pump.py does, which is the readable one.
 //
-//     cc -O2 -o pump linux/pump.c
+//     cc -O2 -o pump linux/pump.c c/offload.c
+//
+// Frames go to a device and come from it behind a header of virtio (c/offload.h): Linux hands over 64 KB of a connection in one call, which
+// are cut here into the segments that the link carries, and what goes is put together.
+//
 //     pump [OPTIONS] DEVICE HOST ADDRESS/LEN ROUTER [ADDRESS6/LEN ROUTER6]     a link between the device and the program, whose settings
 //                                                                             these are
 //     pump [OPTIONS] DEVICE OTHER                                             the same link between two devices
@@ -9,12 +13,14 @@
 // -b N: two of 1000 begin a time in which so many are lost; -t N: each takes so many microseconds; -j N: up to so many more by chance;
 // -m N: so many kbit/s each way; -q N: of the bytes that then wait for the link so many at most, and a packet that doesn't fit is lost;
 // -c N: where the random numbers begin; -s N: the seed of the host, which then has no key; -e MAC: the devices carry Ethernet frames (TAP),
-// and the host has this hardware address; -k FOLDER keeps what the program read and wrote as the files stdin and stdout.
+// and the host has this hardware address; -k FOLDER keeps what the program read and wrote as the files stdin and stdout; -1: frames go to the
+// devices one by one, each with its own sum, for what is to be seen there.
 // SIGUSR1 lets the host's clock go on by an hour: each moment at which it wants a turn comes at once; it says when that is done. SIGTERM ends it.
 //
 // A turn is a packet's length (2 bytes), the moment in microseconds (8 bytes) and the packet, all numbers with the low byte first; the
 // answer is each packet behind its length, a length of 0, and the moment of the next turn (8 bytes, all ones for never).
 #define _GNU_SOURCE
+#include "../c/offload.h"
 #include <arpa/inet.h>
 #include <fcntl.h>
 #include <netinet/ether.h>
@@ -35,9 +41,10 @@
 enum { MOST = 65536, HEAD = 10, HOUR = 3600 };
 typedef unsigned char byte;
 static int kind = IFF_TUN, tun = -1, other = -1, host = -1;
+static struct offload joined[2];  // of the other device, and of the device: what goes way 0, and way 1
 static uint64_t lose, repeat, hold, damage, burst, delay, jitter, rate, queue, chance = 1, seed, ahead, turns, carried[2];
 static byte key[16];
-static int seeded;
+static int seeded, singly;
 static struct ether_addr station;
 static FILE *said, *answered;
 static volatile sig_atomic_t ends, skips;
@@ -48,12 +55,25 @@ static uint64_t bursting[2], link_free[2];  // how many more are lost, and when 
 static void stop(const char *why) { perror(why); exit(1); }
 static void on_signal(int number) { if (number == SIGUSR1) skips = 1; else ends = 1; }
 
-static int open_device(const char *name) {
-    struct ifreq request = {.ifr_flags = kind | IFF_NO_PI};
-    int device = open("/dev/net/tun", O_RDWR | O_NONBLOCK | O_CLOEXEC);
-    strncpy(request.ifr_name, name, IFNAMSIZ - 1);
-    if (device < 0 || ioctl(device, TUNSETIFF, &request) < 0) stop(name);
+static void carry(int way, const byte *packet, int len);
+static int ways[2] = {0, 1};
+static void came(void *way, const byte *packet, size_t len) { carry(*(int *)way, packet, len); }
+
+// What comes from the device goes this way.
+static int open_device(const char *name, int way) {
+    struct offload *its = &joined[1 - way];
+    int device = offload_open(its, name, kind == IFF_TAP, O_NONBLOCK | O_CLOEXEC);
+    if (device < 0) stop(name);
+    its->mtu = 65535;  // the link carries what comes: no SYN is changed
+    offload_set(its, kind == IFF_TAP, 0, came, &ways[way]);
     return device;
+}
+
+// A packet for a device waits until all that one read or moment brings are there.
+static void put_on(int way, const byte *packet, int len) {
+    memcpy(offload_room(&joined[way]), packet, len);
+    offload_out(&joined[way], len);
+    if (singly) offload_flush(&joined[way]);
 }
 
 static uint64_t now(void) {
@@ -77,7 +97,7 @@ static uint64_t next_turn = UINT64_MAX;
 static void give(int way, const byte *packet, int len) {
     carried[way]++;
     if (way == 0 && host >= 0) next_turn = take_turn(packet, len);
-    else if (write(way == 0 ? other : tun, packet, len) < 0) {}  // a device that is down takes nothing
+    else put_on(way, packet, len);
 }
 
 // A packet goes: at once, or it waits for the link and then is on its way.
@@ -197,8 +217,11 @@ static void start_host(const char *program, char **addresses, int count) {
 }
 
 static void pass(int device, int way) {
-    static byte packet[MOST];
-    for (int i = 0, len; i < 64 && (len = read(device, packet, sizeof packet - 1)) > 0; i++) carry(way, packet, len);
+    static byte read_in[OFFLOAD_READ];
+    for (int i = 0, len; i < 64 && (len = read(device, read_in, sizeof read_in)) > 0; i++) {
+        offload_in(&joined[1 - way], read_in, len);
+        offload_flush(&joined[0]), offload_flush(&joined[1]);
+    }
 }
 
 static void skip_an_hour(void) {
@@ -215,7 +238,7 @@ int main(int count, char **words) {
     int option;
     char path[4096];
     if (getrandom(&seed, sizeof seed, 0) < 0 || getrandom(key, sizeof key, 0) < 0) stop("getrandom");
-    while ((option = getopt(count, words, "l:r:h:d:b:t:j:m:q:c:s:k:e:")) != -1) {
+    while ((option = getopt(count, words, "1l:r:h:d:b:t:j:m:q:c:s:k:e:")) != -1) {
         uint64_t value = optarg ? strtoull(optarg, 0, 10) : 0;
         switch (option) {
         case 'l': lose = value; break;
@@ -230,6 +253,7 @@ int main(int count, char **words) {
         case 'c': chance = value | 1; break;
         case 's': seed = value, seeded = 1; break;
         case 'e': kind = IFF_TAP; if (!ether_aton_r(optarg, &station)) stop(optarg); break;
+        case '1': singly = 1; break;
         case 'k':
             snprintf(path, sizeof path, "%s/stdin", optarg), said = fopen(path, "wb");
             snprintf(path, sizeof path, "%s/stdout", optarg), answered = fopen(path, "wb");
@@ -242,9 +266,9 @@ int main(int count, char **words) {
         return fprintf(stderr, "pump [OPTIONS] DEVICE HOST ADDRESS/LEN ROUTER [ADDRESS6/LEN ROUTER6] | DEVICE OTHER\n"), 2;
     struct sigaction act = {.sa_handler = on_signal, .sa_flags = SA_RESTART};
     sigaction(SIGTERM, &act, 0), sigaction(SIGINT, &act, 0), sigaction(SIGUSR1, &act, 0);
-    tun = open_device(words[0]);
+    tun = open_device(words[0], 0);
     if (count > 2) start_host(words[1], words + 2, count - 2);
-    else other = open_device(words[1]);
+    else other = open_device(words[1], 1);
     int waiting = epoll_create1(0);
     struct epoll_event of_tun = {.events = EPOLLIN, .data.fd = tun}, of_other = {.events = EPOLLIN, .data.fd = other}, ready[2];
     epoll_ctl(waiting, EPOLL_CTL_ADD, tun, &of_tun);
@@ -259,6 +283,7 @@ int main(int count, char **words) {
         for (int i = 0; i < come; i++) pass(ready[i].data.fd, ready[i].data.fd == tun ? 0 : 1);
         if (host >= 0 && next_turn <= now()) next_turn = take_turn((const byte *)"", 0);
         if (skips && host >= 0) skips = 0, skip_an_hour();
+        offload_flush(&joined[0]), offload_flush(&joined[1]);
     }
     printf("pump: %llu turns, %llu packets in, %llu out\n", (unsigned long long)turns, (unsigned long long)carried[0], (unsigned long long)carried[1]);
     if (said) fclose(said), fclose(answered);

@@ -1,4 +1,4 @@
-"""What tools know of scripts and of what the programs `lan`, `cases` and `one_host` write."""
+"""What tools know of scripts and of what the programs `lan`, `app_cases` and `app_host` write."""
 import re
 import zlib
 
@@ -39,7 +39,7 @@ def script_lines(lines):
 
 
 def kind_of(lines):
-    """What a case of `cases` is of, by how its first line begins: `sockets` (two TCP sockets), `clients` or else `script`."""
+    """What a case of `app_cases` is of, by how its first line begins: `sockets` (two TCP sockets), `clients` or else `script`."""
     first = (script_lines(lines) or [""])[0]
     if first.startswith(("sockets", ">")):
         return "sockets"

@@ -5,6 +5,7 @@
  */
 #include <arpa/inet.h>
 #include <fcntl.h>
+#include <netdb.h>
 #include <netinet/tcp.h>
 #include <poll.h>
 #include <stdio.h>
@@ -33,10 +34,15 @@ static void fail(const char *what)
 
 static int connected(const char *address)
 {
-    struct sockaddr_in remote = {.sin_family = AF_INET, .sin_port = htons(7)};
-    const int it = socket(AF_INET, SOCK_STREAM, 0), yes = 1;
-    if (inet_pton(AF_INET, address, &remote.sin_addr) != 1 || connect(it, (struct sockaddr *)&remote, sizeof remote) != 0)
+    const struct addrinfo wanted = {.ai_flags = AI_NUMERICHOST | AI_NUMERICSERV, .ai_socktype = SOCK_STREAM};
+    struct addrinfo *remote;
+    const int yes = 1;
+    if (getaddrinfo(address, "7", &wanted, &remote) != 0)
+        fail("client: address");
+    const int it = socket(remote->ai_family, SOCK_STREAM, 0);
+    if (connect(it, remote->ai_addr, remote->ai_addrlen) != 0)
         fail("client: connect");
+    freeaddrinfo(remote);
     setsockopt(it, IPPROTO_TCP, TCP_NODELAY, &yes, sizeof yes);
     return it;
 }

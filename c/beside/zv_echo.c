@@ -1,7 +1,9 @@
-/* Echoes of datagrams and of streams at port 7, over the TAP device of this name.
+/* Echoes of datagrams and of streams at port 7, over the TAP device of this name, whose frames go behind a header of virtio, many in one
+ * call (offload.h), or singly.
  *
- *   zv_echo NAME ADDRESS
+ *   zv_echo NAME ADDRESS [singly]
  */
+#include "offload.h"
 #include "zemplovir.h"
 
 #include <arpa/inet.h>
@@ -20,7 +22,9 @@
 
 enum { STREAMS = 2, ROOM = 180 * 1460, BUDGET = 64 };
 
-static uint8_t frame[2048], bytes[65536];
+static uint8_t frame[OFFLOAD_READ], bytes[65536];
+static struct offload joined;
+static int is_single;
 
 static void must(uint32_t code, const char *what)
 {
@@ -69,15 +73,30 @@ static void call_at(int64_t at, int64_t moment)
     setitimer(ITIMER_REAL, &timer, NULL);
 }
 
-/* Frames that came go to the host. Waits for the first one where it may, which goes alone, so that its answer goes at once. */
+static void frame_in(void *host, const uint8_t *it, size_t length)
+{
+    zv_frame_in(host, it, length);
+}
+
+/* What was read goes to the host. Says how many frames it has. */
+static int give(zv_host *host, size_t length)
+{
+    if (!is_single)
+        return offload_in(&joined, frame, length);
+    zv_frame_in(host, frame, length);
+    return 1;
+}
+
+/* Frames that came go to the host. Waits for the first read where it may, which goes alone, so that its answer goes at once. Says how many
+ * frames there were. */
 static int take(zv_host *host, int device, int may_wait)
 {
     const struct iovec room = {frame, sizeof frame};
     int taken = 0;
     ssize_t length = may_wait ? read(device, frame, sizeof frame) : preadv2(device, &room, 1, -1, RWF_NOWAIT);
     while (length > 0) {
-        zv_frame_in(host, frame, (size_t)length);
-        if (++taken == BUDGET || may_wait)
+        taken += give(host, (size_t)length);
+        if (taken >= BUDGET || may_wait)
             break;
         length = preadv2(device, &room, 1, -1, RWF_NOWAIT);
     }
@@ -95,9 +114,12 @@ static int polled(zv_host *host, int64_t moment, uint16_t budget)
 static void send_frames(zv_host *host, int device)
 {
     size_t count;
-    while (zv_frame_out(host, frame, sizeof frame, &count) == ZV_OK)
+    while (is_single && zv_frame_out(host, frame, sizeof frame, &count) == ZV_OK)
         if (write(device, frame, count) < 0)
             perror("zv_echo: write");
+    while (!is_single && zv_frame_out(host, offload_room(&joined), OFFLOAD_LONGEST, &count) == ZV_OK)
+        offload_out(&joined, count);
+    offload_flush(&joined);
 }
 
 static int echo_datagrams(zv_host *host, size_t socket)
@@ -167,7 +189,7 @@ static void serve(zv_host *host, int device, size_t datagrams, const size_t *str
             call_at(at, moment);
             continue;
         }
-        const uint16_t budget = may_wait ? 1 : BUDGET;
+        const uint16_t budget = (uint16_t)(taken > BUDGET || may_wait ? taken : BUDGET);
         if (polled(host, moment, budget) && echo(host, datagrams, streams))
             polled(host, moment, budget);
         send_frames(host, device);
@@ -187,10 +209,19 @@ int main(int count, char **words)
     const struct sigaction on_call = {.sa_handler = called};
     size_t datagrams, streams[STREAMS];
     if (count < 3 || inet_pton(AF_INET, words[2], own.bytes) != 1) {
-        fprintf(stderr, "usage: zv_echo NAME ADDRESS\n");
+        fprintf(stderr, "usage: zv_echo NAME ADDRESS [singly]\n");
         return 2;
     }
-    const int device = open_device(words[1]);
+    is_single = count > 3;
+    const int device = is_single ? open_device(words[1]) : offload_open(&joined, words[1], 1, 0);
+    if (device < 0) {
+        perror("zv_echo: device");
+        return 1;
+    }
+    offload_set(&joined, 1, 1, frame_in, &host);
+    joined.is_trusted = 1;
+    if (!is_single)
+        settings.mtu = OFFLOAD_LONGEST;
     must(zv_host_new(&host, &settings, now()), "host");
     must(zv_address_add(&host, &own, 24), "address");
     must(zv_udp_new(&host, 64, 65536, &datagrams), "UDP socket");

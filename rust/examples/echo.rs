@@ -1,6 +1,6 @@
 //! A host on a TUN device of Linux that sends back what it gets at port 7, over UDP and TCP.
 //!
-//!     echo NAME ADDRESS PREFIX        as root, the device made before: docs/C.md
+//!     echo NAME ADDRESS PREFIX        as root, the device made before: docs/guide/c_and_rust.md
 use std::fs::{File, OpenOptions};
 use std::io::{self, ErrorKind, Read, Write};
 use std::os::fd::AsRawFd;

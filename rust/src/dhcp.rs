@@ -1,15 +1,19 @@
 //! The client of DHCP of an interface.
 use crate::{address, done, endpoint, ffi, read, read_endpoint, udp::UdpMetadata, Error, Instant, Interface, Result, SocketHandle};
-use std::net::IpAddr;
+use core::net::IpAddr;
 
 /// What a server gave.
 #[derive(Clone, Copy, Debug, PartialEq, Eq)]
 pub struct Config {
+    /// The address that is leased.
     pub address: IpAddr,
     /// How many bits the address's network has.
     pub prefix_len: u8,
+    /// The router that the server names.
     pub router: Option<IpAddr>,
+    /// The server that gave the lease.
     pub server: Option<IpAddr>,
+    /// The servers of names that it names, without gaps.
     pub dns_servers: [Option<IpAddr>; 3],
 }
 

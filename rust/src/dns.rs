@@ -1,11 +1,14 @@
 //! The client of DNS of an interface.
 use crate::{done, endpoint, ffi, optional, read, udp::UdpMetadata, Error, Instant, Interface, Result, SocketHandle};
-use std::net::{IpAddr, SocketAddr};
+use alloc::vec::Vec;
+use core::net::{IpAddr, SocketAddr};
 
 /// The addresses that are asked for.
 #[derive(Clone, Copy, Debug, PartialEq, Eq)]
 pub enum DnsQueryType {
+    /// Addresses of IPv4.
     A,
+    /// Addresses of IPv6.
     Aaaa,
 }
 

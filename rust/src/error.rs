@@ -1,5 +1,5 @@
 //! Why a call is refused.
-use std::fmt;
+use core::fmt;
 
 macro_rules! errors {
     ($($number:literal $name:ident $text:literal)*) => {
@@ -62,7 +62,7 @@ errors! {
     27 QueryFailed "no address was found"
 }
 
-impl std::error::Error for Error {}
+impl core::error::Error for Error {}
 
 /// What a call answers.
-pub type Result<T> = std::result::Result<T, Error>;
+pub type Result<T> = core::result::Result<T, Error>;

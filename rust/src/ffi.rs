@@ -1,5 +1,5 @@
 //! The calls of the static library, as `c/zemplovir.h` declares them.
-use std::ffi::c_void;
+use core::ffi::c_void;
 
 #[repr(C)]
 pub struct Host {
@@ -36,6 +36,7 @@ pub struct Settings {
     pub isn_key: [u8; 16],
 }
 
+/// What an interface has counted since it was made.
 #[repr(C)]
 #[derive(Clone, Copy, Debug, Default, PartialEq, Eq)]
 pub struct Counters {

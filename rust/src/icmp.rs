@@ -1,6 +1,6 @@
 //! ICMP sockets.
 use crate::{address, done, ffi, optional, read, Error, Interface, Result, SocketHandle};
-use std::net::IpAddr;
+use core::net::IpAddr;
 
 /// An ICMP socket of an interface.
 pub struct Socket<'a> {
@@ -41,6 +41,7 @@ impl Socket<'_> {
         done(unsafe { ffi::zv_icmp_set_hop_limit(&mut self.interface.host, self.handle.0, limit.unwrap_or(0)) })
     }
 
+    /// Queues a message, from its type on, which a poll sends; its checksum is written then.
     pub fn send_slice(&mut self, data: &[u8], remote: IpAddr) -> Result<()> {
         let remote = address(remote);
         done(unsafe {
@@ -48,6 +49,7 @@ impl Socket<'_> {
         })
     }
 
+    /// Copies the first message that waits: its length, and where it came from.
     pub fn recv_slice(&mut self, data: &mut [u8]) -> Result<(usize, IpAddr)> {
         let mut remote = ffi::Address::default();
         let handle = self.handle.0;

@@ -5,6 +5,13 @@
 //!
 //! The wrapper adds nothing to what the library does, but that Rust's types keep the library's demands: a host is freed once, is used from
 //! one thread at a time, and lent bytes are read only as long as nothing else is called.
+//!
+//! It needs `alloc`, for what the library itself asks `malloc` for and for [`Interface::query_result`], and nothing else of `std`.
+#![no_std]
+#![deny(missing_docs)]
+
+extern crate alloc;
+
 pub mod dhcp;
 pub mod dns;
 mod error;
@@ -19,9 +26,9 @@ pub use error::{Error, Result};
 pub use ffi::Counters;
 pub use listener::ListenerHandle;
 
-use std::net::{IpAddr, Ipv4Addr, Ipv6Addr, SocketAddr};
-use std::ptr::null_mut;
-use std::time::Duration;
+use core::net::{IpAddr, Ipv4Addr, Ipv6Addr, SocketAddr};
+use core::ptr::null_mut;
+use core::time::Duration;
 
 /// Microseconds after a start that the program chooses.
 #[derive(Clone, Copy, Debug, PartialEq, Eq, PartialOrd, Ord)]
@@ -30,16 +37,20 @@ pub struct Instant {
 }
 
 impl Instant {
+    /// The start.
     pub const ZERO: Instant = Instant { micros: 0 };
 
+    /// So many microseconds after the start.
     pub fn from_micros(micros: i64) -> Instant {
         Instant { micros }
     }
 
+    /// So many milliseconds after the start.
     pub fn from_millis(millis: i64) -> Instant {
         Instant { micros: millis.saturating_mul(1000) }
     }
 
+    /// How many microseconds after the start.
     pub fn total_micros(self) -> i64 {
         self.micros
     }
@@ -57,6 +68,7 @@ pub enum Medium {
 /// What an interface is made with.
 #[derive(Clone, Copy, Debug)]
 pub struct Config {
+    /// What the device's frames are.
     pub medium: Medium,
     /// The longest frame, its Ethernet header counted.
     pub max_transmission_unit: usize,
@@ -149,6 +161,7 @@ impl Interface {
         done(unsafe { ffi::zv_address_add(&mut self.host, &address(it), prefix_len) })
     }
 
+    /// Takes an own address out. All neighbours are forgotten. [`Error::NotFound`].
     pub fn remove_ip_addr(&mut self, it: IpAddr) -> Result<()> {
         done(unsafe { ffi::zv_address_remove(&mut self.host, &address(it)) })
     }
@@ -158,6 +171,7 @@ impl Interface {
         done(unsafe { ffi::zv_route_add(&mut self.host, &address(network), prefix_len, &address(router)) })
     }
 
+    /// Takes the first route out whose network and prefix were given as these. [`Error::NotFound`].
     pub fn remove_route(&mut self, network: IpAddr, prefix_len: u8) -> Result<()> {
         done(unsafe { ffi::zv_route_remove(&mut self.host, &address(network), prefix_len) })
     }

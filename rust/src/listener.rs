@@ -1,6 +1,6 @@
 //! Listeners with a backlog.
 use crate::{done, ffi, optional, Error, Interface, Result, SocketHandle};
-use std::net::IpAddr;
+use core::net::IpAddr;
 
 /// The number of a listener.
 #[derive(Clone, Copy, Debug, PartialEq, Eq)]

@@ -10,7 +10,9 @@ pub struct Socket<'a> {
 /// The family of IP packets.
 #[derive(Clone, Copy, Debug, PartialEq, Eq)]
 pub enum IpVersion {
+    /// Packets of IPv4.
     Ipv4,
+    /// Packets of IPv6.
     Ipv6,
 }
 
@@ -40,10 +42,12 @@ impl Interface {
 }
 
 impl Socket<'_> {
+    /// Queues a packet with its IP header, which is written anew when a poll sends it.
     pub fn send_slice(&mut self, data: &[u8]) -> Result<()> {
         done(unsafe { ffi::zv_raw_send(&mut self.interface.host, self.handle.0, data.as_ptr(), data.len()) })
     }
 
+    /// Copies the first packet that waits, its IP header first, and says its length.
     pub fn recv_slice(&mut self, data: &mut [u8]) -> Result<usize> {
         let handle = self.handle.0;
         self.interface

@@ -1,23 +1,34 @@
 //! TCP sockets.
 use crate::{done, endpoint, ffi, micros, optional, read_endpoint, Error, Interface, Result, SocketHandle};
-use std::net::{IpAddr, SocketAddr};
-use std::ptr::null;
-use std::slice;
-use std::time::Duration;
+use core::net::{IpAddr, SocketAddr};
+use core::ptr::null;
+use core::slice;
+use core::time::Duration;
 
 /// The state of a connection.
 #[derive(Clone, Copy, Debug, PartialEq, Eq)]
 pub enum State {
+    /// No connection.
     Closed,
+    /// Waits for one.
     Listen,
+    /// Has sent a SYN.
     SynSent,
+    /// Has received one, and answered it.
     SynReceived,
+    /// Open both ways.
     Established,
+    /// Closed its way; that isn't acknowledged yet.
     FinWait1,
+    /// Closed its way; the remote may still send.
     FinWait2,
+    /// The remote has closed its way.
     CloseWait,
+    /// Both have closed; its own end isn't acknowledged yet.
     Closing,
+    /// The remote has closed, then it has; its end isn't acknowledged yet.
     LastAck,
+    /// Over; late segments are waited for.
     TimeWait,
 }
 
@@ -81,6 +92,7 @@ impl Socket<'_> {
         self.connect_from(remote, None, local_port)
     }
 
+    /// Opens a connection from a port, of this own address or of one that is chosen.
     pub fn connect_from(&mut self, remote: SocketAddr, local: Option<IpAddr>, local_port: u16) -> Result<()> {
         done(unsafe {
             ffi::zv_tcp_connect(
@@ -127,14 +139,17 @@ impl Socket<'_> {
         Ok(answer)
     }
 
+    /// Closes the way out: what is queued still goes, and then the end of the stream.
     pub fn close(&mut self) -> Result<()> {
         done(unsafe { ffi::zv_tcp_close(&mut self.interface.host, self.handle.0) })
     }
 
+    /// Ends the connection. The next poll sends a reset, if there is a remote that waits for one.
     pub fn abort(&mut self) -> Result<()> {
         done(unsafe { ffi::zv_tcp_abort(&mut self.interface.host, self.handle.0) })
     }
 
+    /// The state of the connection.
     pub fn state(&mut self) -> Result<State> {
         let mut state = 0;
         done(unsafe { ffi::zv_tcp_state(&mut self.interface.host, self.handle.0, &mut state) })?;
@@ -158,14 +173,17 @@ impl Socket<'_> {
         Ok((received, queued))
     }
 
+    /// How long the remote may be silent while something waits for it; `None` for ever.
     pub fn set_timeout(&mut self, limit: Option<Duration>) -> Result<()> {
         done(unsafe { ffi::zv_tcp_set_timeout(&mut self.interface.host, self.handle.0, micros(limit)) })
     }
 
+    /// The interval of keep-alives, of which the first goes at once; `None` for none.
     pub fn set_keep_alive(&mut self, interval: Option<Duration>) -> Result<()> {
         done(unsafe { ffi::zv_tcp_set_keep_alive(&mut self.interface.host, self.handle.0, micros(interval)) })
     }
 
+    /// The delay of an acknowledgement; `None` for none. A new socket has 10 ms.
     pub fn set_ack_delay(&mut self, delay: Option<Duration>) -> Result<()> {
         done(unsafe { ffi::zv_tcp_set_ack_delay(&mut self.interface.host, self.handle.0, micros(delay)) })
     }
@@ -180,10 +198,12 @@ impl Socket<'_> {
         done(unsafe { ffi::zv_tcp_set_fine_timer(&mut self.interface.host, self.handle.0, fine.into()) })
     }
 
+    /// Whether small segments wait while others are in flight, as they do at a new socket.
     pub fn set_nagle_enabled(&mut self, enabled: bool) -> Result<()> {
         done(unsafe { ffi::zv_tcp_set_nagle(&mut self.interface.host, self.handle.0, enabled.into()) })
     }
 
+    /// The hop limit of what is sent; `None` for the usual 64.
     pub fn set_hop_limit(&mut self, limit: Option<u8>) -> Result<()> {
         done(unsafe { ffi::zv_tcp_set_hop_limit(&mut self.interface.host, self.handle.0, limit.unwrap_or(0)) })
     }

@@ -1,6 +1,6 @@
 //! UDP sockets.
 use crate::{address, done, endpoint, ffi, optional, read, read_endpoint, Error, Interface, Result, SocketHandle};
-use std::net::{IpAddr, SocketAddr};
+use core::net::{IpAddr, SocketAddr};
 
 /// A UDP socket of an interface.
 pub struct Socket<'a> {
@@ -11,7 +11,9 @@ pub struct Socket<'a> {
 /// Where a datagram goes to or comes from, and the own address on its other end.
 #[derive(Clone, Copy, Debug, PartialEq, Eq)]
 pub struct UdpMetadata {
+    /// The other end: where a datagram goes, or where it came from.
     pub endpoint: SocketAddr,
+    /// The own address that it goes from, or that it was sent to.
     pub local_address: Option<IpAddr>,
 }
 
@@ -44,6 +46,7 @@ impl Socket<'_> {
         done(unsafe { ffi::zv_udp_bind(&mut self.interface.host, self.handle.0, &optional(local), port) })
     }
 
+    /// Queues a datagram, which a poll sends.
     pub fn send_slice(&mut self, data: &[u8], meta: impl Into<UdpMetadata>) -> Result<()> {
         let meta = meta.into();
         let local = meta.local_address.map_or(ffi::Address::default(), address);
@@ -59,6 +62,7 @@ impl Socket<'_> {
         })
     }
 
+    /// Copies the first datagram that waits: its length, where it came from, and where it was sent to.
     pub fn recv_slice(&mut self, data: &mut [u8]) -> Result<(usize, UdpMetadata)> {
         let (mut remote, mut local) = (ffi::Endpoint::default(), ffi::Address::default());
         let handle = self.handle.0;
@@ -69,10 +73,12 @@ impl Socket<'_> {
         Ok((count, UdpMetadata { endpoint, local_address: read(&local) }))
     }
 
+    /// Sets the hop limit of what is sent; `None` for the usual 64.
     pub fn set_hop_limit(&mut self, limit: Option<u8>) -> Result<()> {
         done(unsafe { ffi::zv_udp_set_hop_limit(&mut self.interface.host, self.handle.0, limit.unwrap_or(0)) })
     }
 
+    /// Unbinds the socket, and empties its queues.
     pub fn close(&mut self) -> Result<()> {
         done(unsafe { ffi::zv_udp_close(&mut self.interface.host, self.handle.0) })
     }

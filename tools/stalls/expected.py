@@ -69,7 +69,7 @@ def standstill(lan, script):
 
 
 def settled(lan, script):
-    """The same of a case of two sockets (docs/PROGRAM.md), each cut in a pair of its own, which `settle` closes."""
+    """The same of a case of two sockets (docs/guide/simulator.md), each cut in a pair of its own, which `settle` closes."""
     events = [line for line in script if line.startswith(("sockets ", "> "))]
     cuts = [(cut, LONGEST) for cut in range(1, len(events) + 1)]
     spans = [(len(events), seconds * SECOND) for seconds in range(LONGEST // SECOND + 1)]

@@ -11,24 +11,24 @@ use Rattle.sockets.specs.AnySocket.{as_tcp}
 use Rattle.sockets.specs.TcpCalls.{connect_after, connect_draws}
 use Rattle.sockets.specs.declared.socket.Socket.{Socket}
 use Rattle.sockets.specs.declared.socket.Socket.TheVariants as Kind
-use Rattle.c_calls.specs.Places.{after_at, draws_at}
+use Rattle.c_calls.specs.Slots.{after_at, draws_at}
 use Rattle.c_calls.specs.Host.{StackValue}
 
-module _ (place : ℕ) (remote : IpEndpoint) (local : IpListenEndpoint) where
+module _ (slot : ℕ) (remote : IpEndpoint) (local : IpListenEndpoint) where
   abbrev host_after : StackValue → HostValue
   host_after s =
-      if draws_at as_tcp (λ v. connect_draws (context_of s.host.inner) v remote local) s.places place
+      if draws_at as_tcp (λ v. connect_draws (context_of s.host.inner) v remote local) s.slots slot
       then with_inner s.host (drawn s.host.inner) else s.host
 
-  abbrev places_after : StackValue → List (SocketStorage Socket)
-  places_after s = after_at as_tcp (λ x. Kind.Tcp x) (λ v. connect_after (context_of s.host.inner) v remote local) s.places place
+  abbrev slots_after : StackValue → List (SocketStorage Socket)
+  slots_after s = after_at as_tcp (λ x. Kind.Tcp x) (λ v. connect_after (context_of s.host.inner) v remote local) s.slots slot
 
   abbrev connected : StackValue → StackValue
-  connected s = record s { host = host_after s; places = places_after s }
+  connected s = record s { host = host_after s; slots = slots_after s }
 
-  pub connects : (s now : StackValue) (h : HostValue) (ps : List (SocketStorage Socket)) → s ≡ now → h ≡ host_after s → ps ≡ places_after s
-      → record s { host = h; places = ps } ≡ connected now
-  connects s now h ps is drew went =
-      ap (λ (x : HostValue). record s { host = x; places = ps }) drew
-      ∙ ap (λ (x : List (SocketStorage Socket)). record s { host = host_after s; places = x }) went
+  pub connects : (s now : StackValue) (h : HostValue) (ps : List (SocketStorage Socket)) → s ≡ now → h ≡ host_after s → ps ≡ slots_after s
+      → record s { host = h; slots = ps } ≡ connected now
+  connects s now h ps is drew was_sent =
+      ap (λ (x : HostValue). record s { host = x; slots = ps }) drew
+      ∙ ap (λ (x : List (SocketStorage Socket)). record s { host = host_after s; slots = x }) was_sent
       ∙ ap connected is

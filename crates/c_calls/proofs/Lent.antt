@@ -3,33 +3,33 @@ use Rattle.std.proofs.Common.{◌≡◌, ℕ, false, List, Option, None, Some, R
 use Rattle.std.specs.Prelude.{slice_get, slice_set, OnSome}
 use Rattle.std.specs.Borrow.{MutBor}
 use Rattle.std.specs.Option.{option_copied_mut}
-use Rattle.interface.specs.Set.{places, is_fixed, set_at, set_by, set_in, socket_at, socket_in, socket_of}
+use Rattle.interface.specs.Set.{slots, is_fixed, set_at, set_by, set_in, socket_at, socket_in, socket_of}
 use Rattle.interface.specs.Item.{Item}
-use Rattle.interface_egress.specs.declared.socket_set.SocketSet.{SocketSet}
+use Rattle.iface_egress.specs.declared.socket_set.SocketSet.{SocketSet}
 use Rattle.interface.specs.SocketStorage.{SocketStorage}
-use Rattle.interface_egress.proofs.Lent.{same_place}
+use Rattle.iface_egress.proofs.Lent.{same_slot}
 use Rattle.sockets.specs.declared.socket.Socket.{Socket}
-use Rattle.c_calls.specs.Places.{found_at, answer_of_kind, answer_of_item, answer_in}
+use Rattle.c_calls.specs.Slots.{found_at, answer_of_kind, answer_of_item, answer_in}
 use Rattle.c_calls.specs.declared.code.Code.{Code}
 
--- what stands at a place already changes no places
+-- what stands at a slot already changes no slots
 module _ (ps : List (SocketStorage Socket)) (n : ℕ) (s : Socket) where
-  same_item : (o : Option (Item Socket)) (place : SocketStorage Socket) → slice_get ps n ≡ Some place → place.inner ≡ o → socket_of o ≡ Some s →
+  same_item : (o : Option (Item Socket)) (slot : SocketStorage Socket) → slice_get ps n ≡ Some slot → slot.inner ≡ o → socket_of o ≡ Some s →
       set_in o ps n s ≡ ps
-  same_item None place got is has = cc
-  same_item (Some item) place got is has =
+  same_item None slot got is has = cc
+  same_item (Some item) slot got is has =
       let at : item.socket ≡ s = cc in
       subst (λ (x : Socket). slice_set ps n (record { inner = Some (record item { socket = x }) }) ≡ ps) at
-      (subst (λ (o : Option (Item Socket)). slice_set ps n (record { inner = o }) ≡ ps) is (same_place ps n place got))
+      (subst (λ (o : Option (Item Socket)). slice_set ps n (record { inner = o }) ≡ ps) is (same_slot ps n slot got))
 
   same_by : (found : Option (SocketStorage Socket)) → slice_get ps n ≡ found → socket_in found ≡ Some s → set_by found ps n s ≡ ps
   same_by None got has = cc
-  same_by (Some place) got has = same_item place.inner place got refl has
+  same_by (Some slot) got has = same_item slot.inner slot got refl has
 
   pub same_at : socket_at ps n ≡ Some s → set_at ps n s ≡ ps
   same_at has = same_by (slice_get ps n) refl has
 
--- the socket at a place, taken for one of a kind
+-- the socket at a slot, taken for one of a kind
 module _ {V : Type 0} (as_kind : Socket → Option V) (ps : List (SocketStorage Socket)) (n : ℕ) (s : Socket) where
   abbrev kind_found : Option V → Result V Code
   kind_found = answer_of_kind as_kind (λ v. Ok v)
@@ -42,29 +42,29 @@ module _ {V : Type 0} (as_kind : Socket → Option V) (ps : List (SocketStorage 
 
   found_in : (o : Option (SocketStorage Socket)) → socket_in o ≡ Some s → answer_in as_kind (λ v. Ok v) o ≡ kind_found (as_kind s)
   found_in None has = cc
-  found_in (Some place) has = found_item place.inner has
+  found_in (Some slot) has = found_item slot.inner has
 
   pub found_kind : socket_at ps n ≡ Some s → (k : Option V) → as_kind s ≡ k → found_at as_kind ps n ≡ kind_found k
   found_kind has k is = found_in (slice_get ps n) has ∙ ap kind_found is
 
--- a socket that the set of these places lends, by a handle of the place
-module _ (set : SocketSet Socket) (ps : List (SocketStorage Socket)) (same : places set ≡ ps) (h n : ℕ) (at : h ≡ n) (r : Option (MutBor Socket))
+-- a socket that the set of these slots lends, by a handle of the slot
+module _ (set : SocketSet Socket) (ps : List (SocketStorage Socket)) (same : slots set ≡ ps) (h n : ℕ) (at : h ≡ n) (r : Option (MutBor Socket))
     (s : MutBor Socket) (is : r ≡ Some s) where
-  pub there : option_copied_mut r ≡ socket_at (places set) h → socket_at ps n ≡ Some s.now
+  pub there : option_copied_mut r ≡ socket_at (slots set) h → socket_at ps n ≡ Some s.now
   there value =
-      sym (ap (λ x. socket_at x n) same) ∙ sym (ap (socket_at (places set)) at) ∙ sym value ∙ ap (λ x. option_copied_mut x) is
+      sym (ap (λ x. socket_at x n) same) ∙ sym (ap (socket_at (slots set)) at) ∙ sym value ∙ ap (λ x. option_copied_mut x) is
 
   abbrev Holds : SocketSet Socket → Socket → Option (MutBor Socket) → Type 0
-  Holds new w r = OnSome r ((places new ≡ set_at (places set) h w) × (is_fixed new ≡ is_fixed set))
+  Holds new w r = OnSome r ((slots new ≡ set_at (slots set) h w) × (is_fixed new ≡ is_fixed set))
 
-  pub lent_at : (new : SocketSet Socket) (w : Socket) → Holds new w r → places new ≡ set_at ps n w
+  pub lent_at : (new : SocketSet Socket) (w : Socket) → Holds new w r → slots new ≡ set_at ps n w
   lent_at new w holds =
-      (subst (Holds new w) is holds).0 ∙ ap (λ (k : ℕ). set_at (places set) k w) at ∙ ap (λ x. set_at x n w) same
+      (subst (Holds new w) is holds).0 ∙ ap (λ (k : ℕ). set_at (slots set) k w) at ∙ ap (λ x. set_at x n w) same
 
   pub unfixed : is_fixed set ≡ false → (new : SocketSet Socket) (w : Socket) → Holds new w r → is_fixed new ≡ false
   unfixed grows new w holds = (subst (Holds new w) is holds).1 ∙ grows
 
--- a socket that places lend
+-- a socket that slots lend
 module _ (ps : List (SocketStorage Socket)) (n : ℕ) (r : Option (MutBor Socket)) (s : MutBor Socket) (is : r ≡ Some s) where
   pub found : option_copied_mut r ≡ socket_at ps n → socket_at ps n ≡ Some s.now
   found value = sym value ∙ ap (λ x. option_copied_mut x) is

@@ -7,7 +7,7 @@ use Rattle.interface.specs.Settings.{MadeUnless, refusal}
 use Rattle.interface.specs.Config.{Config}
 use Rattle.interface.specs.NewError.{NewError}
 use Rattle.c_calls.specs.declared.code.Code.{Code}
-use Rattle.c_calls.specs.Calls.{NewHost, NewHostUnless, config_of, device_of, fresh_host, none_counted}
+use Rattle.c_calls.specs.Calls.{NewHost, NewHostUnless, config_of, device_of, initial_host, none_counted}
 use Rattle.c_calls.specs.Codes.{of_new}
 use Rattle.c_calls.specs.Host.{StackValue}
 use Rattle.c_calls.specs.Link.{unused}
@@ -28,7 +28,7 @@ refused_by settings now config device r e code configured described is coded h =
     subst (λ x. Makes x (device_of settings) now (Err e)) configured
     (subst (λ x. Makes config x now (Err e)) described (subst (λ x. Makes config device now x) is h)) in
     subst (λ x. NewHost settings now (Err x)) (sym coded)
-    (refused (refusal (config_of settings) (device_of settings) now) (new_host (config_of settings) (device_of settings) now) e (fresh_host settings now) given)
+    (refused (refusal (config_of settings) (device_of settings) now) (new_host (config_of settings) (device_of settings) now) e (initial_host settings now) given)
 
 pub made : (r : Option NewError) (h h' : HostValue) (s s' : StackValue) → MadeUnless r h (Ok h') → (h' ≡ h → s' ≡ s) → NewHostUnless r s (Ok s')
 made (Some error) h h' s s' is same = absurd (cc)
@@ -36,16 +36,16 @@ made None h h' s s' is same = same is
 
 pub made_by : (settings : Settings) (now : ℤ) (config : Config) (device : DeviceCapabilities) (r : Result HostValue NewError) (h : HostValue)
     (s : StackValue) → config ≡ config_of settings → device ≡ device_of settings → r ≡ Ok h → Makes config device now r
-    → (h ≡ new_host (config_of settings) (device_of settings) now → s ≡ fresh_host settings now) → NewHost settings now (Ok s)
+    → (h ≡ new_host (config_of settings) (device_of settings) now → s ≡ initial_host settings now) → NewHost settings now (Ok s)
 made_by settings now config device r h s configured described is made_so same =
     let given : Makes (config_of settings) (device_of settings) now (Ok h) =
     subst (λ x. Makes x (device_of settings) now (Ok h)) configured
     (subst (λ x. Makes config x now (Ok h)) described (subst (λ x. Makes config device now x) is made_so)) in
-    made (refusal (config_of settings) (device_of settings) now) (new_host (config_of settings) (device_of settings) now) h (fresh_host settings now) s
+    made (refusal (config_of settings) (device_of settings) now) (new_host (config_of settings) (device_of settings) now) h (initial_host settings now) s
     given same
 
 pub is_fresh : (settings : Settings) (now : ℤ) (s : StackValue) → s.link ≡ unused (device_of settings) settings.frames
-    → s.host ≡ new_host (config_of settings) (device_of settings) now → s.places ≡ [] → s.listeners ≡ [] → s.dhcp ≡ None → s.dns ≡ None
-    → s.counters ≡ none_counted → s ≡ fresh_host settings now
-is_fresh settings now s link host places listeners dhcp dns counters =
-    λ k. record { link = link k; host = host k; places = places k; listeners = listeners k; dhcp = dhcp k; dns = dns k; counters = counters k }
+    → s.host ≡ new_host (config_of settings) (device_of settings) now → s.slots ≡ [] → s.listeners ≡ [] → s.dhcp ≡ None → s.dns ≡ None
+    → s.counters ≡ none_counted → s ≡ initial_host settings now
+is_fresh settings now s link host slots listeners dhcp dns counters =
+    λ k. record { link = link k; host = host k; slots = slots k; listeners = listeners k; dhcp = dhcp k; dns = dns k; counters = counters k }

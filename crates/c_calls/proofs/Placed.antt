@@ -1,14 +1,14 @@
--- What a call makes of a host's places: of a socket of its kind what it makes of that socket, and of all else nothing.
+-- What a call makes of a host's slots: of a socket of its kind what it makes of that socket, and of all else nothing.
 use Rattle.std.proofs.Common.{◌≡◌, ℕ, Bool, true, false, List, Option, None, Some, Result, Ok, Err, refl, sym, ap, subst, ◌∙◌}
 use Rattle.std.specs.Prelude.{slice_get, slice_set, is_ok, MatchResult, OnErr}
 use Rattle.std.specs.Borrow.{MutBor}
 use Rattle.interface.specs.Set.{set_at, set_by, set_in, with_socket}
 use Rattle.interface.specs.Item.{Item}
 use Rattle.interface.specs.SocketStorage.{SocketStorage}
-use Rattle.interface_egress.proofs.Lent.{same_place}
+use Rattle.iface_egress.proofs.Lent.{same_slot}
 use Rattle.sockets.specs.declared.socket.Socket.{Socket}
-use Rattle.c_calls.specs.Places.{found_at, answer_of_kind, answer_of_item, answer_in, answer_at, after_of_kind, after_item, after_in, after_at}
-use Rattle.c_calls.specs.Places.{written_of_kind, written_of_item, written_in, written_at, draws_of_kind, draws_of_item, draws_in, draws_at}
+use Rattle.c_calls.specs.Slots.{found_at, answer_of_kind, answer_of_item, answer_in, answer_at, after_of_kind, after_item, after_in, after_at}
+use Rattle.c_calls.specs.Slots.{written_of_kind, written_of_item, written_in, written_at, draws_of_kind, draws_of_item, draws_in, draws_at}
 use Rattle.c_calls.specs.declared.code.Code.{Code}
 
 module _ {V : Type 0} (as_kind : Socket → Option V) where
@@ -34,7 +34,7 @@ module _ {V : Type 0} (as_kind : Socket → Option V) where
 
       answered_in : (o : Option (SocketStorage Socket)) → in_found o ≡ Ok v → answer v ≡ answer_in as_kind answer o
       answered_in None h = cc
-      answered_in (Some place) h = answered_item place.inner h
+      answered_in (Some slot) h = answered_item slot.inner h
 
       -- the call answers what it answers of that socket
       pub answered : found_at as_kind ps n ≡ Ok v → answer v ≡ answer_at as_kind answer ps n
@@ -52,9 +52,9 @@ module _ {V : Type 0} (as_kind : Socket → Option V) where
 
       became_in : (o : Option (SocketStorage Socket)) → in_found o ≡ Ok v → set_by o ps n (of_kind (after v)) ≡ after_in as_kind of_kind after ps n o
       became_in None h = refl
-      became_in (Some place) h = became_item place.inner h
+      became_in (Some slot) h = became_item slot.inner h
 
-      -- the place has the socket that the call leaves
+      -- the slot has the socket that the call leaves
       pub became : found_at as_kind ps n ≡ Ok v → set_at ps n (of_kind (after v)) ≡ after_at as_kind of_kind after ps n
       became h = became_in (slice_get ps n) h
 
@@ -69,7 +69,7 @@ module _ {V : Type 0} (as_kind : Socket → Option V) where
 
       written_by : (o : Option (SocketStorage Socket)) → in_found o ≡ Ok v → writes v out ≡ written_in as_kind writes out o
       written_by None h = cc
-      written_by (Some place) h = written_item place.inner h
+      written_by (Some slot) h = written_item slot.inner h
 
       -- the buffer has what is read of that socket
       pub written : found_at as_kind ps n ≡ Ok v → writes v out ≡ written_at as_kind writes out ps n
@@ -86,7 +86,7 @@ module _ {V : Type 0} (as_kind : Socket → Option V) where
 
       drew_in : (o : Option (SocketStorage Socket)) → in_found o ≡ Ok v → draws v ≡ draws_in as_kind draws o
       drew_in None h = cc
-      drew_in (Some place) h = drew_item place.inner h
+      drew_in (Some slot) h = drew_item slot.inner h
 
       -- a random word is drawn where the call of that socket draws one
       pub drew : found_at as_kind ps n ≡ Ok v → draws v ≡ draws_at as_kind draws ps n
@@ -105,7 +105,7 @@ module _ {V : Type 0} (as_kind : Socket → Option V) where
 
       refused_in : (o : Option (SocketStorage Socket)) → in_found o ≡ Err code → Err code ≡ answer_in as_kind answer o
       refused_in None h = cc
-      refused_in (Some place) h = refused_item place.inner h
+      refused_in (Some slot) h = refused_item slot.inner h
 
       -- the call says so
       pub refused : found_at as_kind ps n ≡ Err code → Err code ≡ answer_at as_kind answer ps n
@@ -116,18 +116,18 @@ module _ {V : Type 0} (as_kind : Socket → Option V) where
       kept_kind socket None h = refl
       kept_kind socket (Some w) h = cc
 
-      kept_item : (place : SocketStorage Socket) (o : Option (Item Socket)) → slice_get ps n ≡ Some place → place.inner ≡ o → item_found o ≡ Err code →
+      kept_item : (slot : SocketStorage Socket) (o : Option (Item Socket)) → slice_get ps n ≡ Some slot → slot.inner ≡ o → item_found o ≡ Err code →
           ps ≡ after_item as_kind of_kind after ps n o
-      kept_item place None got is h = refl
-      kept_item place (Some item) got is h =
-          sym (subst (λ (o : Option (Item Socket)). slice_set ps n (record { inner = o }) ≡ ps) is (same_place ps n place got))
+      kept_item slot None got is h = refl
+      kept_item slot (Some item) got is h =
+          sym (subst (λ (o : Option (Item Socket)). slice_set ps n (record { inner = o }) ≡ ps) is (same_slot ps n slot got))
           ∙ ap (λ (s : Socket). slice_set ps n (with_socket item s)) (kept_kind item.socket (as_kind item.socket) h)
 
       kept_in : (o : Option (SocketStorage Socket)) → slice_get ps n ≡ o → in_found o ≡ Err code → ps ≡ after_in as_kind of_kind after ps n o
       kept_in None got h = refl
-      kept_in (Some place) got h = kept_item place place.inner got refl h
+      kept_in (Some slot) got h = kept_item slot slot.inner got refl h
 
-      -- the places stay as they are
+      -- the slots stay as they are
       pub kept : found_at as_kind ps n ≡ Err code → ps ≡ after_at as_kind of_kind after ps n
       kept h = kept_in (slice_get ps n) refl h
 
@@ -142,7 +142,7 @@ module _ {V : Type 0} (as_kind : Socket → Option V) where
 
       unwritten_in : (o : Option (SocketStorage Socket)) → in_found o ≡ Err code → out ≡ written_in as_kind writes out o
       unwritten_in None h = refl
-      unwritten_in (Some place) h = unwritten_item place.inner h
+      unwritten_in (Some slot) h = unwritten_item slot.inner h
 
       -- the buffer has what it had
       pub unwritten : found_at as_kind ps n ≡ Err code → out ≡ written_at as_kind writes out ps n
@@ -159,13 +159,13 @@ module _ {V : Type 0} (as_kind : Socket → Option V) where
 
       undrawn_in : (o : Option (SocketStorage Socket)) → in_found o ≡ Err code → false ≡ draws_in as_kind draws o
       undrawn_in None h = refl
-      undrawn_in (Some place) h = undrawn_item place.inner h
+      undrawn_in (Some slot) h = undrawn_item slot.inner h
 
       -- no random word is drawn
       pub undrawn : found_at as_kind ps n ≡ Err code → false ≡ draws_at as_kind draws ps n
       undrawn h = undrawn_in (slice_get ps n) h
 
--- what a look for the socket at a place said, by a reference of either kind
+-- what a look for the socket at a slot said, by a reference of either kind
 module _ {V : Type 0} (as_kind : Socket → Option V) (ps : List (SocketStorage Socket)) (n : ℕ) where
   pub found_of : (r : Result (MutBor V) Code) (s : MutBor V) → r ≡ Ok s
       → MatchResult r (λ s. found_at as_kind ps n ≡ Ok s.now) (λ code. found_at as_kind ps n ≡ Err code) → found_at as_kind ps n ≡ Ok s.now
@@ -177,13 +177,13 @@ module _ {V : Type 0} (as_kind : Socket → Option V) (ps : List (SocketStorage 
   missed_of r code is h =
       subst (λ (x : Result (MutBor V) Code). MatchResult x (λ s. found_at as_kind ps n ≡ Ok s.now) (λ code. found_at as_kind ps n ≡ Err code)) is h
 
--- WHAT IS LEFT of places of which a socket was lent, and of such without it
+-- WHAT IS LEFT of slots of which a socket was lent, and of such without it
 module _ {V : Type 0} (as_kind : Socket → Option V) (of_kind : V → Socket) (after : V → V) (set new : List (SocketStorage Socket)) (n : ℕ) where
   -- the socket that was found is left as the call leaves it
   pub left : (r : Result (MutBor V) Code) (s : MutBor V) (w : V) → found_at as_kind set n ≡ Ok s.now → r ≡ Ok s → w ≡ after s.now →
       (is_ok r ≡ true → new ≡ set_at set n (of_kind w)) → new ≡ after_at as_kind of_kind after set n
-  left r s w found is went holds =
-      holds (ap (λ x. is_ok x) is) ∙ ap (λ (x : V). set_at set n (of_kind x)) went ∙ became as_kind set n s.now of_kind after found
+  left r s w found is was_sent holds =
+      holds (ap (λ x. is_ok x) is) ∙ ap (λ (x : V). set_at set n (of_kind x)) was_sent ∙ became as_kind set n s.now of_kind after found
 
   pub unchanged : (r : Result (MutBor V) Code) (code : Code) → found_at as_kind set n ≡ Err code → r ≡ Err code
       → OnErr r (new ≡ set) → new ≡ after_at as_kind of_kind after set n

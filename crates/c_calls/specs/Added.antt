@@ -5,12 +5,12 @@ use Rattle.net_base.specs.Packets.{packets_in}
 use Rattle.net_base.specs.Ring.{ring}
 use Rattle.ip_wire.specs.IpProtocol.{IpProtocol}
 use Rattle.ip_wire.specs.IpVersion.{IpVersion}
-use Rattle.interface.specs.Set.{free_place, unmarked}
+use Rattle.interface.specs.Set.{free_slot, unmarked}
 use Rattle.interface.specs.SocketStorage.{SocketStorage}
-use Rattle.sockets.specs.Udp as Udp
-use Rattle.sockets.specs.Icmp as Icmp
-use Rattle.sockets.specs.Raw as Raw
-use Rattle.sockets.specs.SocketValue.{fresh}
+use Rattle.socket_datagram.specs.Udp as Udp
+use Rattle.socket_datagram.specs.Icmp as Icmp
+use Rattle.socket_datagram.specs.Raw as Raw
+use Rattle.socket_datagram.specs.SocketValue.{initial}
 use Rattle.sockets.specs.TcpValue.{new_socket}
 use Rattle.sockets.specs.declared.socket.Socket.{Socket}
 use Rattle.sockets.specs.declared.socket.Socket.TheVariants as Kind
@@ -18,33 +18,33 @@ use Rattle.c_calls.specs.declared.code.Code.{Code}
 use Rattle.c_calls.specs.declared.code.Code.TheVariants as Is
 use Rattle.c_calls.specs.Host.{StackValue}
 
-abbrev pub place_by : Option ℕ → List (SocketStorage Socket) → ℕ
-place_by None places = length places
-place_by (Some place) places = place
+abbrev pub slot_by : Option ℕ → List (SocketStorage Socket) → ℕ
+slot_by None slots = length slots
+slot_by (Some slot) slots = slot
 
--- the first free place, or one behind the others
-abbrev pub place_in : List (SocketStorage Socket) → ℕ
-place_in places = place_by (free_place places) places
+-- the first free slot, or one after the others
+abbrev pub slot_in : List (SocketStorage Socket) → ℕ
+slot_in slots = slot_by (free_slot slots) slots
 
 abbrev pub added_by : Option ℕ → List (SocketStorage Socket) → Socket → List (SocketStorage Socket)
-added_by None places socket = places ++ unmarked socket ∷ []
-added_by (Some place) places socket = slice_set places place (unmarked socket)
+added_by None slots socket = slots ++ unmarked socket ∷ []
+added_by (Some slot) slots socket = slice_set slots slot (unmarked socket)
 
 abbrev pub added : List (SocketStorage Socket) → Socket → List (SocketStorage Socket)
-added places socket = added_by (free_place places) places socket
+added slots socket = added_by (free_slot slots) slots socket
 
 abbrev pub with_socket : StackValue → Socket → StackValue
-with_socket s socket = record s { places = added s.places socket }
+with_socket s socket = record s { slots = added s.slots socket }
 
--- a socket comes to the first free place, or there is no memory for it and the places stay as they are
+-- a socket comes to the first free slot, or there is no memory for it and the slots stay as they are
 abbrev pub AddsSocket : Socket → List (SocketStorage Socket) → Result ℕ Code → List (SocketStorage Socket) → Type 0
-AddsSocket socket places result places' =
-    MatchResult result (λ place. (place ≡ place_in places) × (places' ≡ added places socket)) (λ code. (code ≡ Is.Memory) × (places' ≡ places))
+AddsSocket socket slots result slots' =
+    MatchResult result (λ slot. (slot ≡ slot_in slots) × (slots' ≡ added slots socket)) (λ code. (code ≡ Is.Memory) × (slots' ≡ slots))
 
 -- so does one of a host, of which nothing else changes
 abbrev pub MakesSocket : Socket → StackValue → Result ℕ Code → StackValue → Type 0
 MakesSocket socket s result s' =
-    MatchResult result (λ place. (place ≡ place_in s.places) × (s' ≡ with_socket s socket)) (λ code. (code ≡ Is.Memory) × (s' ≡ s))
+    MatchResult result (λ slot. (slot ≡ slot_in s.slots) × (s' ≡ with_socket s socket)) (λ code. (code ≡ Is.Memory) × (s' ≡ s))
 
 -- sockets as they are made
 
@@ -56,7 +56,7 @@ new_icmp packets bytes = Kind.Icmp (Icmp.made (packets_in [] 0 packets bytes) (p
 
 abbrev pub new_raw : Option IpVersion → Option IpProtocol → ℕ → ℕ → Socket
 new_raw version protocol packets bytes =
-    Kind.Raw (fresh (Raw.filters version protocol) (packets_in [] 0 packets bytes) (packets_in [] 0 packets bytes))
+    Kind.Raw (initial (Raw.filters version protocol) (packets_in [] 0 packets bytes) (packets_in [] 0 packets bytes))
 
 abbrev pub new_tcp : ℕ → ℕ → Socket
 new_tcp received queued = Kind.Tcp (new_socket received (ring [] (replicate queued 0) 0))

@@ -11,10 +11,10 @@ use Rattle.sockets.specs.AnySocket.{as_tcp}
 use Rattle.sockets.specs.TcpValue.{TcpValue}
 use Rattle.sockets.specs.declared.socket.Socket.{Socket}
 use Rattle.sockets.specs.TcpStates.{is_closed}
-use Rattle.interface.specs.Backlog.Calls.{fresh_entry, Refreshes, Accepts, given_back}
+use Rattle.interface.specs.Backlog.Calls.{initial_entry, Refreshes, Accepts, given_back}
 use Rattle.interface.specs.declared.listener.entry.Entry.{Entry}
 use Rattle.interface.specs.declared.listener.Listener.{Listener}
-use Rattle.c_calls.specs.Places.{answer_at}
+use Rattle.c_calls.specs.Slots.{answer_at}
 use Rattle.c_calls.specs.declared.code.Code.{Code}
 use Rattle.c_calls.specs.declared.code.Code.TheVariants as Is
 use Rattle.c_calls.specs.Host.{StackValue}
@@ -45,31 +45,31 @@ RefreshesAll now (l ∷ ls) ps (l' ∷ ls') ps' =
 
 -- MADE AND GIVEN UP
 
-abbrev pub listener_place_by : Option ℕ → List (Option Listener) → ℕ
-listener_place_by None ls = length ls
-listener_place_by (Some place) ls = place
+abbrev pub listener_slot_by : Option ℕ → List (Option Listener) → ℕ
+listener_slot_by None ls = length ls
+listener_slot_by (Some slot) ls = slot
 
--- the first free place of a listener, or one behind the others
-abbrev pub listener_place : List (Option Listener) → ℕ
-listener_place ls = listener_place_by (position is_none ls) ls
+-- the first free place of a listener, or one after the others
+abbrev pub listener_slot : List (Option Listener) → ℕ
+listener_slot ls = listener_slot_by (position is_none ls) ls
 
 abbrev pub put_by : Option ℕ → List (Option Listener) → Listener → List (Option Listener)
 put_by None ls l = ls ++ Some l ∷ []
-put_by (Some place) ls l = slice_set ls place (Some l)
+put_by (Some slot) ls l = slice_set ls slot (Some l)
 
 abbrev pub IsNewAt : IpListenEndpoint → Listener → Type 0
 IsNewAt endpoint l = (l.endpoint ≡ endpoint) × (l.entries.items ≡ []) × (l.keepers.items ≡ [])
 
--- the listener is at its place, or there is no memory and nothing changes
+-- the listener is at its slot, or there is no memory and nothing changes
 abbrev pub IsPut : List (Option Listener) → Listener → Result ℕ Code → List (Option Listener) → Type 0
 IsPut ls l result ls' =
-    MatchResult result (λ n. (n ≡ listener_place ls) × (ls' ≡ put_by (position is_none ls) ls l)) (λ code. (code ≡ Is.Memory) × (ls' ≡ ls))
+    MatchResult result (λ n. (n ≡ listener_slot ls) × (ls' ≡ put_by (position is_none ls) ls l)) (λ code. (code ≡ Is.Memory) × (ls' ≡ ls))
 
 -- why there can be none, but for memory
 abbrev pub listener_refusal : IpListenEndpoint → List (Option Listener) → Option Code
 listener_refusal endpoint ls =
     if endpoint.port == 0 then Some Is.Unaddressable
-    else if nat_le most_listeners (listener_place ls) then Some Is.TableFull
+    else if nat_le most_listeners (listener_slot ls) then Some Is.TableFull
     else None
 
 abbrev pub MakesListenerUnless : Option Code → IpListenEndpoint → StackValue → Result ℕ Code → StackValue → Type 0
@@ -101,25 +101,25 @@ without_listener (Some l) s n = with_listener s n None
 
 -- SOCKETS OF A BACKLOG
 
-abbrev pub has_place : ℕ → Option Listener → Bool
-has_place n None = false
-has_place n (Some l) = list_any (λ (e : Entry). e.handle.0 == n) l.entries.items || list_any (λ (h : SocketHandle). h.0 == n) l.keepers.items
+abbrev pub has_slot : ℕ → Option Listener → Bool
+has_slot n None = false
+has_slot n (Some l) = list_any (λ (e : Entry). e.handle.0 == n) l.entries.items || list_any (λ (h : SocketHandle). h.0 == n) l.keepers.items
 
--- the socket at the place is in a backlog, or a keeper
+-- the socket at the slot is in a backlog, or a keeper
 abbrev pub is_in_backlog : List (Option Listener) → ℕ → Bool
-is_in_backlog ls n = list_any (has_place n) ls
+is_in_backlog ls n = list_any (has_slot n) ls
 
 -- only a closed socket is taken
 abbrev pub closed_in : TcpValue → Result (Unit {0}) Code
-closed_in v = if is_closed v.block.state then Ok tt else Err Is.InvalidState
+closed_in v = if is_closed v.tcb.state then Ok tt else Err Is.InvalidState
 
 abbrev pub unless_held : Bool → Result (Unit {0}) Code → Result (Unit {0}) Code
 unless_held held (Err code) = Err code
 unless_held held (Ok u) = if held then Err Is.InBacklog else Ok tt
 
--- whether the socket may be taken: there is one at the place, of TCP, closed, and in no backlog
+-- whether the socket may be taken: there is one at the slot, of TCP, closed, and in no backlog
 abbrev pub may_be_taken : StackValue → ℕ → Result (Unit {0}) Code
-may_be_taken s socket = unless_held (is_in_backlog s.listeners socket) (answer_at as_tcp closed_in s.places socket)
+may_be_taken s socket = unless_held (is_in_backlog s.listeners socket) (answer_at as_tcp closed_in s.slots socket)
 
 abbrev pub handle : ℕ → SocketHandle
 handle n = record { 0 = n }
@@ -130,7 +130,7 @@ IsSame l l' = (l'.endpoint ≡ l.endpoint) × (l'.entries.items ≡ l.entries.it
 
 abbrev pub HasEntry : ℕ → Listener → Listener → Type 0
 HasEntry socket l l' =
-    (l'.endpoint ≡ l.endpoint) × (l'.entries.items ≡ l.entries.items ++ fresh_entry (handle socket) ∷ []) × (l'.keepers.items ≡ l.keepers.items)
+    (l'.endpoint ≡ l.endpoint) × (l'.entries.items ≡ l.entries.items ++ initial_entry (handle socket) ∷ []) × (l'.keepers.items ≡ l.keepers.items)
 
 abbrev pub HasKeeper : ℕ → Listener → Listener → Type 0
 HasKeeper socket l l' =
@@ -150,17 +150,17 @@ abbrev pub WhereThere : {A : Type 0} → (Listener → Result A Code → Option 
 WhereThere Does None result l' = (result ≡ Err Is.NoListener) × (l' ≡ None)
 WhereThere Does (Some l) result l' = Does l result l'
 
--- a call of the listener at a place, which leaves another there
-abbrev pub OnPlace : {A : Type 0} → (Listener → Result A Code → Option Listener → Type 0) → Option Listener → List (Option Listener) → ℕ → Result A Code →
+-- a call of the listener at a slot, which leaves another there
+abbrev pub OnSlot : {A : Type 0} → (Listener → Result A Code → Option Listener → Type 0) → Option Listener → List (Option Listener) → ℕ → Result A Code →
     List (Option Listener) → Type 0
-OnPlace Does None ls n result ls' = (result ≡ Err Is.NoListener) × (ls' ≡ ls)
-OnPlace Does (Some l) ls n result ls' = (l' : Option Listener) × Does l result l' × (ls' ≡ slice_set ls n l')
+OnSlot Does None ls n result ls' = (result ≡ Err Is.NoListener) × (ls' ≡ ls)
+OnSlot Does (Some l) ls n result ls' = (l' : Option Listener) × Does l result l' × (ls' ≡ slice_set ls n l')
 
 -- the same of a host's, of which nothing else changes
 abbrev pub OnListener : {A : Type 0} → (Listener → Result A Code → Option Listener → Type 0) → Option Listener → StackValue → ℕ → Result A Code →
     StackValue → Type 0
 OnListener Does l s n result s' =
-    (ls : List (Option Listener)) × OnPlace Does l s.listeners n result ls × (s' ≡ record s { listeners = ls })
+    (ls : List (Option Listener)) × OnSlot Does l s.listeners n result ls × (s' ≡ record s { listeners = ls })
 
 abbrev pub Grown : (Listener → Listener → Type 0) → Result (Unit {0}) Code → Listener → Result (Unit {0}) Code → Option Listener → Type 0
 Grown Changes (Err code) l result l' = (result ≡ Err code) × (l' ≡ Some l)
@@ -200,10 +200,10 @@ abbrev pub removed_answer : Bool → Option Socket → Result (Unit {0}) Code
 removed_answer held None = Err Is.NoSocket
 removed_answer held (Some socket) = if held then Err Is.InBacklog else Ok tt
 
--- whether the socket at the place may go: there is one, and no listener has it
+-- whether the socket at the slot may go: there is one, and no listener has it
 abbrev pub may_be_removed : StackValue → ℕ → Result (Unit {0}) Code
-may_be_removed s n = removed_answer (is_in_backlog s.listeners n) (socket_at s.places n)
+may_be_removed s n = removed_answer (is_in_backlog s.listeners n) (socket_at s.slots n)
 
 abbrev pub removed_by : Result (Unit {0}) Code → StackValue → ℕ → StackValue
 removed_by (Err code) s n = s
-removed_by (Ok u) s n = record s { places = slice_set s.places n free }
+removed_by (Ok u) s n = record s { slots = slice_set s.slots n free }

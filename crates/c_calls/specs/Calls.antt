@@ -22,7 +22,7 @@ use Rattle.interface.specs.Polls.{Polls}
 use Rattle.interface.specs.State.{state}
 use Rattle.interface.specs.Settings.{default_config, refusal}
 use Rattle.interface.specs.SocketStorage.{SocketStorage}
-use Rattle.interface.specs.Inner.{at_moment}
+use Rattle.interface.specs.Inner.{at_instant}
 use Rattle.interface.specs.Config.{Config}
 use Rattle.interface.specs.NewError.{NewError}
 use Rattle.sockets.specs.declared.socket.Socket.{Socket}
@@ -95,11 +95,11 @@ config_of settings = record (default_config (hardware_of settings.hardware)) { r
 -- A HOST THAT IS MADE
 
 -- without frames, addresses, routes, sockets, listeners and clients
-abbrev pub fresh_host : Settings → ℤ → StackValue
-fresh_host settings now = record {
+abbrev pub initial_host : Settings → ℤ → StackValue
+initial_host settings now = record {
   link = unused (device_of settings) settings.frames;
   host = new_host (config_of settings) (device_of settings) now;
-  places = [];
+  slots = [];
   listeners = [];
   dhcp = None;
   dns = None;
@@ -107,13 +107,13 @@ fresh_host settings now = record {
 }
 
 abbrev pub NewHostUnless : Option NewError → StackValue → Result StackValue Code → Type 0
-NewHostUnless (Some error) fresh result = result ≡ Err (of_new error)
-NewHostUnless None fresh result = MatchResult result (λ made. made ≡ fresh) (λ code. code ≡ Is.Memory)
+NewHostUnless (Some error) initial result = result ≡ Err (of_new error)
+NewHostUnless None initial result = MatchResult result (λ made. made ≡ initial) (λ code. code ≡ Is.Memory)
 
 -- what the interface refuses is refused by its code; else a host is made, or there is no memory
 abbrev pub NewHost : Settings → ℤ → Result StackValue Code → Type 0
 NewHost settings now result =
-    NewHostUnless (refusal (config_of settings) (device_of settings) now) (fresh_host settings now) result
+    NewHostUnless (refusal (config_of settings) (device_of settings) now) (initial_host settings now) result
 
 -- A POLL
 
@@ -121,17 +121,17 @@ NewHost settings now result =
 abbrev pub PollsAndListens : ℤ → ℕ → StackValue → Bool → StackValue → Type 0
 PollsAndListens now budget s changed s' =
     (polled : List (SocketStorage Socket))
-    × Polls LinkMove now budget (state s.link s.host s.places) changed (state s'.link s'.host polled)
-    × RefreshesAll (micros_of now) s.listeners polled s'.listeners s'.places
+    × Polls LinkMove now budget (state s.link s.host s.slots) changed (state s'.link s'.host polled)
+    × RefreshesAll (micros_of now) s.listeners polled s'.listeners s'.slots
     × (s'.counters ≡ record s.counters { polls = counted s.counters.polls })
 
 abbrev pub PollsAt : ℤ → ℕ → StackValue → Result Bool Code → StackValue → Type 0
 PollsAt now budget s result s' =
     MatchResult result (λ changed. IsMoment now × PollsAndListens now budget s changed s') (λ code. (code ≡ Is.Moment) × (IsMoment now → ⊥) × (s' ≡ s))
 
--- when it wants to be polled, asked at a moment
+-- when it wants to be polled, asked at an instant
 abbrev pub AsksAt : ℤ → StackValue → Result (Option ℤ) Code → StackValue → Type 0
 AsksAt now s result s' =
     MatchResult result
-    (λ at. IsMoment now × (at ≡ poll_instant (at_moment now s.host.inner) s.host.left s.places) × (s' ≡ record s { host = host_at now s.host }))
+    (λ at. IsMoment now × (at ≡ poll_instant (at_instant now s.host.inner) s.host.left s.slots) × (s' ≡ record s { host = host_at now s.host }))
     (λ code. (code ≡ Is.Moment) × (IsMoment now → ⊥) × (s' ≡ s))

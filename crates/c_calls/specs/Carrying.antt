@@ -18,7 +18,7 @@ use Rattle.c_calls.specs.declared.code.Code.TheVariants as Is
 abbrev pub ports_of : IpEndpoint → IpEndpoint → UdpRepr
 ports_of remote local = record { src_port = remote.port; dst_port = local.port }
 
--- how many bytes stand behind the IP header: eight of UDP's, and at most as many as there can be
+-- how many bytes stand after the IP header: eight of UDP's, and at most as many as there can be
 abbrev pub payload_len_of : ℕ → ℕ
 payload_len_of len = 8 + min len 65_527
 

@@ -1,21 +1,21 @@
 -- Why a call is refused: the numbers that C knows, and what the errors of the calls, of a link and of an interface become.
 use Rattle.std.specs.Prelude.{ℕ, Result, Ok, Err}
-use Rattle.sockets.specs.declared.error.BindError.{BindError}
-use Rattle.sockets.specs.declared.error.BindError.TheVariants as Bind
-use Rattle.sockets.specs.declared.error.SendError.{SendError}
-use Rattle.sockets.specs.declared.error.SendError.TheVariants as Send
-use Rattle.sockets.specs.declared.raw.SendError as Raws
-use Rattle.sockets.specs.declared.raw.SendError.TheVariants as RawSend
-use Rattle.sockets.specs.declared.error.RecvError.{RecvError}
-use Rattle.sockets.specs.declared.error.RecvError.TheVariants as Recv
-use Rattle.tcp_control.specs.declared.error.ConnectError.{ConnectError}
-use Rattle.tcp_control.specs.declared.error.ConnectError.TheVariants as Connect
-use Rattle.tcp_control.specs.declared.error.ListenError.{ListenError}
-use Rattle.tcp_control.specs.declared.error.ListenError.TheVariants as Listen
-use Rattle.tcp_control.specs.declared.error.RecvError as StreamErrors
-use Rattle.tcp_control.specs.declared.error.RecvError.TheVariants as StreamRecv
-use Rattle.tcp_control.specs.declared.error.SendError as StreamSendErrors
-use Rattle.tcp_control.specs.declared.error.SendError.TheVariants as StreamSend
+use Rattle.socket_datagram.specs.declared.error.BindError.{BindError}
+use Rattle.socket_datagram.specs.declared.error.BindError.TheVariants as Bind
+use Rattle.socket_datagram.specs.declared.error.SendError.{SendError}
+use Rattle.socket_datagram.specs.declared.error.SendError.TheVariants as Send
+use Rattle.socket_datagram.specs.declared.raw.SendError as Raws
+use Rattle.socket_datagram.specs.declared.raw.SendError.TheVariants as RawSend
+use Rattle.socket_datagram.specs.declared.error.RecvError.{RecvError}
+use Rattle.socket_datagram.specs.declared.error.RecvError.TheVariants as Recv
+use Rattle.tcp_state.specs.declared.error.ConnectError.{ConnectError}
+use Rattle.tcp_state.specs.declared.error.ConnectError.TheVariants as Connect
+use Rattle.tcp_state.specs.declared.error.ListenError.{ListenError}
+use Rattle.tcp_state.specs.declared.error.ListenError.TheVariants as Listen
+use Rattle.tcp_state.specs.declared.error.RecvError as StreamErrors
+use Rattle.tcp_state.specs.declared.error.RecvError.TheVariants as StreamRecv
+use Rattle.tcp_state.specs.declared.error.SendError as StreamSendErrors
+use Rattle.tcp_state.specs.declared.error.SendError.TheVariants as StreamSend
 use Rattle.c_calls.specs.declared.code.Code.{Code}
 use Rattle.c_calls.specs.declared.code.Code.TheVariants as Is
 use Rattle.c_calls.specs.declared.link.error.FetchError.{FetchError}

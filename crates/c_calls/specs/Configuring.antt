@@ -2,7 +2,7 @@
 use Rattle.std.specs.Prelude.{◌≡◌, ℕ, is_ok, if◌then◌else◌, List, Option, Result}
 use Rattle.sockets.specs.DhcpValue.{DhcpValue}
 use Rattle.sockets.specs.DnsValue.{DnsValue}
-use Rattle.dns_wire.specs.declared.codes.DnsQueryType.{DnsQueryType}
+use Rattle.wire_dns.specs.declared.codes.DnsQueryType.{DnsQueryType}
 use Rattle.interface.specs.Host.{HostValue}
 use Rattle.interface.specs.Inner.{context_of, drawn}
 use Rattle.interface.specs.Made.{with_inner}
@@ -16,7 +16,7 @@ use Rattle.c_calls.specs.Host.{StackValue}
 
 abbrev pub LeaseArrives : IpEndpoint → IpAddress → List ℕ → StackValue → Result (Unit {0}) Code → StackValue → Type 0
 LeaseArrives remote local bytes s result s' =
-    TakesLease (context_of s.host.inner).moment remote local bytes s.dhcp result s'.dhcp × (s' ≡ record s { dhcp = s'.dhcp })
+    TakesLease (context_of s.host.inner).instant remote local bytes s.dhcp result s'.dhcp × (s' ≡ record s { dhcp = s'.dhcp })
 
 abbrev pub LeaseGoes : List ℕ → StackValue → Result Sending Code → List ℕ → StackValue → Type 0
 LeaseGoes out s result out' s' = SendsLease (context_of s.host.inner) out s.dhcp result out' s'.dhcp × (s' ≡ record s { dhcp = s'.dhcp })
@@ -35,7 +35,7 @@ AsksName name kind s result s' =
 
 abbrev pub AnswerArrives : IpEndpoint → IpEndpoint → List ℕ → StackValue → Result (Unit {0}) Code → StackValue → Type 0
 AnswerArrives remote local bytes s result s' =
-    TakesAnswer (context_of s.host.inner).moment remote local bytes s.dns result s'.dns × (s' ≡ record s { dns = s'.dns })
+    TakesAnswer (context_of s.host.inner).instant remote local bytes s.dns result s'.dns × (s' ≡ record s { dns = s'.dns })
 
 abbrev pub QueryGoes : List ℕ → StackValue → Result Sending Code → List ℕ → StackValue → Type 0
 QueryGoes out s result out' s' = SendsQuery (context_of s.host.inner) out s.dns result out' s'.dns × (s' ≡ record s { dns = s'.dns })

@@ -1,6 +1,6 @@
 -- The calls of ICMP sockets that answer nothing but whether they were done.
 use Rattle.std.specs.Prelude.{Result, Ok}
-use Rattle.sockets.specs.Icmp.{IcmpValue, bind_answer, bind_after, with_hop_limit}
+use Rattle.socket_datagram.specs.Icmp.{IcmpValue, bind_answer, bind_after, with_hop_limit}
 use Rattle.c_calls.specs.Codes.{coded, of_bind}
 use Rattle.c_calls.specs.Streams.{limit_of}
 use Rattle.c_calls.specs.declared.code.Code.{Code}

@@ -1,6 +1,6 @@
 -- The calls of UDP sockets that answer nothing but whether they were done.
 use Rattle.std.specs.Prelude.{Result, Ok, Option, ℕ}
-use Rattle.sockets.specs.Udp.{UdpValue, bind_answer, bind_after, with_hop_limit, closed}
+use Rattle.socket_datagram.specs.Udp.{UdpValue, bind_answer, bind_after, with_hop_limit, closed}
 use Rattle.c_calls.specs.Codes.{coded, of_bind}
 use Rattle.c_calls.specs.Streams.{limit_of}
 use Rattle.c_calls.specs.declared.code.Code.{Code}

@@ -12,7 +12,7 @@ use Rattle.sockets.specs.DnsValue.{DnsValue}
 pub record StackValue : Type 0 where
   pub link : LinkValue
   pub host : HostValue
-  pub places : List (SocketStorage Socket)
+  pub slots : List (SocketStorage Socket)
   pub listeners : List (Option Listener)
   pub dhcp : Option DhcpValue
   pub dns : Option DnsValue

@@ -2,11 +2,11 @@
 use Rattle.std.specs.Prelude.{ℕ, ℤ, Bool, List, Option, Some, Result, Ok, Err}
 use Rattle.sockets.specs.DhcpValue as Dhcp
 use Rattle.sockets.specs.DhcpValue.{DhcpValue}
-use Rattle.sockets.specs.DhcpEvents.{fresh, event_of, untold}
+use Rattle.sockets.specs.DhcpEvents.{initial, event_of, untold}
 use Rattle.sockets.specs.DhcpOffers.{Offers}
 use Rattle.sockets.specs.DhcpAnswers.{Processed}
 use Rattle.sockets.specs.DhcpStates.{poll_of}
-use Rattle.sockets.specs.declared.dhcpv4.config.Event.{Event}
+use Rattle.socket_datagram.specs.declared.dhcpv4.config.Event.{Event}
 use Rattle.ip_wire.specs.HardwareAddress.{HardwareAddress}
 use Rattle.ip_wire.specs.HardwareAddress.TheVariants as Hardware
 use Rattle.ip_wire.specs.IpAddress.{IpAddress}
@@ -18,14 +18,14 @@ use Rattle.c_calls.specs.declared.carrying.Sending.{Sending}
 use Rattle.c_calls.specs.declared.code.Code.{Code}
 use Rattle.c_calls.specs.declared.code.Code.TheVariants as Is
 
--- MAKING ONE: a station has a client, on a medium that has stations
+-- MAKING ONE: a hardware address has a client, on a medium that has hardware addresses
 
 abbrev pub dhcp_answer : HardwareAddress → Result (Unit {0}) Code
-dhcp_answer (Hardware.Ethernet station) = Ok tt
+dhcp_answer (Hardware.Ethernet hardware_addr) = Ok tt
 dhcp_answer Hardware.Ip = Err Is.Medium
 
 abbrev pub dhcp_made : HardwareAddress → ℕ → Option DhcpValue → Option DhcpValue
-dhcp_made (Hardware.Ethernet station) seed client = Some (Dhcp.made station seed)
+dhcp_made (Hardware.Ethernet hardware_addr) seed client = Some (Dhcp.made hardware_addr seed)
 dhcp_made Hardware.Ip seed client = client
 
 -- WHAT COMES
@@ -57,10 +57,10 @@ sent_after sent client = changed (Dhcp.settled sent) client
 -- WHAT IS TOLD
 
 abbrev pub told_answer : ℤ → Option DhcpValue → Result (Option Event) Code
-told_answer now client = answered (λ (v : DhcpValue). Ok (event_of (fresh now v))) client
+told_answer now client = answered (λ (v : DhcpValue). Ok (event_of (initial now v))) client
 
 abbrev pub told_after : ℤ → Option DhcpValue → Option DhcpValue
-told_after now client = changed (λ (v : DhcpValue). untold (fresh now v)) client
+told_after now client = changed (λ (v : DhcpValue). untold (initial now v)) client
 
 abbrev pub due_answer : Option DhcpValue → Result PollAt Code
 due_answer client = answered (λ (v : DhcpValue). Ok (poll_of v.state)) client

@@ -1,7 +1,7 @@
 pub mod Link
 pub mod Codes
-pub mod Places
-pub mod Lends
+pub mod Slots
+pub mod BorrowEnds
 pub mod Streams
 pub mod Datagrams
 pub mod Controls

@@ -35,7 +35,7 @@ push_refusal link len Push.TooLong = longest < len
 push_refusal link len Push.Full = (len ≤ longest) × (link.most ≤ length link.waiting)
 push_refusal link len Push.Memory = IsTaken link len
 
--- a frame comes, and waits behind the others
+-- a frame comes, and waits after the others
 abbrev pub arrived : LinkValue → List ℕ → LinkValue
 arrived link frame = record link { waiting = link.waiting ++ frame ∷ [] }
 
@@ -60,12 +60,12 @@ fetched [] out = out
 fetched (frame ∷ _) out = if nat_lt (length out) (length frame) then out else frame ++ drop (length frame) out
 
 -- whether the link gives tokens: there is room for a frame that goes, and its count of refusals can still rise
-abbrev pub has_leave : LinkValue → Bool
-has_leave link = nat_lt (length link.sent) link.most && gives_tokens link.refusals
+abbrev pub has_tx_token : LinkValue → Bool
+has_tx_token link = nat_lt (length link.sent) link.most && gives_tokens link.refusals
 
 abbrev pub LinkMove : LinkValue → Move → LinkValue → Type 0
-LinkMove old (Took t frame) new = IsTrue (has_leave old) × (old ≡ record new { waiting = frame ∷ new.waiting })
-LinkMove old (Empty t) new = (new ≡ old) × (IsTrue (has_leave old) → old.waiting ≡ [])
-LinkMove old (Allowed t leave) new = (new ≡ old) × (leave ≡ has_leave old)
+LinkMove old (Took t frame) new = IsTrue (has_tx_token old) × (old ≡ record new { waiting = frame ∷ new.waiting })
+LinkMove old (Empty t) new = (new ≡ old) × (IsTrue (has_tx_token old) → old.waiting ≡ [])
+LinkMove old (Allowed t leave) new = (new ≡ old) × (leave ≡ has_tx_token old)
 LinkMove old (Emitted frame) new = new ≡ record old { sent = old.sent ++ frame ∷ [] }
 LinkMove old (Denied _) new = new ≡ record old { refusals = old.refusals + 1 }

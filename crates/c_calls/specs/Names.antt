@@ -6,11 +6,11 @@ use Rattle.sockets.specs.DnsOffers.{Offers}
 use Rattle.sockets.specs.DnsProcessed.{Processed}
 use Rattle.sockets.specs.DnsStarts.{Starts}
 use Rattle.sockets.specs.DnsTurns.{poll_of}
-use Rattle.dns_wire.specs.declared.codes.DnsQueryType.{DnsQueryType}
-use Rattle.sockets.specs.declared.dns.error.GetQueryResultError.{GetQueryResultError}
-use Rattle.sockets.specs.declared.dns.error.GetQueryResultError.TheVariants as Get
-use Rattle.sockets.specs.declared.dns.error.StartQueryError.{StartQueryError}
-use Rattle.sockets.specs.declared.dns.error.StartQueryError.TheVariants as Start
+use Rattle.wire_dns.specs.declared.codes.DnsQueryType.{DnsQueryType}
+use Rattle.socket_datagram.specs.declared.dns.error.GetQueryResultError.{GetQueryResultError}
+use Rattle.socket_datagram.specs.declared.dns.error.GetQueryResultError.TheVariants as Get
+use Rattle.socket_datagram.specs.declared.dns.error.StartQueryError.{StartQueryError}
+use Rattle.socket_datagram.specs.declared.dns.error.StartQueryError.TheVariants as Start
 use Rattle.ip_wire.specs.IpAddress.{IpAddress}
 use Rattle.ip_wire.specs.IpEndpoint.{IpEndpoint}
 use Rattle.sockets.specs.Context.{ContextValue}

@@ -7,8 +7,8 @@ use Rattle.sockets.specs.TcpReceive.{unbroken, lent}
 use Rattle.sockets.specs.TcpValue.{TcpValue, unoffered, queued_in}
 use Rattle.ip_wire.specs.IpEndpoint.{IpEndpoint}
 use Rattle.tcp_socket.specs.Socket.{local_in, remote_in}
-use Rattle.tcp_control.specs.declared.error.RecvError.{RecvError}
-use Rattle.tcp_control.specs.declared.state.State.{State}
+use Rattle.tcp_state.specs.declared.error.RecvError.{RecvError}
+use Rattle.tcp_state.specs.declared.state.State.{State}
 use Rattle.c_calls.specs.Codes.{coded, of_listen, of_stream_recv}
 use Rattle.c_calls.specs.declared.code.Code.{Code}
 use Rattle.c_calls.specs.declared.code.Code.TheVariants as Is
@@ -63,7 +63,7 @@ abbrev pub lent_unless : Option RecvError → List ℕ → Result (List ℕ) Cod
 lent_unless None waiting = Ok waiting
 lent_unless (Some refusal) waiting = Err (of_stream_recv refusal)
 
--- the first waiting bytes, as many as lie behind one another
+-- the first waiting bytes, as many as lie after one another
 abbrev pub peeked : TcpValue → Result (List ℕ) Code
 peeked v = lent_unless (recv_refusal v) (take (unbroken v.received 0 (2 ^ 64 - 1)) v.received.waiting)
 
@@ -85,7 +85,7 @@ done_after count v = done_after_unless (recv_refusal v) (min (length (lent v.rec
 -- WHAT A SOCKET TELLS
 
 abbrev pub state_in : TcpValue → Result State Code
-state_in v = Ok v.block.state
+state_in v = Ok v.tcb.state
 
 abbrev pub ends : Option IpEndpoint → Option IpEndpoint → Result (IpEndpoint × IpEndpoint) Code
 ends None remote = Err Is.InvalidState
@@ -94,7 +94,7 @@ ends (Some own) (Some remote) = Ok (own, remote)
 
 -- the own endpoint of the connection, and the remote's
 abbrev pub ends_in : TcpValue → Result (IpEndpoint × IpEndpoint) Code
-ends_in v = ends (local_in v.block.names.pair) (remote_in v.block.names.pair)
+ends_in v = ends (local_in v.tcb.names.pair) (remote_in v.tcb.names.pair)
 
 -- how many bytes wait to be read, and how many are queued that aren't acknowledged
 abbrev pub queues_in : TcpValue → Result (ℕ × ℕ) Code

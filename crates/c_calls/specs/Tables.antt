@@ -2,7 +2,7 @@
 use Rattle.std.specs.Prelude.{◌≡◌, ℕ, ◌==◌, nat_le, nat_lt, Bool, not, ◌&&◌, if◌then◌else◌, List, [], ◌∷◌, ◌++◌, length, position, remove, Option, None, Some}
 use Rattle.std.specs.Prelude.{ℤ, pos, Result, Ok, Err, MatchResult}
 use Rattle.std.specs.List.{list_any}
-use Rattle.ip_wire.specs.Block.{block_address, block_prefix_len}
+use Rattle.ip_wire.specs.Cidr.{cidr_address, cidr_prefix_len}
 use Rattle.ip_wire.specs.EthernetAddress.{EthernetAddress}
 use Rattle.ip_wire.specs.HardwareAddress.TheVariants as Hardware
 use Rattle.ip_wire.specs.IpAddress.{IpAddress}
@@ -10,7 +10,7 @@ use Rattle.ip_wire.specs.IpCidr.{IpCidr}
 use Rattle.sockets.specs.Addresses.{is_same_address, are_of_one_family}
 use Rattle.interface.specs.Host.{HostValue}
 use Rattle.interface.specs.Announced.{TellsUnless}
-use Rattle.interface.specs.Made.{with_inner, with_slots}
+use Rattle.interface.specs.Made.{with_inner, with_assemblers}
 use Rattle.interface.specs.Inner.{InnerValue}
 use Rattle.interface.specs.Route.{Route}
 use Rattle.interface.specs.Settings.{is_stranger, with_addresses, with_routes, with_hardware, hardware_refusal}
@@ -35,25 +35,25 @@ module _ {A : Type 0} where
   abbrev pub pushed : ℕ → List A → A → List A
   pushed room entries entry = if nat_lt (length entries) room then entries ++ entry ∷ [] else entries
 
-  -- without the one at the place, where there is one
+  -- without the one at the slot, where there is one
   abbrev pub removed : List A → ℕ → List A
-  removed entries place = if nat_lt place (length entries) then remove entries place else entries
+  removed entries slot = if nat_lt slot (length entries) then remove entries slot else entries
 
 -- ADDRESSES
 
 abbrev pub is_address : IpAddress → IpCidr → Bool
-is_address address block = is_same_address (block_address block) address
+is_address address cidr = is_same_address (cidr_address cidr) address
 
 -- each is one host's or unspecified
 abbrev pub checked : List IpCidr → Result (List IpCidr) Code
 checked blocks = if list_any is_stranger blocks then Err Is.NotUnicast else Ok blocks
 
 abbrev pub own_with : List IpCidr → IpCidr → Result (List IpCidr) Code
-own_with own block = if nat_le address_room (length own) then Err Is.TableFull else checked (own ++ block ∷ [])
+own_with own cidr = if nat_le address_room (length own) then Err Is.TableFull else checked (own ++ cidr ∷ [])
 
 abbrev pub own_without_at : List IpCidr → Option ℕ → Result (List IpCidr) Code
 own_without_at own None = Err Is.NotFound
-own_without_at own (Some place) = checked (remove own place)
+own_without_at own (Some slot) = checked (remove own slot)
 
 -- without the first block of this address
 abbrev pub own_without : List IpCidr → IpAddress → Result (List IpCidr) Code
@@ -70,27 +70,27 @@ with_own s blocks = record s { host = own_in s.host blocks }
 -- ROUTES
 
 -- it is the route of this block
-abbrev pub is_block : IpCidr → Route → Bool
-is_block block route =
-    is_same_address (block_address route.cidr) (block_address block) && (block_prefix_len route.cidr == block_prefix_len block)
+abbrev pub is_cidr : IpCidr → Route → Bool
+is_cidr cidr route =
+    is_same_address (cidr_address route.cidr) (cidr_address cidr) && (cidr_prefix_len route.cidr == cidr_prefix_len cidr)
 
 abbrev pub route_to : IpCidr → IpAddress → Route
 route_to network router = record { cidr = network; via_router = router; preferred_until = None; expires_at = None }
 
--- behind the others, if its router is of its family and there is room
+-- after the others, if its router is of its family and there is room
 abbrev pub routes_with : InnerValue → Route → Result (List Route) Code
 routes_with i route =
-    if not (are_of_one_family (block_address route.cidr) route.via_router) then Err Is.BadArgument
+    if not (are_of_one_family (cidr_address route.cidr) route.via_router) then Err Is.BadArgument
     else if nat_le i.route_room (length i.routes) then Err Is.TableFull
     else Ok (i.routes ++ route ∷ [])
 
 abbrev pub routes_without_at : List Route → Option ℕ → Result (List Route) Code
 routes_without_at routes None = Err Is.NotFound
-routes_without_at routes (Some place) = Ok (remove routes place)
+routes_without_at routes (Some slot) = Ok (remove routes slot)
 
 -- without the first route of exactly this block
 abbrev pub routes_without : List Route → IpCidr → Result (List Route) Code
-routes_without routes block = routes_without_at routes (position (is_block block) routes)
+routes_without routes cidr = routes_without_at routes (position (is_cidr cidr) routes)
 
 abbrev pub table_in : HostValue → Result (List Route) Code → HostValue
 table_in h (Ok routes) = with_inner h (with_routes h.inner routes)
@@ -120,7 +120,7 @@ UpdatesHardware own s result s' =
 
 -- PIECES
 
--- there is place for so many datagrams in pieces, or no memory for it
+-- there is slot for so many datagrams in pieces, or no memory for it
 abbrev pub SetsSlots : ℕ → StackValue → Result (Unit {0}) Code → StackValue → Type 0
 SetsSlots count s result s' =
-    MatchResult result (λ done. s' ≡ record s { host = with_slots s.host count }) (λ code. (code ≡ Is.Memory) × (s' ≡ s))
+    MatchResult result (λ done. s' ≡ record s { host = with_assemblers s.host count }) (λ code. (code ≡ Is.Memory) × (s' ≡ s))

@@ -5,15 +5,15 @@ ghost use Rattle.interface.specs.Backlog.Calls.{micros_of};
 ghost use Rattle.interface.specs.declared.listener.entry.Entry.{Entry};
 ghost use Rattle.interface.specs.SocketHandle.{SocketHandle as Handle};
 ghost use Rattle.sockets.specs.AnySocket.{as_tcp};
-ghost use Rattle.c_calls.specs.Places.{answer_at};
-ghost use Rattle.c_calls.specs.Backlogs.{RefreshesAt, RefreshesAll, MakesListener, IsPut, listener_place, is_there, without_listener, listener_at, has_place};
+ghost use Rattle.c_calls.specs.Slots.{answer_at};
+ghost use Rattle.c_calls.specs.Backlogs.{RefreshesAt, RefreshesAll, MakesListener, IsPut, listener_slot, is_there, without_listener, listener_at, has_slot};
 ghost use Rattle.c_calls.specs.Backlogs.{is_in_backlog, closed_in, may_be_taken, Takes, Has, HasEntry, HasKeeper, Grows, Grown, WhereThere, Accepted};
-ghost use Rattle.c_calls.specs.Backlogs.{GivenBack, AcceptsFrom, GivesBack, OnPlace, listener_refusal};
+ghost use Rattle.c_calls.specs.Backlogs.{GivenBack, AcceptsFrom, GivesBack, OnSlot, listener_refusal};
 
 use crate::code::Code;
 use crate::host::Host;
 use crate::looks;
-use crate::places::Places;
+use crate::slots::Slots;
 use interface::listener::Entry;
 use interface::{Listener, SocketHandle};
 use ip_wire::IpListenEndpoint;
@@ -32,7 +32,7 @@ enum Role {
     Keeper,
 }
 
-fn refresh_one(listener: &mut Option<Listener>, sockets: &mut Places, now: Instant)
+fn refresh_one(listener: &mut Option<Listener>, sockets: &mut Slots, now: Instant)
     ensures seen { RefreshesAt (micros_of now) listener.old sockets.old listener.new sockets.new }
 {
     match listener {
@@ -42,7 +42,7 @@ fn refresh_one(listener: &mut Option<Listener>, sockets: &mut Places, now: Insta
 }
 
 /// Each listener in turn sees how far its sockets came.
-pub(crate) fn refresh_all(listeners: &mut [Option<Listener>], sockets: &mut Places, now: Instant)
+pub(crate) fn refresh_all(listeners: &mut [Option<Listener>], sockets: &mut Slots, now: Instant)
     ensures seen { RefreshesAll (micros_of now) listeners.old sockets.old listeners.new sockets.new }
 {
     if let Some((first, rest)) = listeners.split_first_mut() {
@@ -57,11 +57,11 @@ fn free_listener(listeners: &[Option<Listener>]) -> Option<usize>
     listeners.iter().position(|listener| listener.is_none())
 }
 
-fn listener_place(listeners: &[Option<Listener>]) -> usize
-    ensures { result ≡ listener_place listeners.now }
+fn listener_slot(listeners: &[Option<Listener>]) -> usize
+    ensures { result ≡ listener_slot listeners.now }
 {
     match free_listener(listeners) {
-        Some(place) => place,
+        Some(slot) => slot,
         None => listeners.len(),
     }
 }
@@ -72,73 +72,73 @@ fn listener_refusal(endpoint: &IpListenEndpoint, listeners: &[Option<Listener>])
 {
     if endpoint.port == 0 {
         Some(Code::Unaddressable)
-    } else if MOST_LISTENERS <= listener_place(listeners) {
+    } else if MOST_LISTENERS <= listener_slot(listeners) {
         Some(Code::TableFull)
     } else {
         None
     }
 }
 
-/// Puts a listener at the first free place, or behind the others.
+/// Puts a listener at the first free slot, or after the others.
 fn put_listener(listeners: &mut Vec<Option<Listener>>, listener: Listener) -> Result<usize, Code>
     ensures { IsPut listeners.old.items listener result listeners.new.items }
 {
     match free_listener(listeners.as_slice()) {
-        Some(place) => {
-            listeners[place] = Some(listener);
-            Ok(place)
+        Some(slot) => {
+            listeners[slot] = Some(listener);
+            Ok(slot)
         }
         None => {
-            let place = listeners.len();
+            let slot = listeners.len();
             match listeners.push(Some(listener)) {
-                Ok(()) => Ok(place),
+                Ok(()) => Ok(slot),
                 Err(_) => Err(Code::Memory),
             }
         }
     }
 }
 
-fn entry_has(entry: &Entry, place: usize) -> bool
-    ensures { result ≡ (entry.now.handle.0 == place) }
+fn entry_has(entry: &Entry, slot: usize) -> bool
+    ensures { result ≡ (entry.now.handle.0 == slot) }
 {
-    entry.handle.place() == place
+    entry.handle.slot() == slot
 }
 
-fn keeper_is(keeper: &SocketHandle, place: usize) -> bool
-    ensures { result ≡ (keeper.now.0 == place) }
+fn keeper_is(keeper: &SocketHandle, slot: usize) -> bool
+    ensures { result ≡ (keeper.now.0 == slot) }
 {
-    keeper.place() == place
+    keeper.slot() == slot
 }
 
-fn entries_have(entries: &[Entry], place: usize) -> bool
-    ensures { result ≡ list_any (λ (e : Entry). e.handle.0 == place) entries.now }
+fn entries_have(entries: &[Entry], slot: usize) -> bool
+    ensures { result ≡ list_any (λ (e : Entry). e.handle.0 == slot) entries.now }
 {
-    entries.iter().any(|entry| entry_has(entry, place))
+    entries.iter().any(|entry| entry_has(entry, slot))
 }
 
-fn keepers_have(keepers: &[SocketHandle], place: usize) -> bool
-    ensures { result ≡ list_any (λ (h : Handle). h.0 == place) keepers.now }
+fn keepers_have(keepers: &[SocketHandle], slot: usize) -> bool
+    ensures { result ≡ list_any (λ (h : Handle). h.0 == slot) keepers.now }
 {
-    keepers.iter().any(|keeper| keeper_is(keeper, place))
+    keepers.iter().any(|keeper| keeper_is(keeper, slot))
 }
 
-fn has_place(listener: &Option<Listener>, place: usize) -> bool
-    ensures { result ≡ has_place place listener.now }
+fn has_slot(listener: &Option<Listener>, slot: usize) -> bool
+    ensures { result ≡ has_slot slot listener.now }
 {
     match listener {
         Some(listener) => {
-            entries_have(listener.entries.as_slice(), place)
-                || keepers_have(listener.keepers.as_slice(), place)
+            entries_have(listener.entries.as_slice(), slot)
+                || keepers_have(listener.keepers.as_slice(), slot)
         }
         None => false,
     }
 }
 
-/// Whether a listener has the socket at the place.
-pub(crate) fn is_in_backlog(listeners: &[Option<Listener>], place: usize) -> bool
-    ensures { result ≡ is_in_backlog listeners.now place }
+/// Whether a listener has the socket at the slot.
+pub(crate) fn is_in_backlog(listeners: &[Option<Listener>], slot: usize) -> bool
+    ensures { result ≡ is_in_backlog listeners.now slot }
 {
-    listeners.iter().any(|listener| has_place(listener, place))
+    listeners.iter().any(|listener| has_slot(listener, slot))
 }
 
 impl Host {
@@ -166,7 +166,7 @@ impl Host {
         Ok(())
     }
 
-    /// Whether the socket at the place may be taken into a backlog.
+    /// Whether the socket at the slot may be taken into a backlog.
     fn may_be_taken(&self, socket: usize) -> Result<(), Code>
         ensures { result ≡ may_be_taken self.now socket }
     {
@@ -253,7 +253,7 @@ fn add_to(
     }
 }
 
-/// The listener at the place takes a socket in.
+/// The listener at the slot takes a socket in.
 fn take_at(
     listeners: &mut Vec<Option<Listener>>,
     listener: usize,
@@ -261,7 +261,7 @@ fn take_at(
     role: Role,
     taken: Result<(), Code>,
 ) -> Result<(), Code>
-    ensures { OnPlace (Grown (Has role socket) taken) (listener_at listeners.old.items listener) listeners.old.items listener result listeners.new.items }
+    ensures { OnSlot (Grown (Has role socket) taken) (listener_at listeners.old.items listener) listeners.old.items listener result listeners.new.items }
 {
     if listener >= listeners.len() {
         return Err(Code::NoListener);
@@ -274,16 +274,16 @@ fn accept_of(listener: &mut Option<Listener>) -> Result<usize, Code>
 {
     match listener {
         Some(listener) => match listener.accept() {
-            Some(handle) => Ok(handle.place()),
+            Some(handle) => Ok(handle.slot()),
             None => Err(Code::Empty),
         },
         None => Err(Code::NoListener),
     }
 }
 
-/// The listener at the place has a connection accepted.
+/// The listener at the slot has a connection accepted.
 fn accept_at(listeners: &mut Vec<Option<Listener>>, listener: usize) -> Result<usize, Code>
-    ensures { OnPlace Accepted (listener_at listeners.old.items listener) listeners.old.items listener result listeners.new.items }
+    ensures { OnSlot Accepted (listener_at listeners.old.items listener) listeners.old.items listener result listeners.new.items }
 {
     if listener >= listeners.len() {
         return Err(Code::NoListener);
@@ -303,13 +303,13 @@ fn give_back_to(listener: &mut Option<Listener>, socket: usize) -> Result<(), Co
     }
 }
 
-/// The listener at the place takes a socket back.
+/// The listener at the slot takes a socket back.
 fn give_back_at(
     listeners: &mut Vec<Option<Listener>>,
     listener: usize,
     socket: usize,
 ) -> Result<(), Code>
-    ensures { OnPlace (GivenBack socket) (listener_at listeners.old.items listener) listeners.old.items listener result listeners.new.items }
+    ensures { OnSlot (GivenBack socket) (listener_at listeners.old.items listener) listeners.old.items listener result listeners.new.items }
 {
     if listener >= listeners.len() {
         return Err(Code::NoListener);

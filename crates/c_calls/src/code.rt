@@ -18,9 +18,9 @@ pub enum Code {
     /// An argument names nothing: a family that is neither 4 nor 6, a prefix that is longer than the address, a medium that is
     /// neither Ethernet nor IP, two addresses of different families.
     BadArgument,
-    /// The place has no socket.
+    /// The slot has no socket.
     NoSocket,
-    /// The socket at the place is of another kind.
+    /// The socket at the slot is of another kind.
     WrongKind,
     /// The socket's state doesn't take the call.
     InvalidState,
@@ -48,7 +48,7 @@ pub enum Code {
     NotUnicast,
     /// The longest IP packet of a frame is below 576 or above 65,535 bytes.
     Mtu,
-    /// The moment is below 0 or above 2^61.
+    /// The instant is below 0 or above 2^61.
     Moment,
     /// The listener isn't there.
     NoListener,

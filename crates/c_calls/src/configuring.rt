@@ -19,7 +19,7 @@ use sockets::dhcp::Event;
 use sockets::dns::{Addresses, DnsQueryType};
 
 impl Host {
-    /// A client of DHCP for this station, in place of one that there was. The seed is that of its random words.
+    /// A client of DHCP for this hardware address, in place of one that there was. The seed is that of its random words.
     pub fn dhcp_new(&mut self, seed: u64) -> Result<(), Code>
         ensures answer { result ≡ dhcp_answer self.old.host.inner.hardware }
         ensures after { self.new ≡ record self.old { dhcp = dhcp_made self.old.host.inner.hardware seed self.old.dhcp } }
@@ -49,7 +49,7 @@ impl Host {
         leases::send(client, cx, out)
     }
 
-    /// What became of the message: behind one that was sent the client waits for its answer.
+    /// What became of the message: after one that was sent the client waits for its answer.
     pub fn dhcp_sent(&mut self, is_sent: bool) -> Result<(), Code>
         ensures answer { result ≡ Leases.sent_answer self.old.dhcp }
         ensures after { self.new ≡ record self.old { dhcp = Leases.sent_after is_sent self.old.dhcp } }
@@ -81,7 +81,7 @@ impl Host {
 
     /// Asks for the addresses of a name, which is a text with dots between its labels. A query that is begun draws two random words.
     pub fn dns_ask(&mut self, name: &[u8], kind: DnsQueryType) -> Result<(), Code>
-        ensures text { (IsUtf8 name.now → ⊥) → (result ≡ Err Code.InvalidName) × (self.new ≡ self.old) }
+        ensures payload { (IsUtf8 name.now → ⊥) → (result ≡ Err Code.InvalidName) × (self.new ≡ self.old) }
         ensures asks { IsUtf8 name.now → AsksName name.now kind self.old result self.new }
     {
         names::start(&mut self.dns, &mut self.interface, name, kind)
@@ -108,7 +108,7 @@ impl Host {
         names::send(client, cx, out)
     }
 
-    /// What became of the query: behind one that was sent the client waits for its answer.
+    /// What became of the query: after one that was sent the client waits for its answer.
     pub fn dns_sent(&mut self, is_sent: bool) -> Result<(), Code>
         ensures answer { result ≡ Names.sent_answer self.old.dns }
         ensures after { self.new ≡ record self.old { dns = Names.sent_after is_sent self.old.dns } }

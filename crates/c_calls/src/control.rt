@@ -2,9 +2,9 @@
 ghost use Rattle.std.specs.Prelude.{◌≡◌, length};
 ghost use Rattle.sockets.specs.AnySocket.{as_icmp};
 ghost use Rattle.sockets.specs.declared.socket.Socket.TheVariants as Kind;
-ghost use Rattle.c_calls.specs.Places.{answer_at, after_at, written_at};
-ghost use Rattle.sockets.specs.Icmp.{send_answer, send_after};
-ghost use Rattle.sockets.specs.SocketValue.{recv_answer, recv_after, recv_written};
+ghost use Rattle.c_calls.specs.Slots.{answer_at, after_at, written_at};
+ghost use Rattle.socket_datagram.specs.Icmp.{send_answer, send_after};
+ghost use Rattle.socket_datagram.specs.SocketValue.{recv_answer, recv_after, recv_written};
 ghost use Rattle.c_calls.specs.Codes.{coded, of_send, of_recv};
 ghost use Rattle.c_calls.specs.Controls.{act_answer, act_after};
 ghost use Rattle.c_calls.specs.Added.{MakesSocket, new_icmp};
@@ -13,7 +13,7 @@ use crate::code::{Code, of_bind, of_recv, of_send};
 use crate::host::Host;
 use crate::kinds::lent;
 use crate::made::{limit_of, queues};
-use crate::places::Places;
+use crate::slots::Slots;
 use ip_wire::IpAddress;
 use sockets::icmp;
 
@@ -43,22 +43,22 @@ fn act_on(socket: &mut icmp::Socket, act: Act) -> Result<(), Code>
 }
 
 /// Does a call that answers nothing but whether it was done.
-pub fn perform(sockets: &mut Places, place: usize, act: Act) -> Result<(), Code>
-    ensures answer { result ≡ answer_at as_icmp (act_answer act) sockets.old place }
-    ensures after { sockets.new ≡ after_at as_icmp Kind.Icmp (act_after act) sockets.old place }
+pub fn perform(sockets: &mut Slots, slot: usize, act: Act) -> Result<(), Code>
+    ensures answer { result ≡ answer_at as_icmp (act_answer act) sockets.old slot }
+    ensures after { sockets.new ≡ after_at as_icmp Kind.Icmp (act_after act) sockets.old slot }
 {
-    match lent::<icmp::Socket>(sockets, place) {
+    match lent::<icmp::Socket>(sockets, slot) {
         Ok(socket) => act_on(socket, act),
         Err(code) => Err(code),
     }
 }
 
 /// Queues a message.
-pub fn send(sockets: &mut Places, place: usize, bytes: &[u8], remote: IpAddress) -> Result<(), Code>
-    ensures answer { result ≡ answer_at as_icmp (λ v. coded of_send (send_answer v remote (length bytes.now))) sockets.old place }
-    ensures after { sockets.new ≡ after_at as_icmp Kind.Icmp (λ v. send_after v remote bytes.now) sockets.old place }
+pub fn send(sockets: &mut Slots, slot: usize, bytes: &[u8], remote: IpAddress) -> Result<(), Code>
+    ensures answer { result ≡ answer_at as_icmp (λ v. coded of_send (send_answer v remote (length bytes.now))) sockets.old slot }
+    ensures after { sockets.new ≡ after_at as_icmp Kind.Icmp (λ v. send_after v remote bytes.now) sockets.old slot }
 {
-    match lent::<icmp::Socket>(sockets, place) {
+    match lent::<icmp::Socket>(sockets, slot) {
         Ok(socket) => queue(socket, bytes, remote),
         Err(code) => Err(code),
     }
@@ -75,12 +75,12 @@ fn queue(socket: &mut icmp::Socket, bytes: &[u8], remote: IpAddress) -> Result<(
 }
 
 /// Reads the first message to the front of the slice.
-pub fn recv(sockets: &mut Places, place: usize, out: &mut [u8]) -> Result<(usize, IpAddress), Code>
-    ensures answer { result ≡ answer_at as_icmp (λ v. coded of_recv (recv_answer v (length out.old))) sockets.old place }
-    ensures after { sockets.new ≡ after_at as_icmp Kind.Icmp (recv_after) sockets.old place }
-    ensures read { out.new ≡ written_at as_icmp recv_written out.old sockets.old place }
+pub fn recv(sockets: &mut Slots, slot: usize, out: &mut [u8]) -> Result<(usize, IpAddress), Code>
+    ensures answer { result ≡ answer_at as_icmp (λ v. coded of_recv (recv_answer v (length out.old))) sockets.old slot }
+    ensures after { sockets.new ≡ after_at as_icmp Kind.Icmp (recv_after) sockets.old slot }
+    ensures read { out.new ≡ written_at as_icmp recv_written out.old sockets.old slot }
 {
-    match lent::<icmp::Socket>(sockets, place) {
+    match lent::<icmp::Socket>(sockets, slot) {
         Ok(socket) => read(socket, out),
         Err(code) => Err(code),
     }
@@ -109,27 +109,27 @@ impl Host {
     }
 
     /// Does a call that answers nothing but whether it was done.
-    pub fn icmp_act(&mut self, place: usize, act: Act) -> Result<(), Code>
-        ensures answer { result ≡ answer_at as_icmp (act_answer act) self.old.places place }
-        ensures after { self.new ≡ record self.old { places = after_at as_icmp Kind.Icmp (act_after act) self.old.places place } }
+    pub fn icmp_act(&mut self, slot: usize, act: Act) -> Result<(), Code>
+        ensures answer { result ≡ answer_at as_icmp (act_answer act) self.old.slots slot }
+        ensures after { self.new ≡ record self.old { slots = after_at as_icmp Kind.Icmp (act_after act) self.old.slots slot } }
     {
-        perform(self.sockets(), place, act)
+        perform(self.sockets(), slot, act)
     }
 
     /// Queues a message. Its checksum is written when it is sent.
-    pub fn icmp_send(&mut self, place: usize, bytes: &[u8], remote: IpAddress) -> Result<(), Code>
-        ensures answer { result ≡ answer_at as_icmp (λ v. coded of_send (send_answer v remote (length bytes.now))) self.old.places place }
-        ensures after { self.new ≡ record self.old { places = after_at as_icmp Kind.Icmp (λ v. send_after v remote bytes.now) self.old.places place } }
+    pub fn icmp_send(&mut self, slot: usize, bytes: &[u8], remote: IpAddress) -> Result<(), Code>
+        ensures answer { result ≡ answer_at as_icmp (λ v. coded of_send (send_answer v remote (length bytes.now))) self.old.slots slot }
+        ensures after { self.new ≡ record self.old { slots = after_at as_icmp Kind.Icmp (λ v. send_after v remote bytes.now) self.old.slots slot } }
     {
-        send(self.sockets(), place, bytes, remote)
+        send(self.sockets(), slot, bytes, remote)
     }
 
     /// Reads the first message to the front of the slice.
-    pub fn icmp_recv(&mut self, place: usize, out: &mut [u8]) -> Result<(usize, IpAddress), Code>
-        ensures answer { result ≡ answer_at as_icmp (λ v. coded of_recv (recv_answer v (length out.old))) self.old.places place }
-        ensures after { self.new ≡ record self.old { places = after_at as_icmp Kind.Icmp (recv_after) self.old.places place } }
-        ensures read { out.new ≡ written_at as_icmp recv_written out.old self.old.places place }
+    pub fn icmp_recv(&mut self, slot: usize, out: &mut [u8]) -> Result<(usize, IpAddress), Code>
+        ensures answer { result ≡ answer_at as_icmp (λ v. coded of_recv (recv_answer v (length out.old))) self.old.slots slot }
+        ensures after { self.new ≡ record self.old { slots = after_at as_icmp Kind.Icmp (recv_after) self.old.slots slot } }
+        ensures read { out.new ≡ written_at as_icmp recv_written out.old self.old.slots slot }
     {
-        recv(self.sockets(), place, out)
+        recv(self.sockets(), slot, out)
     }
 }

@@ -2,9 +2,9 @@
 ghost use Rattle.std.specs.Prelude.{◌≡◌, length};
 ghost use Rattle.sockets.specs.AnySocket.{as_udp};
 ghost use Rattle.sockets.specs.declared.socket.Socket.TheVariants as Kind;
-ghost use Rattle.c_calls.specs.Places.{answer_at, after_at, written_at};
-ghost use Rattle.sockets.specs.Udp.{send_answer, send_after};
-ghost use Rattle.sockets.specs.SocketValue.{recv_answer, recv_after, recv_written};
+ghost use Rattle.c_calls.specs.Slots.{answer_at, after_at, written_at};
+ghost use Rattle.socket_datagram.specs.Udp.{send_answer, send_after};
+ghost use Rattle.socket_datagram.specs.SocketValue.{recv_answer, recv_after, recv_written};
 ghost use Rattle.c_calls.specs.Codes.{coded, of_send, of_recv};
 ghost use Rattle.c_calls.specs.Datagrams.{act_answer, act_after};
 ghost use Rattle.c_calls.specs.Added.{MakesSocket, new_udp};
@@ -13,7 +13,7 @@ use crate::code::{Code, of_bind, of_recv, of_send};
 use crate::host::Host;
 use crate::kinds::lent;
 use crate::made::{limit_of, queues};
-use crate::places::Places;
+use crate::slots::Slots;
 use ip_wire::IpListenEndpoint;
 use sockets::udp::{self, UdpMetadata};
 
@@ -49,11 +49,11 @@ fn act_on(socket: &mut udp::Socket, act: Act) -> Result<(), Code>
 }
 
 /// Does a call that answers nothing but whether it was done.
-pub fn perform(sockets: &mut Places, place: usize, act: Act) -> Result<(), Code>
-    ensures answer { result ≡ answer_at as_udp (act_answer act) sockets.old place }
-    ensures after { sockets.new ≡ after_at as_udp Kind.Udp (act_after act) sockets.old place }
+pub fn perform(sockets: &mut Slots, slot: usize, act: Act) -> Result<(), Code>
+    ensures answer { result ≡ answer_at as_udp (act_answer act) sockets.old slot }
+    ensures after { sockets.new ≡ after_at as_udp Kind.Udp (act_after act) sockets.old slot }
 {
-    match lent::<udp::Socket>(sockets, place) {
+    match lent::<udp::Socket>(sockets, slot) {
         Ok(socket) => act_on(socket, act),
         Err(code) => Err(code),
     }
@@ -61,15 +61,15 @@ pub fn perform(sockets: &mut Places, place: usize, act: Act) -> Result<(), Code>
 
 /// Queues a datagram.
 pub fn send(
-    sockets: &mut Places,
-    place: usize,
+    sockets: &mut Slots,
+    slot: usize,
     bytes: &[u8],
     metadata: UdpMetadata,
 ) -> Result<(), Code>
-    ensures answer { result ≡ answer_at as_udp (λ v. coded of_send (send_answer v metadata (length bytes.now))) sockets.old place }
-    ensures after { sockets.new ≡ after_at as_udp Kind.Udp (λ v. send_after v metadata bytes.now) sockets.old place }
+    ensures answer { result ≡ answer_at as_udp (λ v. coded of_send (send_answer v metadata (length bytes.now))) sockets.old slot }
+    ensures after { sockets.new ≡ after_at as_udp Kind.Udp (λ v. send_after v metadata bytes.now) sockets.old slot }
 {
-    match lent::<udp::Socket>(sockets, place) {
+    match lent::<udp::Socket>(sockets, slot) {
         Ok(socket) => queue(socket, bytes, metadata),
         Err(code) => Err(code),
     }
@@ -86,16 +86,12 @@ fn queue(socket: &mut udp::Socket, bytes: &[u8], metadata: UdpMetadata) -> Resul
 }
 
 /// Reads the first datagram to the front of the slice.
-pub fn recv(
-    sockets: &mut Places,
-    place: usize,
-    out: &mut [u8],
-) -> Result<(usize, UdpMetadata), Code>
-    ensures answer { result ≡ answer_at as_udp (λ v. coded of_recv (recv_answer v (length out.old))) sockets.old place }
-    ensures after { sockets.new ≡ after_at as_udp Kind.Udp (recv_after) sockets.old place }
-    ensures read { out.new ≡ written_at as_udp recv_written out.old sockets.old place }
+pub fn recv(sockets: &mut Slots, slot: usize, out: &mut [u8]) -> Result<(usize, UdpMetadata), Code>
+    ensures answer { result ≡ answer_at as_udp (λ v. coded of_recv (recv_answer v (length out.old))) sockets.old slot }
+    ensures after { sockets.new ≡ after_at as_udp Kind.Udp (recv_after) sockets.old slot }
+    ensures read { out.new ≡ written_at as_udp recv_written out.old sockets.old slot }
 {
-    match lent::<udp::Socket>(sockets, place) {
+    match lent::<udp::Socket>(sockets, slot) {
         Ok(socket) => read(socket, out),
         Err(code) => Err(code),
     }
@@ -124,32 +120,27 @@ impl Host {
     }
 
     /// Does a call that answers nothing but whether it was done.
-    pub fn udp_act(&mut self, place: usize, act: Act) -> Result<(), Code>
-        ensures answer { result ≡ answer_at as_udp (act_answer act) self.old.places place }
-        ensures after { self.new ≡ record self.old { places = after_at as_udp Kind.Udp (act_after act) self.old.places place } }
+    pub fn udp_act(&mut self, slot: usize, act: Act) -> Result<(), Code>
+        ensures answer { result ≡ answer_at as_udp (act_answer act) self.old.slots slot }
+        ensures after { self.new ≡ record self.old { slots = after_at as_udp Kind.Udp (act_after act) self.old.slots slot } }
     {
-        perform(self.sockets(), place, act)
+        perform(self.sockets(), slot, act)
     }
 
     /// Queues a datagram.
-    pub fn udp_send(
-        &mut self,
-        place: usize,
-        bytes: &[u8],
-        metadata: UdpMetadata,
-    ) -> Result<(), Code>
-        ensures answer { result ≡ answer_at as_udp (λ v. coded of_send (send_answer v metadata (length bytes.now))) self.old.places place }
-        ensures after { self.new ≡ record self.old { places = after_at as_udp Kind.Udp (λ v. send_after v metadata bytes.now) self.old.places place } }
+    pub fn udp_send(&mut self, slot: usize, bytes: &[u8], metadata: UdpMetadata) -> Result<(), Code>
+        ensures answer { result ≡ answer_at as_udp (λ v. coded of_send (send_answer v metadata (length bytes.now))) self.old.slots slot }
+        ensures after { self.new ≡ record self.old { slots = after_at as_udp Kind.Udp (λ v. send_after v metadata bytes.now) self.old.slots slot } }
     {
-        send(self.sockets(), place, bytes, metadata)
+        send(self.sockets(), slot, bytes, metadata)
     }
 
     /// Reads the first datagram to the front of the slice.
-    pub fn udp_recv(&mut self, place: usize, out: &mut [u8]) -> Result<(usize, UdpMetadata), Code>
-        ensures answer { result ≡ answer_at as_udp (λ v. coded of_recv (recv_answer v (length out.old))) self.old.places place }
-        ensures after { self.new ≡ record self.old { places = after_at as_udp Kind.Udp (recv_after) self.old.places place } }
-        ensures read { out.new ≡ written_at as_udp recv_written out.old self.old.places place }
+    pub fn udp_recv(&mut self, slot: usize, out: &mut [u8]) -> Result<(usize, UdpMetadata), Code>
+        ensures answer { result ≡ answer_at as_udp (λ v. coded of_recv (recv_answer v (length out.old))) self.old.slots slot }
+        ensures after { self.new ≡ record self.old { slots = after_at as_udp Kind.Udp (recv_after) self.old.slots slot } }
+        ensures read { out.new ≡ written_at as_udp recv_written out.old self.old.slots slot }
     {
-        recv(self.sockets(), place, out)
+        recv(self.sockets(), slot, out)
     }
 }

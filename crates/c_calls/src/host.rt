@@ -10,7 +10,7 @@ ghost use Rattle.c_calls.specs.Codes.{of_fetch};
 use crate::backlogs::{is_in_backlog, refresh_all};
 use crate::code::{Code, of_fetch, of_new, of_push};
 use crate::link::FrameLink;
-use crate::places::Places;
+use crate::slots::Slots;
 use interface::{Config, Interface, Listener};
 use ip_wire::{EthernetAddress, HardwareAddress};
 use net_base::{ChecksumCapabilities, DeviceCapabilities, Instant, Medium};
@@ -21,13 +21,13 @@ use std::marker::Model;
 /// What a host is made with.
 #[derive(Clone, Copy)]
 pub struct Settings {
-    /// The station's address, on a medium that has such addresses.
+    /// The hardware address's address, on a medium that has such addresses.
     pub hardware: Option<EthernetAddress>,
     /// How many bytes the longest frame has, with its Ethernet header where there is one.
     pub mtu: usize,
     /// What its random words begin with.
     pub seed: u64,
-    /// The key of TCP's first numbers (RFC 6528); without one they are random words.
+    /// The key of TCP's initial sequence numbers (RFC 6528); without one they are random words.
     pub isn_key: Option<[u8; 16]>,
     /// How many frames may wait each way.
     pub frames: usize,
@@ -52,7 +52,7 @@ pub struct Host {
     pub(crate) alloc: Global,
     pub(crate) link: FrameLink,
     pub(crate) interface: Interface,
-    pub(crate) sockets: Places,
+    pub(crate) sockets: Slots,
     pub(crate) listeners: Vec<Option<Listener>>,
     pub(crate) dhcp: Option<dhcp::Socket>,
     pub(crate) dns: Option<dns::Socket>,
@@ -67,7 +67,7 @@ impl Model for Host {
     ghost view = { λ h. record {
       link = h.link;
       host = h.interface;
-      places = h.sockets;
+      slots = h.sockets;
       listeners = h.listeners.items;
       dhcp = h.dhcp;
       dns = h.dns;
@@ -109,7 +109,7 @@ fn one_more(count: u64) -> u64
     count.saturating_add(1)
 }
 
-fn frame_came(counters: &mut Counters)
+fn frame_arrived(counters: &mut Counters)
     ensures { counters.new ≡ record counters.old { frames_in = counted counters.old.frames_in } }
 {
     counters.frames_in = one_more(counters.frames_in);
@@ -128,7 +128,7 @@ fn frame_went(counters: &mut Counters)
 }
 
 impl Host {
-    /// A host without addresses, routes and sockets, from this moment on.
+    /// A host without addresses, routes and sockets, from this instant on.
     pub fn new(alloc: Global, settings: &Settings, now: Instant) -> Result<Host, Code>
         ensures { NewHost settings.now now result }
     {
@@ -138,7 +138,7 @@ impl Host {
                 alloc,
                 link,
                 interface,
-                sockets: Places::new(alloc),
+                sockets: Slots::new(alloc),
                 listeners: Vec::new(alloc),
                 dhcp: None,
                 dns: None,
@@ -159,7 +159,7 @@ impl Host {
     {
         match self.link().push(frame) {
             Ok(()) => {
-                frame_came(self.counted());
+                frame_arrived(self.counted());
                 Ok(())
             }
             Err(error) => {
@@ -228,22 +228,22 @@ impl Host {
         self.counters
     }
 
-    /// Takes the socket at the place out, and gives its memory back.
-    pub fn remove(&mut self, place: usize) -> Result<(), Code>
-        ensures answer { result ≡ may_be_removed self.old place }
-        ensures after { self.new ≡ removed_by (may_be_removed self.old place) self.old place }
+    /// Takes the socket at the slot out, and gives its memory back.
+    pub fn remove(&mut self, slot: usize) -> Result<(), Code>
+        ensures answer { result ≡ may_be_removed self.old slot }
+        ensures after { self.new ≡ removed_by (may_be_removed self.old slot) self.old slot }
     {
-        if self.seen_sockets().is_free(place) {
+        if self.seen_sockets().is_free(slot) {
             return Err(Code::NoSocket);
         }
-        if is_in_backlog(self.seen_listeners(), place) {
+        if is_in_backlog(self.seen_listeners(), slot) {
             return Err(Code::InBacklog);
         }
-        self.sockets().give_up(place);
+        self.sockets().give_up(slot);
         Ok(())
     }
 
-    /// Puts a socket at the first free place.
+    /// Puts a socket at the first free slot.
     pub(crate) fn add<K: AnySocket + Drop>(&mut self, socket: K) -> Result<usize, Code>
         ensures { MakesSocket (K.upcast_of socket) self.old result self.new }
     {

@@ -13,14 +13,14 @@ use sockets::{Context, PollAt};
 /// The port of clients of DHCP.
 const DHCP_PORT: u16 = 68;
 
-/// A client for a station, in place of one that there was.
+/// A client for a hardware address, in place of one that there was.
 pub fn begin(client: &mut Option<Socket>, hardware: HardwareAddress, seed: u64) -> Result<(), Code>
     ensures answer { result ≡ dhcp_answer hardware }
     ensures after { client.new ≡ dhcp_made hardware seed client.old }
 {
     match hardware {
-        HardwareAddress::Ethernet(station) => {
-            *client = Some(Socket::new(station, seed));
+        HardwareAddress::Ethernet(hardware_addr) => {
+            *client = Some(Socket::new(hardware_addr, seed));
             Ok(())
         }
         HardwareAddress::Ip => Err(Code::Medium),
@@ -28,7 +28,7 @@ pub fn begin(client: &mut Option<Socket>, hardware: HardwareAddress, seed: u64) 
 }
 
 fn take<C: Context>(client: &mut Socket, cx: &C, bytes: &[u8], remote: IpEndpoint, local: IpAddress)
-    ensures { LeaseTaken (C.context cx.now).moment remote local bytes.now client.old client.new }
+    ensures { LeaseTaken (C.context cx.now).instant remote local bytes.now client.old client.new }
 {
     let local = IpEndpoint {
         addr: local,
@@ -47,7 +47,7 @@ pub fn recv<C: Context>(
     remote: IpEndpoint,
     local: IpAddress,
 ) -> Result<(), Code>
-    ensures { TakesLease (C.context cx.now).moment remote local bytes.now client.old result client.new }
+    ensures { TakesLease (C.context cx.now).instant remote local bytes.now client.old result client.new }
 {
     match client {
         Some(client) => {

@@ -1,9 +1,9 @@
-//! A host with its calls, each of which answers whatever numbers, moments and sockets it is given: what the static library
+//! A host with its calls, each of which answers whatever numbers, instants and sockets it is given: what the static library
 //! `zemplovir_c` passes on to C.
 //!
 //! `link` is the device in memory that a host sends over: its caller pushes frames and fetches them.
 //!
-//! Calls of the sockets at a host's places answer a code where there is no socket, or one of another kind, and those of its clients of DHCP
+//! Calls of the sockets at a host's slots answer a code where there is no socket, or one of another kind, and those of its clients of DHCP
 //! and DNS one where there is none. Each stands twice, of the sockets or of the client alone and as a method of a host.
 #![tactic(auto)]
 
@@ -22,7 +22,7 @@ mod made;
 pub mod names;
 pub mod packets;
 mod parts;
-mod places;
+mod slots;
 pub mod streams;
 mod tables;
 
@@ -30,4 +30,4 @@ pub use carrying::Sending;
 pub use code::Code;
 pub use host::{Counters, Host, Settings};
 pub use made::{queues, rings};
-pub use places::Places;
+pub use slots::Slots;

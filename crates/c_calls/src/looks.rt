@@ -1,30 +1,30 @@
 //! What a TCP socket tells of itself.
 ghost use Rattle.std.specs.Prelude.{◌≡◌, MatchResult, Ok, Err};
 ghost use Rattle.sockets.specs.AnySocket.{as_tcp};
-ghost use Rattle.c_calls.specs.Places.{answer_at};
+ghost use Rattle.c_calls.specs.Slots.{answer_at};
 ghost use Rattle.c_calls.specs.Streams.{peeked, state_in, ends_in, queues_in};
 
 use crate::code::{Code, of_stream_recv};
 use crate::kinds::seen;
-use crate::places::Places;
+use crate::slots::Slots;
 use ip_wire::IpEndpoint;
 use sockets::tcp::{self, State};
 
 /// The state of the connection.
-pub fn state(sockets: &Places, place: usize) -> Result<State, Code>
-    ensures { result ≡ answer_at as_tcp state_in sockets.now place }
+pub fn state(sockets: &Slots, slot: usize) -> Result<State, Code>
+    ensures { result ≡ answer_at as_tcp state_in sockets.now slot }
 {
-    match seen::<tcp::Socket>(sockets, place) {
+    match seen::<tcp::Socket>(sockets, slot) {
         Ok(socket) => Ok(socket.state()),
         Err(code) => Err(code),
     }
 }
 
 /// The own endpoint of the connection and the remote's.
-pub fn ends(sockets: &Places, place: usize) -> Result<(IpEndpoint, IpEndpoint), Code>
-    ensures { result ≡ answer_at as_tcp ends_in sockets.now place }
+pub fn ends(sockets: &Slots, slot: usize) -> Result<(IpEndpoint, IpEndpoint), Code>
+    ensures { result ≡ answer_at as_tcp ends_in sockets.now slot }
 {
-    match seen::<tcp::Socket>(sockets, place) {
+    match seen::<tcp::Socket>(sockets, slot) {
         Ok(socket) => both_ends(socket),
         Err(code) => Err(code),
     }
@@ -43,22 +43,22 @@ fn both_ends(socket: &tcp::Socket) -> Result<(IpEndpoint, IpEndpoint), Code>
 }
 
 /// How many bytes wait to be read, and how many are queued that aren't acknowledged.
-pub fn queues(sockets: &Places, place: usize) -> Result<(usize, usize), Code>
-    ensures { result ≡ answer_at as_tcp queues_in sockets.now place }
+pub fn queues(sockets: &Slots, slot: usize) -> Result<(usize, usize), Code>
+    ensures { result ≡ answer_at as_tcp queues_in sockets.now slot }
 {
-    match seen::<tcp::Socket>(sockets, place) {
+    match seen::<tcp::Socket>(sockets, slot) {
         Ok(socket) => Ok((socket.recv_queue(), socket.send_queue())),
         Err(code) => Err(code),
     }
 }
 
-/// Lends the first waiting bytes, as many as lie behind one another.
-pub fn peek(sockets: &Places, place: usize) -> Result<&[u8], Code>
+/// Lends the first waiting bytes, as many as lie after one another.
+pub fn peek(sockets: &Slots, slot: usize) -> Result<&[u8], Code>
     ensures { MatchResult result
-        (λ bytes. answer_at as_tcp peeked sockets.now place ≡ Ok bytes.now)
-        (λ code. answer_at as_tcp peeked sockets.now place ≡ Err code) }
+        (λ bytes. answer_at as_tcp peeked sockets.now slot ≡ Ok bytes.now)
+        (λ code. answer_at as_tcp peeked sockets.now slot ≡ Err code) }
 {
-    match seen::<tcp::Socket>(sockets, place) {
+    match seen::<tcp::Socket>(sockets, slot) {
         Ok(socket) => first_bytes(socket),
         Err(code) => Err(code),
     }

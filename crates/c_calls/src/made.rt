@@ -24,12 +24,12 @@ pub fn queues<H: Drop>(
 fn queue<H: Drop>(alloc: Global, packets: usize, bytes: usize) -> Option<PacketBuffer<H>>
     ensures { IfSome result (λ queue. queue ≡ packets_in [] 0 packets bytes) }
 {
-    let mut places = Vec::with_capacity(alloc, packets).ok()?;
+    let mut slots = Vec::with_capacity(alloc, packets).ok()?;
     for _ in 0..packets {
-        places.push(PacketMetadata::EMPTY).ok()?;
+        slots.push(PacketMetadata::EMPTY).ok()?;
     }
     let bytes = Vec::from_elem(alloc, 0, bytes).ok()?;
-    Some(PacketBuffer::new(ManagedSlice::Fixed(places), ManagedSlice::Fixed(bytes)))
+    Some(PacketBuffer::new(ManagedSlice::Fixed(slots), ManagedSlice::Fixed(bytes)))
 }
 
 /// Two rings of so many bytes: what came, and what is to go.

@@ -76,7 +76,7 @@ pub fn start<C: Context>(
     name: &[u8],
     kind: DnsQueryType,
 ) -> Result<(), Code>
-    ensures text { (IsUtf8 name.now → ⊥) → (result ≡ Err Code.InvalidName) × (client.new ≡ client.old) }
+    ensures payload { (IsUtf8 name.now → ⊥) → (result ≡ Err Code.InvalidName) × (client.new ≡ client.old) }
     ensures asks { IsUtf8 name.now → Asks (C.context cx.old) name.now kind client.old result client.new }
     ensures drawn { cx.new ≡ (if is_ok result then C.drawn (C.drawn cx.old) else cx.old) }
 {
@@ -93,7 +93,7 @@ fn take<C: Context>(
     remote: IpEndpoint,
     local: IpEndpoint,
 )
-    ensures { AnswerTaken (C.context cx.now).moment remote local bytes.now client.old client.new }
+    ensures { AnswerTaken (C.context cx.now).instant remote local bytes.now client.old client.new }
 {
     if let Some((ip, ports)) = headers(remote, local, bytes.len()) {
         client.process(cx, &ip, &ports, bytes);
@@ -108,7 +108,7 @@ pub fn recv<C: Context>(
     remote: IpEndpoint,
     local: IpEndpoint,
 ) -> Result<(), Code>
-    ensures { TakesAnswer (C.context cx.now).moment remote local bytes.now client.old result client.new }
+    ensures { TakesAnswer (C.context cx.now).instant remote local bytes.now client.old result client.new }
 {
     match client {
         Some(client) => {

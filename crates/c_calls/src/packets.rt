@@ -2,9 +2,9 @@
 ghost use Rattle.std.specs.Prelude.{◌≡◌, length};
 ghost use Rattle.sockets.specs.AnySocket.{as_raw};
 ghost use Rattle.sockets.specs.declared.socket.Socket.TheVariants as Kind;
-ghost use Rattle.c_calls.specs.Places.{answer_at, after_at, written_at};
-ghost use Rattle.sockets.specs.Raw.{send_answer, send_after, counted};
-ghost use Rattle.sockets.specs.SocketValue.{recv_answer, recv_after, recv_written};
+ghost use Rattle.c_calls.specs.Slots.{answer_at, after_at, written_at};
+ghost use Rattle.socket_datagram.specs.Raw.{send_answer, send_after, counted};
+ghost use Rattle.socket_datagram.specs.SocketValue.{recv_answer, recv_after, recv_written};
 ghost use Rattle.c_calls.specs.Codes.{coded, of_raw_send, of_recv};
 ghost use Rattle.c_calls.specs.Added.{MakesSocket, new_raw};
 
@@ -12,16 +12,16 @@ use crate::code::{Code, of_raw_send, of_recv};
 use crate::host::Host;
 use crate::kinds::lent;
 use crate::made::queues;
-use crate::places::Places;
+use crate::slots::Slots;
 use ip_wire::{IpProtocol, IpVersion};
 use sockets::raw;
 
 /// Queues a packet with its IP header.
-pub fn send(sockets: &mut Places, place: usize, bytes: &[u8]) -> Result<(), Code>
-    ensures answer { result ≡ answer_at as_raw (λ v. coded of_raw_send (send_answer v (length bytes.now))) sockets.old place }
-    ensures after { sockets.new ≡ after_at as_raw Kind.Raw (λ v. send_after v bytes.now) sockets.old place }
+pub fn send(sockets: &mut Slots, slot: usize, bytes: &[u8]) -> Result<(), Code>
+    ensures answer { result ≡ answer_at as_raw (λ v. coded of_raw_send (send_answer v (length bytes.now))) sockets.old slot }
+    ensures after { sockets.new ≡ after_at as_raw Kind.Raw (λ v. send_after v bytes.now) sockets.old slot }
 {
-    match lent::<raw::Socket>(sockets, place) {
+    match lent::<raw::Socket>(sockets, slot) {
         Ok(socket) => queue(socket, bytes),
         Err(code) => Err(code),
     }
@@ -38,12 +38,12 @@ fn queue(socket: &mut raw::Socket, bytes: &[u8]) -> Result<(), Code>
 }
 
 /// Reads the first packet to the front of the slice.
-pub fn recv(sockets: &mut Places, place: usize, out: &mut [u8]) -> Result<usize, Code>
-    ensures answer { result ≡ answer_at as_raw (λ v. coded of_recv (counted (recv_answer v (length out.old)))) sockets.old place }
-    ensures after { sockets.new ≡ after_at as_raw Kind.Raw (recv_after) sockets.old place }
-    ensures read { out.new ≡ written_at as_raw recv_written out.old sockets.old place }
+pub fn recv(sockets: &mut Slots, slot: usize, out: &mut [u8]) -> Result<usize, Code>
+    ensures answer { result ≡ answer_at as_raw (λ v. coded of_recv (counted (recv_answer v (length out.old)))) sockets.old slot }
+    ensures after { sockets.new ≡ after_at as_raw Kind.Raw (recv_after) sockets.old slot }
+    ensures read { out.new ≡ written_at as_raw recv_written out.old sockets.old slot }
 {
-    match lent::<raw::Socket>(sockets, place) {
+    match lent::<raw::Socket>(sockets, slot) {
         Ok(socket) => read(socket, out),
         Err(code) => Err(code),
     }
@@ -78,19 +78,19 @@ impl Host {
     }
 
     /// Queues a packet with its IP header.
-    pub fn raw_send(&mut self, place: usize, bytes: &[u8]) -> Result<(), Code>
-        ensures answer { result ≡ answer_at as_raw (λ v. coded of_raw_send (send_answer v (length bytes.now))) self.old.places place }
-        ensures after { self.new ≡ record self.old { places = after_at as_raw Kind.Raw (λ v. send_after v bytes.now) self.old.places place } }
+    pub fn raw_send(&mut self, slot: usize, bytes: &[u8]) -> Result<(), Code>
+        ensures answer { result ≡ answer_at as_raw (λ v. coded of_raw_send (send_answer v (length bytes.now))) self.old.slots slot }
+        ensures after { self.new ≡ record self.old { slots = after_at as_raw Kind.Raw (λ v. send_after v bytes.now) self.old.slots slot } }
     {
-        send(self.sockets(), place, bytes)
+        send(self.sockets(), slot, bytes)
     }
 
     /// Reads the first packet to the front of the slice, and answers its length.
-    pub fn raw_recv(&mut self, place: usize, out: &mut [u8]) -> Result<usize, Code>
-        ensures answer { result ≡ answer_at as_raw (λ v. coded of_recv (counted (recv_answer v (length out.old)))) self.old.places place }
-        ensures after { self.new ≡ record self.old { places = after_at as_raw Kind.Raw (recv_after) self.old.places place } }
-        ensures read { out.new ≡ written_at as_raw recv_written out.old self.old.places place }
+    pub fn raw_recv(&mut self, slot: usize, out: &mut [u8]) -> Result<usize, Code>
+        ensures answer { result ≡ answer_at as_raw (λ v. coded of_recv (counted (recv_answer v (length out.old)))) self.old.slots slot }
+        ensures after { self.new ≡ record self.old { slots = after_at as_raw Kind.Raw (recv_after) self.old.slots slot } }
+        ensures read { out.new ≡ written_at as_raw recv_written out.old self.old.slots slot }
     {
-        recv(self.sockets(), place, out)
+        recv(self.sockets(), slot, out)
     }
 }

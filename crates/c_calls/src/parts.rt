@@ -1,11 +1,11 @@
 //! The parts of a host, lent: a call of one part needn't take the host apart.
 ghost use Rattle.std.specs.Prelude.{◌≡◌};
 ghost use Rattle.std.specs.Borrow.{sem};
-ghost use Rattle.c_calls.specs.Lends.{LendsLink, LendsSockets, LendsInterface, LendsListeners, LendsLeases, LendsNames, LendsCounters};
+ghost use Rattle.c_calls.specs.BorrowEnds.{LendsLink, LendsSockets, LendsInterface, LendsListeners, LendsLeases, LendsNames, LendsCounters};
 
 use crate::host::{Counters, Host};
 use crate::link::FrameLink;
-use crate::places::Places;
+use crate::slots::Slots;
 use interface::{Interface, Listener};
 use sockets::{dhcp, dns};
 use std::alloc::Global;
@@ -40,16 +40,16 @@ impl Host {
     }
 
     /// Its sockets.
-    pub(crate) fn seen_sockets(&self) -> &Places
-        ensures { result.now ≡ self.now.places }
+    pub(crate) fn seen_sockets(&self) -> &Slots
+        ensures { result.now ≡ self.now.slots }
     {
         &self.sockets
     }
 
     /// Lends its sockets.
-    pub(crate) fn sockets(&mut self) -> &mut Places
+    pub(crate) fn sockets(&mut self) -> &mut Slots
         ensures* lends { sem 𝓛 (LendsSockets self.entry result) }
-        ensures value { result.now ≡ self.old.places }
+        ensures value { result.now ≡ self.old.slots }
     {
         &mut self.sockets
     }
@@ -61,10 +61,10 @@ impl Host {
         &self.interface
     }
 
-    /// Lends its interface, beside its sockets.
-    pub(crate) fn interface_beside(&mut self) -> (&mut Interface, &Places)
+    /// Lends its interface, alongside its sockets.
+    pub(crate) fn interface_beside(&mut self) -> (&mut Interface, &Slots)
         ensures* lends { sem 𝓛 (LendsInterface self.entry result.0) }
-        ensures value { (result.0.now ≡ self.old.host) × (result.1.now ≡ self.old.places) }
+        ensures value { (result.0.now ≡ self.old.host) × (result.1.now ≡ self.old.slots) }
     {
         (&mut self.interface, &self.sockets)
     }
@@ -99,7 +99,7 @@ impl Host {
         &self.dhcp
     }
 
-    /// Lends its client of DHCP, beside its interface.
+    /// Lends its client of DHCP, alongside its interface.
     pub(crate) fn leases_beside(&mut self) -> (&mut Option<dhcp::Socket>, &Interface)
         ensures* lends { sem 𝓛 (LendsLeases self.entry result.0) }
         ensures value { (result.0.now ≡ self.old.dhcp) × (result.1.now ≡ self.old.host) }
@@ -122,7 +122,7 @@ impl Host {
         &self.dns
     }
 
-    /// Lends its client of DNS, beside its interface.
+    /// Lends its client of DNS, alongside its interface.
     pub(crate) fn names_beside(&mut self) -> (&mut Option<dns::Socket>, &Interface)
         ensures* lends { sem 𝓛 (LendsNames self.entry result.0) }
         ensures value { (result.0.now ≡ self.old.dns) × (result.1.now ≡ self.old.host) }

@@ -2,7 +2,7 @@
 ghost use Rattle.std.specs.Prelude.{◌≡◌, length, min, if◌then◌else◌, IfOk, Ok, Err, MatchResult};
 ghost use Rattle.sockets.specs.AnySocket.{as_tcp};
 ghost use Rattle.sockets.specs.declared.socket.Socket.TheVariants as Kind;
-ghost use Rattle.c_calls.specs.Places.{answer_at, after_at, written_at, draws_at};
+ghost use Rattle.c_calls.specs.Slots.{answer_at, after_at, written_at, draws_at};
 ghost use Rattle.sockets.specs.Context.{ContextValue};
 ghost use Rattle.sockets.specs.TcpCalls.{connect_answer, connect_after, connect_draws, send_answer, send_after, recv_answer};
 ghost use Rattle.c_calls.specs.Codes.{coded, of_connect, of_stream_send, of_stream_recv};
@@ -16,7 +16,7 @@ use crate::host::Host;
 use crate::kinds::lent;
 use crate::looks;
 use crate::made::{limit_of, rings};
-use crate::places::Places;
+use crate::slots::Slots;
 use ip_wire::{IpEndpoint, IpListenEndpoint, TcpTimestampGenerator};
 use net_base::Duration;
 use sockets::Context;
@@ -27,7 +27,7 @@ use sockets::tcp::{self, CongestionControl};
 pub enum Act {
     /// Opens the socket for a connection that a remote opens, to one own address or to any.
     Listen(IpListenEndpoint),
-    /// Closes the way out.
+    /// Closes the egress path.
     Close,
     /// Ends the connection.
     Abort,
@@ -84,11 +84,11 @@ fn act_on(socket: &mut tcp::Socket, act: Act) -> Result<(), Code>
 }
 
 /// Does a call that answers nothing but whether it was done.
-pub fn perform(sockets: &mut Places, place: usize, act: Act) -> Result<(), Code>
-    ensures answer { result ≡ answer_at as_tcp (act_answer act) sockets.old place }
-    ensures after { sockets.new ≡ after_at as_tcp Kind.Tcp (act_after act) sockets.old place }
+pub fn perform(sockets: &mut Slots, slot: usize, act: Act) -> Result<(), Code>
+    ensures answer { result ≡ answer_at as_tcp (act_answer act) sockets.old slot }
+    ensures after { sockets.new ≡ after_at as_tcp Kind.Tcp (act_after act) sockets.old slot }
 {
-    match lent::<tcp::Socket>(sockets, place) {
+    match lent::<tcp::Socket>(sockets, slot) {
         Ok(socket) => act_on(socket, act),
         Err(code) => Err(code),
     }
@@ -96,17 +96,17 @@ pub fn perform(sockets: &mut Places, place: usize, act: Act) -> Result<(), Code>
 
 /// Opens a connection to a remote. A connection that is opened draws a random word from the context.
 pub fn connect<C: Context>(
-    sockets: &mut Places,
-    place: usize,
+    sockets: &mut Slots,
+    slot: usize,
     cx: &mut C,
     remote: IpEndpoint,
     local: IpListenEndpoint,
 ) -> Result<(), Code>
-    ensures answer { result ≡ answer_at as_tcp (λ v. coded of_connect (connect_answer (C.context cx.old) v remote local)) sockets.old place }
-    ensures after { sockets.new ≡ after_at as_tcp Kind.Tcp (λ v. connect_after (C.context cx.old) v remote local) sockets.old place }
-    ensures drawn { cx.new ≡ (if draws_at as_tcp (λ v. connect_draws (C.context cx.old) v remote local) sockets.old place then C.drawn cx.old else cx.old) }
+    ensures answer { result ≡ answer_at as_tcp (λ v. coded of_connect (connect_answer (C.context cx.old) v remote local)) sockets.old slot }
+    ensures after { sockets.new ≡ after_at as_tcp Kind.Tcp (λ v. connect_after (C.context cx.old) v remote local) sockets.old slot }
+    ensures drawn { cx.new ≡ (if draws_at as_tcp (λ v. connect_draws (C.context cx.old) v remote local) sockets.old slot then C.drawn cx.old else cx.old) }
 {
-    match lent::<tcp::Socket>(sockets, place) {
+    match lent::<tcp::Socket>(sockets, slot) {
         Ok(socket) => open(socket, cx, remote, local),
         Err(code) => Err(code),
     }
@@ -129,11 +129,11 @@ fn open<C: Context>(
 }
 
 /// Queues as many of the bytes as there is room for, and answers how many.
-pub fn send(sockets: &mut Places, place: usize, bytes: &[u8]) -> Result<usize, Code>
-    ensures answer { result ≡ answer_at as_tcp (λ v. coded of_stream_send (send_answer v (length bytes.now))) sockets.old place }
-    ensures after { sockets.new ≡ after_at as_tcp Kind.Tcp (λ v. send_after v bytes.now) sockets.old place }
+pub fn send(sockets: &mut Slots, slot: usize, bytes: &[u8]) -> Result<usize, Code>
+    ensures answer { result ≡ answer_at as_tcp (λ v. coded of_stream_send (send_answer v (length bytes.now))) sockets.old slot }
+    ensures after { sockets.new ≡ after_at as_tcp Kind.Tcp (λ v. send_after v bytes.now) sockets.old slot }
 {
-    match lent::<tcp::Socket>(sockets, place) {
+    match lent::<tcp::Socket>(sockets, slot) {
         Ok(socket) => queue(socket, bytes),
         Err(code) => Err(code),
     }
@@ -150,12 +150,12 @@ fn queue(socket: &mut tcp::Socket, bytes: &[u8]) -> Result<usize, Code>
 }
 
 /// Reads waiting bytes to the front of the slice, and answers how many.
-pub fn recv(sockets: &mut Places, place: usize, out: &mut [u8]) -> Result<usize, Code>
-    ensures answer { result ≡ answer_at as_tcp (λ v. coded of_stream_recv (recv_answer v (length out.old))) sockets.old place }
-    ensures after { sockets.new ≡ after_at as_tcp Kind.Tcp (λ v. read_after v (length out.old)) sockets.old place }
-    ensures read { out.new ≡ written_at as_tcp read_written out.old sockets.old place }
+pub fn recv(sockets: &mut Slots, slot: usize, out: &mut [u8]) -> Result<usize, Code>
+    ensures answer { result ≡ answer_at as_tcp (λ v. coded of_stream_recv (recv_answer v (length out.old))) sockets.old slot }
+    ensures after { sockets.new ≡ after_at as_tcp Kind.Tcp (λ v. read_after v (length out.old)) sockets.old slot }
+    ensures read { out.new ≡ written_at as_tcp read_written out.old sockets.old slot }
 {
-    match lent::<tcp::Socket>(sockets, place) {
+    match lent::<tcp::Socket>(sockets, slot) {
         Ok(socket) => read(socket, out),
         Err(code) => Err(code),
     }
@@ -172,12 +172,12 @@ fn read(socket: &mut tcp::Socket, out: &mut [u8]) -> Result<usize, Code>
     }
 }
 
-/// Gives up the first waiting bytes, at most so many and as many as lie behind one another. Answers how many.
-pub fn done(sockets: &mut Places, place: usize, count: usize) -> Result<usize, Code>
-    ensures answer { result ≡ answer_at as_tcp (done_answer count) sockets.old place }
-    ensures after { sockets.new ≡ after_at as_tcp Kind.Tcp (done_after count) sockets.old place }
+/// Gives up the first waiting bytes, at most so many and as many as lie after one another. Answers how many.
+pub fn done(sockets: &mut Slots, slot: usize, count: usize) -> Result<usize, Code>
+    ensures answer { result ≡ answer_at as_tcp (done_answer count) sockets.old slot }
+    ensures after { sockets.new ≡ after_at as_tcp Kind.Tcp (done_after count) sockets.old slot }
 {
-    match lent::<tcp::Socket>(sockets, place) {
+    match lent::<tcp::Socket>(sockets, slot) {
         Ok(socket) => give_up(socket, count),
         Err(code) => Err(code),
     }
@@ -220,83 +220,83 @@ impl Host {
     }
 
     /// Does a call that answers nothing but whether it was done.
-    pub fn tcp_act(&mut self, place: usize, act: Act) -> Result<(), Code>
-        ensures answer { result ≡ answer_at as_tcp (act_answer act) self.old.places place }
-        ensures after { self.new ≡ record self.old { places = after_at as_tcp Kind.Tcp (act_after act) self.old.places place } }
+    pub fn tcp_act(&mut self, slot: usize, act: Act) -> Result<(), Code>
+        ensures answer { result ≡ answer_at as_tcp (act_answer act) self.old.slots slot }
+        ensures after { self.new ≡ record self.old { slots = after_at as_tcp Kind.Tcp (act_after act) self.old.slots slot } }
     {
-        perform(self.sockets(), place, act)
+        perform(self.sockets(), slot, act)
     }
 
     /// Opens a connection to a remote, from a port of one own address or of the one that the host chooses.
     pub fn tcp_connect(
         &mut self,
-        place: usize,
+        slot: usize,
         remote: IpEndpoint,
         local: IpListenEndpoint,
     ) -> Result<(), Code>
         ensures answer { result ≡
-            answer_at as_tcp (λ v. coded of_connect (connect_answer (context_of self.old.host.inner) v remote local)) self.old.places place }
+            answer_at as_tcp (λ v. coded of_connect (connect_answer (context_of self.old.host.inner) v remote local)) self.old.slots slot }
         ensures after { self.new ≡ record self.old {
-          host = if draws_at as_tcp (λ v. connect_draws (context_of self.old.host.inner) v remote local) self.old.places place
+          host = if draws_at as_tcp (λ v. connect_draws (context_of self.old.host.inner) v remote local) self.old.slots slot
               then with_inner self.old.host (drawn self.old.host.inner) else self.old.host;
-          places = after_at as_tcp Kind.Tcp (λ v. connect_after (context_of self.old.host.inner) v remote local) self.old.places place;
+          slots = after_at as_tcp Kind.Tcp (λ v. connect_after (context_of self.old.host.inner) v remote local) self.old.slots slot;
         } }
     {
-        connect(&mut self.sockets, place, &mut self.interface, remote, local)
+        connect(&mut self.sockets, slot, &mut self.interface, remote, local)
     }
 
     /// Queues as many of the bytes as there is room for, and answers how many.
-    pub fn tcp_send(&mut self, place: usize, bytes: &[u8]) -> Result<usize, Code>
-        ensures answer { result ≡ answer_at as_tcp (λ v. coded of_stream_send (send_answer v (length bytes.now))) self.old.places place }
-        ensures after { self.new ≡ record self.old { places = after_at as_tcp Kind.Tcp (λ v. send_after v bytes.now) self.old.places place } }
+    pub fn tcp_send(&mut self, slot: usize, bytes: &[u8]) -> Result<usize, Code>
+        ensures answer { result ≡ answer_at as_tcp (λ v. coded of_stream_send (send_answer v (length bytes.now))) self.old.slots slot }
+        ensures after { self.new ≡ record self.old { slots = after_at as_tcp Kind.Tcp (λ v. send_after v bytes.now) self.old.slots slot } }
     {
-        send(self.sockets(), place, bytes)
+        send(self.sockets(), slot, bytes)
     }
 
     /// Reads waiting bytes to the front of the slice, and answers how many.
-    pub fn tcp_recv(&mut self, place: usize, out: &mut [u8]) -> Result<usize, Code>
-        ensures answer { result ≡ answer_at as_tcp (λ v. coded of_stream_recv (recv_answer v (length out.old))) self.old.places place }
-        ensures after { self.new ≡ record self.old { places = after_at as_tcp Kind.Tcp (λ v. read_after v (length out.old)) self.old.places place } }
-        ensures read { out.new ≡ written_at as_tcp read_written out.old self.old.places place }
+    pub fn tcp_recv(&mut self, slot: usize, out: &mut [u8]) -> Result<usize, Code>
+        ensures answer { result ≡ answer_at as_tcp (λ v. coded of_stream_recv (recv_answer v (length out.old))) self.old.slots slot }
+        ensures after { self.new ≡ record self.old { slots = after_at as_tcp Kind.Tcp (λ v. read_after v (length out.old)) self.old.slots slot } }
+        ensures read { out.new ≡ written_at as_tcp read_written out.old self.old.slots slot }
     {
-        recv(self.sockets(), place, out)
+        recv(self.sockets(), slot, out)
     }
 
-    /// Gives up the first waiting bytes, at most so many and as many as lie behind one another. Answers how many.
-    pub fn tcp_done(&mut self, place: usize, count: usize) -> Result<usize, Code>
-        ensures answer { result ≡ answer_at as_tcp (done_answer count) self.old.places place }
-        ensures after { self.new ≡ record self.old { places = after_at as_tcp Kind.Tcp (done_after count) self.old.places place } }
+    /// Gives up the first waiting bytes, at most so many and as many as lie after one another. Answers how many.
+    pub fn tcp_done(&mut self, slot: usize, count: usize) -> Result<usize, Code>
+        ensures answer { result ≡ answer_at as_tcp (done_answer count) self.old.slots slot }
+        ensures after { self.new ≡ record self.old { slots = after_at as_tcp Kind.Tcp (done_after count) self.old.slots slot } }
     {
-        done(self.sockets(), place, count)
+        done(self.sockets(), slot, count)
     }
 
-    /// Lends the first waiting bytes, as many as lie behind one another.
-    pub fn tcp_peek(&self, place: usize) -> Result<&[u8], Code>
+    /// Lends the first waiting bytes, as many as lie after one another.
+    pub fn tcp_peek(&self, slot: usize) -> Result<&[u8], Code>
         ensures { MatchResult result
-            (λ bytes. answer_at as_tcp peeked self.now.places place ≡ Ok bytes.now)
-            (λ code. answer_at as_tcp peeked self.now.places place ≡ Err code) }
+            (λ bytes. answer_at as_tcp peeked self.now.slots slot ≡ Ok bytes.now)
+            (λ code. answer_at as_tcp peeked self.now.slots slot ≡ Err code) }
     {
-        looks::peek(self.seen_sockets(), place)
+        looks::peek(self.seen_sockets(), slot)
     }
 
     /// The state of the connection.
-    pub fn tcp_state(&self, place: usize) -> Result<tcp::State, Code>
-        ensures { result ≡ answer_at as_tcp state_in self.now.places place }
+    pub fn tcp_state(&self, slot: usize) -> Result<tcp::State, Code>
+        ensures { result ≡ answer_at as_tcp state_in self.now.slots slot }
     {
-        looks::state(self.seen_sockets(), place)
+        looks::state(self.seen_sockets(), slot)
     }
 
     /// The own endpoint of the connection and the remote's.
-    pub fn tcp_ends(&self, place: usize) -> Result<(IpEndpoint, IpEndpoint), Code>
-        ensures { result ≡ answer_at as_tcp ends_in self.now.places place }
+    pub fn tcp_ends(&self, slot: usize) -> Result<(IpEndpoint, IpEndpoint), Code>
+        ensures { result ≡ answer_at as_tcp ends_in self.now.slots slot }
     {
-        looks::ends(self.seen_sockets(), place)
+        looks::ends(self.seen_sockets(), slot)
     }
 
     /// How many bytes wait to be read, and how many are queued that aren't acknowledged.
-    pub fn tcp_queues(&self, place: usize) -> Result<(usize, usize), Code>
-        ensures { result ≡ answer_at as_tcp queues_in self.now.places place }
+    pub fn tcp_queues(&self, slot: usize) -> Result<(usize, usize), Code>
+        ensures { result ≡ answer_at as_tcp queues_in self.now.slots slot }
     {
-        looks::queues(self.seen_sockets(), place)
+        looks::queues(self.seen_sockets(), slot)
     }
 }

@@ -3,7 +3,7 @@ ghost use Rattle.std.specs.Prelude.{◌≡◌, position};
 ghost use Rattle.ip_wire.specs.HardwareAddress.TheVariants as Hardware;
 ghost use Rattle.interface.specs.Made.{with_inner, with_timeout};
 ghost use Rattle.interface.specs.Settings.{hardware_refusal, with_hardware, with_any_ip};
-ghost use Rattle.c_calls.specs.Tables.{address_room, is_address, is_block, pushed, removed, own_with, own_without, routes_with, routes_without};
+ghost use Rattle.c_calls.specs.Tables.{address_room, is_address, is_cidr, pushed, removed, own_with, own_without, routes_with, routes_without};
 ghost use Rattle.c_calls.specs.Tables.{with_own, with_table, own_in, table_in, route_to, is_done, of_hardware, hardware_answer, UpdatesHardware, SetsSlots};
 
 use crate::code::Code;
@@ -14,53 +14,53 @@ use ip_wire::{EthernetAddress, HardwareAddress, IpAddress, IpCidr};
 use net_base::{Duration, Instant};
 use sockets::addresses::{are_of_one_family, is_same_address};
 
-fn is_address(block: &IpCidr, address: &IpAddress) -> bool
-    ensures { result ≡ is_address address.now block.now }
+fn is_address(cidr: &IpCidr, address: &IpAddress) -> bool
+    ensures { result ≡ is_address address.now cidr.now }
 {
-    is_same_address(&block.address(), address)
+    is_same_address(&cidr.address(), address)
 }
 
-fn place_of_address(blocks: &[IpCidr], address: &IpAddress) -> Option<usize>
+fn slot_of_address(blocks: &[IpCidr], address: &IpAddress) -> Option<usize>
     ensures { result ≡ position (is_address address.now) blocks.now }
 {
-    blocks.iter().position(|block| is_address(block, address))
+    blocks.iter().position(|cidr| is_address(cidr, address))
 }
 
-fn is_block(route: &Route, block: &IpCidr) -> bool
-    ensures { result ≡ is_block block.now route.now }
+fn is_cidr(route: &Route, cidr: &IpCidr) -> bool
+    ensures { result ≡ is_cidr cidr.now route.now }
 {
-    is_same_address(&route.cidr.address(), &block.address())
-        && route.cidr.prefix_len() == block.prefix_len()
+    is_same_address(&route.cidr.address(), &cidr.address())
+        && route.cidr.prefix_len() == cidr.prefix_len()
 }
 
-fn place_of_route(routes: &[Route], block: &IpCidr) -> Option<usize>
-    ensures { result ≡ position (is_block block.now) routes.now }
+fn slot_of_route(routes: &[Route], cidr: &IpCidr) -> Option<usize>
+    ensures { result ≡ position (is_cidr cidr.now) routes.now }
 {
-    routes.iter().position(|route| is_block(route, block))
+    routes.iter().position(|route| is_cidr(route, cidr))
 }
 
 /// One more, where there is room.
-fn push_address(addresses: &mut ArrayVec<IpCidr, TABLE_ROOM>, block: IpCidr)
-    ensures { addresses.new.items ≡ pushed address_room addresses.old.items block }
+fn push_address(addresses: &mut ArrayVec<IpCidr, TABLE_ROOM>, cidr: IpCidr)
+    ensures { addresses.new.items ≡ pushed address_room addresses.old.items cidr }
 {
-    let _ = addresses.try_push(block);
+    let _ = addresses.try_push(cidr);
 }
 
-/// The address of this place leaves.
-fn take_address(addresses: &mut ArrayVec<IpCidr, TABLE_ROOM>, place: usize)
-    ensures { addresses.new.items ≡ removed addresses.old.items place }
+/// The address of this slot leaves.
+fn take_address(addresses: &mut ArrayVec<IpCidr, TABLE_ROOM>, slot: usize)
+    ensures { addresses.new.items ≡ removed addresses.old.items slot }
 {
-    let _ = addresses.pop_at(place);
+    let _ = addresses.pop_at(slot);
 }
 
-fn add_address(interface: &mut Interface, block: IpCidr) -> Result<(), Code>
-    ensures answer { result ≡ is_done (own_with interface.old.inner.addresses block) }
-    ensures after { interface.new ≡ own_in interface.old (own_with interface.old.inner.addresses block) }
+fn add_address(interface: &mut Interface, cidr: IpCidr) -> Result<(), Code>
+    ensures answer { result ≡ is_done (own_with interface.old.inner.addresses cidr) }
+    ensures after { interface.new ≡ own_in interface.old (own_with interface.old.inner.addresses cidr) }
 {
     if TABLE_ROOM <= interface.ip_addrs().len() {
         return Err(Code::TableFull);
     }
-    match interface.update_ip_addrs(|addresses| push_address(addresses, block)) {
+    match interface.update_ip_addrs(|addresses| push_address(addresses, cidr)) {
         Ok(()) => Ok(()),
         Err(_) => Err(Code::NotUnicast),
     }
@@ -70,10 +70,10 @@ fn remove_address(interface: &mut Interface, address: &IpAddress) -> Result<(), 
     ensures answer { result ≡ is_done (own_without interface.old.inner.addresses address.now) }
     ensures after { interface.new ≡ own_in interface.old (own_without interface.old.inner.addresses address.now) }
 {
-    let Some(place) = place_of_address(interface.ip_addrs(), address) else {
+    let Some(slot) = slot_of_address(interface.ip_addrs(), address) else {
         return Err(Code::NotFound);
     };
-    match interface.update_ip_addrs(|addresses| take_address(addresses, place)) {
+    match interface.update_ip_addrs(|addresses| take_address(addresses, slot)) {
         Ok(()) => Ok(()),
         Err(_) => Err(Code::NotUnicast),
     }
@@ -85,10 +85,10 @@ fn push_route(routes: &mut Routes, route: Route)
     let _ = routes.push(route);
 }
 
-fn take_route(routes: &mut Routes, place: usize)
-    ensures { routes.new ≡ record routes.old { entries = removed routes.old.entries place } }
+fn take_route(routes: &mut Routes, slot: usize)
+    ensures { routes.new ≡ record routes.old { entries = removed routes.old.entries slot } }
 {
-    let _ = routes.remove(place);
+    let _ = routes.remove(slot);
 }
 
 fn add_route(interface: &mut Interface, route: Route) -> Result<(), Code>
@@ -105,14 +105,14 @@ fn add_route(interface: &mut Interface, route: Route) -> Result<(), Code>
     Ok(())
 }
 
-fn remove_route(interface: &mut Interface, block: &IpCidr) -> Result<(), Code>
-    ensures answer { result ≡ is_done (routes_without interface.old.inner.routes block.now) }
-    ensures after { interface.new ≡ table_in interface.old (routes_without interface.old.inner.routes block.now) }
+fn remove_route(interface: &mut Interface, cidr: &IpCidr) -> Result<(), Code>
+    ensures answer { result ≡ is_done (routes_without interface.old.inner.routes cidr.now) }
+    ensures after { interface.new ≡ table_in interface.old (routes_without interface.old.inner.routes cidr.now) }
 {
-    let Some(place) = place_of_route(interface.routes().as_slice(), block) else {
+    let Some(slot) = slot_of_route(interface.routes().as_slice(), cidr) else {
         return Err(Code::NotFound);
     };
-    interface.update_routes(|routes| take_route(routes, place));
+    interface.update_routes(|routes| take_route(routes, slot));
     Ok(())
 }
 
@@ -137,11 +137,11 @@ fn of_hardware(error: HardwareAddrError) -> Code
 
 impl Host {
     /// Adds an own address with its network. All neighbours are forgotten.
-    pub fn address_add(&mut self, block: IpCidr) -> Result<(), Code>
-        ensures answer { result ≡ is_done (own_with self.old.host.inner.addresses block) }
-        ensures after { self.new ≡ with_own self.old (own_with self.old.host.inner.addresses block) }
+    pub fn address_add(&mut self, cidr: IpCidr) -> Result<(), Code>
+        ensures answer { result ≡ is_done (own_with self.old.host.inner.addresses cidr) }
+        ensures after { self.new ≡ with_own self.old (own_with self.old.host.inner.addresses cidr) }
     {
-        add_address(self.interface(), block)
+        add_address(self.interface(), cidr)
     }
 
     /// Takes an own address out. All neighbours are forgotten.
@@ -176,7 +176,7 @@ impl Host {
         remove_route(self.interface(), &network)
     }
 
-    /// Sets the station's address.
+    /// Sets the hardware address's address.
     pub fn set_hardware(&mut self, address: EthernetAddress) -> Result<(), Code>
         ensures answer { result ≡ hardware_answer (hardware_refusal self.old.host.inner.hardware (Hardware.Ethernet address)) }
         ensures after { self.new ≡ record self.old { host = with_inner self.old.host (with_hardware self.old.host.inner (Hardware.Ethernet address)) } }
@@ -184,7 +184,7 @@ impl Host {
         set_hardware(self.interface(), address)
     }
 
-    /// Sets the station's address, and tells all neighbours of it, by a frame for each own address, as long as there is room for frames.
+    /// Sets the hardware address's address, and tells all neighbours of it, by a frame for each own address, as long as there is room for frames.
     /// Answers how many wait to be fetched for that.
     pub fn update_hardware(&mut self, address: EthernetAddress) -> Result<usize, Code>
         ensures { UpdatesHardware address self.old result self.new }

@@ -1,7 +1,7 @@
-//! What this crate passes on stands under the name of its own format; a reason has a number of eight bits.
+//! What this crate re-exports stands under the name of its own format; a reason has a number of eight bits.
 ghost use Rattle.std.specs.Prelude.{◌≡◌, ◌<◌};
-ghost use Rattle.icmpv4.specs.Icmpv4Codes.{exceeded_number, unreachable_number};
-ghost use Rattle.icmpv6.specs.Reason.{exceeded_code, problem_code, unreachable_code};
+ghost use Rattle.wire_icmpv4.specs.Icmpv4Codes.{exceeded_number, unreachable_number};
+ghost use Rattle.wire_icmpv6.specs.Reason.{exceeded_code, problem_code, unreachable_code};
 
 use crate::icmpv4_field::DATA;
 use crate::icmpv6_field::TARGET_ADDR;

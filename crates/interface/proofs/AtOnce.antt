@@ -9,41 +9,41 @@ use Rattle.ip_wire.specs.Ip.{destination_of}
 use Rattle.ip_wire.specs.IpAddress.{IpAddress}
 use Rattle.ip_wire.specs.IpRepr.{IpRepr}
 use Rattle.ip_wire.specs.IpRepr.TheVariants as Ip
-use Rattle.interface_ingress.specs.Context.{ContextValue}
-use Rattle.interface_ingress.specs.Offer as Answer
-use Rattle.interface_ingress.specs.Offer.TheVariants as Offer
-use Rattle.interface_ingress.specs.Offers.{IsFound, IsOnly, IsSameButForPlaces, OffersFirst, answer_with, left_with}
-use Rattle.interface_ingress.specs.Packet.{PacketValue}
-use Rattle.interface_ingress.specs.SendError.{SendError}
-use Rattle.interface_ingress.specs.Socket.{Socket}
-use Rattle.interface_ingress.specs.Socket.TheVariants as Kind
-use Rattle.interface_ingress.specs.SocketValue as Datagrams
-use Rattle.interface_ingress.specs.Sockets.{Offers, settled}
-use Rattle.interface_ingress.specs.Udp.{UdpValue, TakesAtOnce, TakesDatagram, send_answer, send_after}
-use Rattle.interface_ingress.specs.UdpMetadata.{UdpMetadata}
-use Rattle.interface_ingress.specs.WellFormed.{IsWellFormed}
-use Rattle.interface_tables.specs.Inner.{InnerValue}
-use Rattle.interface_egress.specs.Departure.{Departure, Whole}
-use Rattle.interface_egress.specs.GoesOut.{GoesOut, Went, after_header, numbered}
-use Rattle.interface_egress.specs.Meta.{freed, unmarked}
-use Rattle.interface_egress.specs.Plan.{GoesStraight, comes_from_here}
-use Rattle.interface_egress.specs.declared.plan.Plan.{Plan}
-use Rattle.interface_egress.specs.declared.plan.Plan.TheVariants as Way
-use Rattle.interface_egress.specs.declared.socket_meta.Meta.{Meta}
-use Rattle.interface_egress.specs.declared.socket_set.Item.{Item}
-use Rattle.interface_egress.specs.declared.way_out.Sent.{Sent}
-use Rattle.interface_egress.specs.declared.way_out.Sent.TheVariants as Outcome
+use Rattle.iface_ingress.specs.Context.{ContextValue}
+use Rattle.iface_ingress.specs.Offer as Answer
+use Rattle.iface_ingress.specs.Offer.TheVariants as Offer
+use Rattle.iface_ingress.specs.Offers.{IsFound, IsOnly, IsSameButForSlots, OffersFirst, answer_with, left_with}
+use Rattle.iface_ingress.specs.Packet.{PacketValue}
+use Rattle.iface_ingress.specs.SendError.{SendError}
+use Rattle.iface_ingress.specs.Socket.{Socket}
+use Rattle.iface_ingress.specs.Socket.TheVariants as Kind
+use Rattle.iface_ingress.specs.SocketValue as Datagrams
+use Rattle.iface_ingress.specs.Sockets.{Offers, settled}
+use Rattle.iface_ingress.specs.Udp.{UdpValue, TakesAtOnce, TakesDatagram, send_answer, send_after}
+use Rattle.iface_ingress.specs.UdpMetadata.{UdpMetadata}
+use Rattle.iface_ingress.specs.WellFormed.{IsWellFormed}
+use Rattle.iface_tables.specs.Inner.{InnerValue}
+use Rattle.iface_egress.specs.Departure.{Departure, Whole}
+use Rattle.iface_egress.specs.IsTransmitted.{IsTransmitted, WasSent, after_header, numbered}
+use Rattle.iface_egress.specs.Meta.{freed, unmarked}
+use Rattle.iface_egress.specs.Plan.{GoesDirect, comes_from_here}
+use Rattle.iface_egress.specs.declared.plan.Plan.{Plan}
+use Rattle.iface_egress.specs.declared.plan.Plan.TheVariants as Way
+use Rattle.iface_egress.specs.declared.socket_meta.Meta.{Meta}
+use Rattle.iface_egress.specs.declared.socket_set.Item.{Item}
+use Rattle.iface_egress.specs.declared.egress_path.Sent.{Sent}
+use Rattle.iface_egress.specs.declared.egress_path.Sent.TheVariants as Outcome
 use Rattle.interface.specs.Host.{Sender, sender}
 use Rattle.interface.specs.Remote.{context_for}
 use Rattle.interface.specs.SameHost.{IsSameHost}
 use Rattle.interface.specs.SendTo.{DatagramToSend, udp_item, MayLeave, LeavesDirectly, LeavesIfKnown, LeavesAtOnce, LeavesIfItMay, LeavesInTurn}
-use Rattle.interface.specs.Turn.{is_heard, is_waiting, let_through, held, is_done, turned_by, is_raw, plan_at, outcome_by, LeavesStraight, Leaves, HasLeft}
-use Rattle.interface.specs.Turn.{SendsAs, SendsBy, Sends, Answers, TurnsIf, Turns}
-use Rattle.interface.specs.declared.turn.Turned.{Turned}
-use Rattle.interface.specs.declared.turn.Turned.TheVariants as Turn
+use Rattle.interface.specs.Serve.{passes_filter, is_waiting, let_through, held, is_done, turned_by, is_raw, plan_at, outcome_by, LeavesDirect, Leaves, HasLeft}
+use Rattle.interface.specs.Serve.{SendsAs, SendsBy, Sends, Answers, TurnsIf, Turns}
+use Rattle.interface.specs.declared.serve.Served.{Served}
+use Rattle.interface.specs.declared.serve.Served.TheVariants as Turn
 use Rattle.interface.proofs.SameHost.{same_where}
 use Rattle.interface.proofs.Sourced.{sends_from, sourced_stays}
-use Rattle.interface.proofs.Straight.{straight_left}
+use Rattle.interface.proofs.Direct.{direct_left}
 
 -- WHETHER IT MAY LEAVE
 
@@ -80,47 +80,47 @@ header_same (Ip.Ipv4 v) i = refl
 header_same (Ip.Ipv6 v) i = refl
 
 module _ {D : Type 0} (moves : D → Move → D → Type 0) where
-  went_same : (old new : D) (i i' : InnerValue) (h : IpRepr) (d : Departure) (sent : Sent) → Went moves old i h d sent new i' → IsSameHost i i'
-  went_same old new i i' h d Outcome.Gone went = subst (λ (x : InnerValue). IsSameHost i x) (sym went.1) (header_same h i)
-  went_same old new i i' h d Outcome.Refused went = same_where i i' went.1
-  went_same old new i i' h d Outcome.Dropped went = absurd went
-  went_same old new i i' h d Outcome.Waits went = absurd went
-  went_same old new i i' h d Outcome.Busy went = absurd went
+  was_sent_same : (old new : D) (i i' : InnerValue) (h : IpRepr) (d : Departure) (sent : Sent) → WasSent moves old i h d sent new i' → IsSameHost i i'
+  was_sent_same old new i i' h d Outcome.Gone was_sent = subst (λ (x : InnerValue). IsSameHost i x) (sym was_sent.1) (header_same h i)
+  was_sent_same old new i i' h d Outcome.Refused was_sent = same_where i i' was_sent.1
+  was_sent_same old new i i' h d Outcome.Dropped was_sent = absurd was_sent
+  was_sent_same old new i i' h d Outcome.Waits was_sent = absurd was_sent
+  was_sent_same old new i i' h d Outcome.Busy was_sent = absurd was_sent
 
   module _ (to : HardwareAddress) (p : PacketValue) (old new : D) (i i' : InnerValue) (m m' : Meta) where
-    pub straight_same : (sent : Sent) → LeavesStraight moves to p old i m sent new i' m' → IsSameHost i i'
-    straight_same sent (inl back) = same_where i i' back.1
-    straight_same sent (inr out) = went_same out.0 new i i' p.header (Whole to (numbered i p)) sent out.2
+    pub direct_same : (sent : Sent) → LeavesDirect moves to p old i m sent new i' m' → IsSameHost i i'
+    direct_same sent (inl back) = same_where i i' back.1
+    direct_same sent (inr out) = was_sent_same out.0 new i i' p.header (Whole to (numbered i p)) sent out.2
 
     -- the mark is that of a socket which waits for nobody, or stays
-    mark_by : (sent : Sent) → LeavesStraight moves to p old i m sent new i' m' → m' ≡ (if is_done sent then unmarked else m)
+    mark_by : (sent : Sent) → LeavesDirect moves to p old i m sent new i' m' → m' ≡ (if is_done sent then unmarked else m)
     mark_by sent (inl back) = back.3 ∙ sym (ap (λ (o : Sent). if is_done o then unmarked else m) back.2)
     mark_by sent (inr out) = out.3
 
     -- a socket's other mark changes nothing else of it
-    from_mark : (n : Meta) (sent : Sent) → LeavesStraight moves to p old i m sent new i' m' →
-        LeavesStraight moves to p old i n sent new i' (if is_done sent then unmarked else n)
+    from_mark : (n : Meta) (sent : Sent) → LeavesDirect moves to p old i m sent new i' m' →
+        LeavesDirect moves to p old i n sent new i' (if is_done sent then unmarked else n)
     from_mark n sent (inl back) = inl (back.0, back.1, back.2, ap (λ (o : Sent). if is_done o then unmarked else n) back.2)
     from_mark n sent (inr out) = inr (out.0, out.1, out.2, refl)
 
-    refused_stays : LeavesStraight moves to p old i m Outcome.Refused new i' m' →
-        (i' ≡ i) × (m' ≡ m) × LeavesStraight moves to p old i m Outcome.Refused new i m
+    refused_stays : LeavesDirect moves to p old i m Outcome.Refused new i' m' →
+        (i' ≡ i) × (m' ≡ m) × LeavesDirect moves to p old i m Outcome.Refused new i m
     refused_stays (inl back) = (back.1, back.3, inl (back.0, refl, refl, refl))
     refused_stays (inr out) = (out.2.1, out.3, inr (out.0, out.1, (out.2.0, refl), refl))
 
-    not_else : (sent : Sent) → (sent ≡ Outcome.Refused → ⊥) → ((mid : D) → Went moves mid i p.header (Whole to (numbered i p)) sent new i' → ⊥) →
-        LeavesStraight moves to p old i m sent new i' m' → ⊥
+    not_else : (sent : Sent) → (sent ≡ Outcome.Refused → ⊥) → ((mid : D) → WasSent moves mid i p.header (Whole to (numbered i p)) sent new i' → ⊥) →
+        LeavesDirect moves to p old i m sent new i' m' → ⊥
     not_else sent apart never (inl back) = apart back.2
     not_else sent apart never (inr out) = never out.0 out.2
 
-    pub leaves_if_known : (sent : Sent) → IsWellFormed p → GoesStraight i p.header to → LeavesStraight moves to p old i m sent new i' m' →
+    pub leaves_if_known : (sent : Sent) → IsWellFormed p → GoesDirect i p.header to → LeavesDirect moves to p old i m sent new i' m' →
         LeavesIfKnown moves p old i m (is_done sent) new i' m'
-    leaves_if_known Outcome.Gone formed straight leaves = (to, straight, leaves, formed)
-    leaves_if_known Outcome.Refused formed straight leaves =
-        let stays = refused_stays leaves in (stays.0, stays.1, inr (to, straight, stays.2, formed))
-    leaves_if_known Outcome.Dropped formed straight leaves = absurd (not_else Outcome.Dropped dropped_apart (λ mid went. went) leaves)
-    leaves_if_known Outcome.Waits formed straight leaves = absurd (not_else Outcome.Waits waits_apart (λ mid went. went) leaves)
-    leaves_if_known Outcome.Busy formed straight leaves = absurd (not_else Outcome.Busy busy_apart (λ mid went. went) leaves)
+    leaves_if_known Outcome.Gone formed direct leaves = (to, direct, leaves, formed)
+    leaves_if_known Outcome.Refused formed direct leaves =
+        let stays = refused_stays leaves in (stays.0, stays.1, inr (to, direct, stays.2, formed))
+    leaves_if_known Outcome.Dropped formed direct leaves = absurd (not_else Outcome.Dropped dropped_apart (λ mid was_sent. was_sent) leaves)
+    leaves_if_known Outcome.Waits formed direct leaves = absurd (not_else Outcome.Waits waits_apart (λ mid was_sent. was_sent) leaves)
+    leaves_if_known Outcome.Busy formed direct leaves = absurd (not_else Outcome.Busy busy_apart (λ mid was_sent. was_sent) leaves)
 
   module _ (s : Sender D) (m m' : Meta) (v : UdpValue) (q : DatagramToSend) (p : PacketValue) (new : D) (i' : InnerValue) where
     refused_at_once : MayLeave s m v q p
@@ -137,39 +137,39 @@ module _ {D : Type 0} (moves : D → Move → D → Type 0) where
 -- THE QUEUE WITH THIS DATAGRAM ALONE
 
 -- a queue with one packet, and what is left of it without that
-record HoldsOne {H : Type 0} (x : QueuedPacket H) (places room : ℕ) (q : Packets H) : Type 0 where
+record HoldsOne {H : Type 0} (x : QueuedPacket H) (slots room : ℕ) (q : Packets H) : Type 0 where
   held : contents q ≡ (x.header, x.bytes) ∷ []
-  of_places : q.places ≡ places
+  of_slots : q.positions ≡ slots
   of_room : q.room ≡ room
   rest : contents (without_first q) ≡ []
-  places_left : (without_first q).places ≡ places
+  slots_left : (without_first q).positions ≡ slots
   room_left : (without_first q).room ≡ room
 
 module _ {H : Type 0} where
-  none_held : (ps : List (QueuedPacket H)) (start places room : ℕ) → first_by ps ≡ None → contents (packets_in ps start places room) ≡ []
-  none_held [] start places room is = refl
-  none_held (p ∷ ps) start places room is = absurd cc
+  none_held : (ps : List (QueuedPacket H)) (start slots room : ℕ) → first_by ps ≡ None → contents (packets_in ps start slots room) ≡ []
+  none_held [] start slots room is = refl
+  none_held (p ∷ ps) start slots room is = absurd cc
 
   first_in : (ps : List (QueuedPacket H)) (x : QueuedPacket H) → first_by ps ≡ None → first_by (ps ++ x ∷ []) ≡ Some (x.header, x.bytes)
   first_in [] x is = refl
   first_in (p ∷ ps) x is = absurd cc
 
-  held_in : (ps : List (QueuedPacket H)) (x : QueuedPacket H) (start places room : ℕ) → first_by ps ≡ None →
-      contents (packets_in (ps ++ x ∷ []) start places room) ≡ (x.header, x.bytes) ∷ []
-  held_in [] x start places room is = refl
-  held_in (p ∷ ps) x start places room is = absurd cc
+  held_in : (ps : List (QueuedPacket H)) (x : QueuedPacket H) (start slots room : ℕ) → first_by ps ≡ None →
+      contents (packets_in (ps ++ x ∷ []) start slots room) ≡ (x.header, x.bytes) ∷ []
+  held_in [] x start slots room is = refl
+  held_in (p ∷ ps) x start slots room is = absurd cc
 
-  one_if : (b : Bool) (x : QueuedPacket H) (start at places room : ℕ) →
-      HoldsOne x places room (if b then packets_in (x ∷ []) start places room else packets_in (packet 0 x.header x.bytes ∷ []) at places room)
-  one_if true x start at places room =
-      record { held = refl; of_places = refl; of_room = refl; rest = refl; places_left = refl; room_left = refl }
-  one_if false x start at places room =
-      record { held = refl; of_places = refl; of_room = refl; rest = refl; places_left = refl; room_left = refl }
+  one_if : (b : Bool) (x : QueuedPacket H) (start at slots room : ℕ) →
+      HoldsOne x slots room (if b then packets_in (x ∷ []) start slots room else packets_in (packet 0 x.header x.bytes ∷ []) at slots room)
+  one_if true x start at slots room =
+      record { held = refl; of_slots = refl; of_room = refl; rest = refl; slots_left = refl; room_left = refl }
+  one_if false x start at slots room =
+      record { held = refl; of_slots = refl; of_room = refl; rest = refl; slots_left = refl; room_left = refl }
 
-  one_unpadded : (ps : List (QueuedPacket H)) (x : QueuedPacket H) (start places room : ℕ) → first_by ps ≡ None →
-      HoldsOne x places room (unpadded (packets_in (ps ++ x ∷ []) start places room))
-  one_unpadded [] x start places room is = one_if (x.padding == 0) x start ((start + x.padding) % room) places room
-  one_unpadded (p ∷ ps) x start places room is = absurd cc
+  one_unpadded : (ps : List (QueuedPacket H)) (x : QueuedPacket H) (start slots room : ℕ) → first_by ps ≡ None →
+      HoldsOne x slots room (unpadded (packets_in (ps ++ x ∷ []) start slots room))
+  one_unpadded [] x start slots room is = one_if (x.padding == 0) x start ((start + x.padding) % room) slots room
+  one_unpadded (p ∷ ps) x start slots room is = absurd cc
 
 -- THE TURN
 
@@ -211,33 +211,33 @@ module _ {D : Type 0} (s : Sender D) (m : Meta) (v : UdpValue) (q : DatagramToSe
       subst (λ (f : Option (UdpMetadata × List ℕ)). OffersFirst (TakesDatagram cx) (queued v q) f (Offer.Packet false) (offering v q p)) (sym first_is)
       (only, refl, refl)
 
-  one : HoldsOne (entry v q) v.queued.places v.queued.room (offering v q p).queued
-  one = one_unpadded v.queued.packets (entry v q) (start_of v.queued) v.queued.places v.queued.room alone
+  one : HoldsOne (entry v q) v.queued.positions v.queued.room (offering v q p).queued
+  one = one_unpadded v.queued.packets (entry v q) (start_of v.queued) v.queued.positions v.queued.room alone
 
-  same_gone : IsSameButForPlaces v (Datagrams.settled true (offering v q p))
+  same_gone : IsSameButForSlots v (Datagrams.settled true (offering v q p))
   same_gone = record {
     received = refl;
     settings = refl;
     queued =
-        one.rest ∙ sym (none_held v.queued.packets v.queued.start v.queued.places v.queued.room alone);
-    places = one.places_left;
+        one.rest ∙ sym (none_held v.queued.packets v.queued.start v.queued.positions v.queued.room alone);
+    positions = one.slots_left;
     room = one.room_left;
   }
 
-  same_refused : IsSameButForPlaces (send_after v q.0 q.1) (Datagrams.settled false (offering v q p))
-  same_refused = subst (λ (w : UdpValue). IsSameButForPlaces w (Datagrams.settled false (offering v q p))) (sym taken_is) (record {
+  same_refused : IsSameButForSlots (send_after v q.0 q.1) (Datagrams.settled false (offering v q p))
+  same_refused = subst (λ (w : UdpValue). IsSameButForSlots w (Datagrams.settled false (offering v q p))) (sym taken_is) (record {
     received = refl;
     settings = refl;
     queued =
-        one.held ∙ sym (held_in v.queued.packets (entry v q) (start_of v.queued) v.queued.places v.queued.room alone);
-    places = one.of_places;
+        one.held ∙ sym (held_in v.queued.packets (entry v q) (start_of v.queued) v.queued.positions v.queued.room alone);
+    positions = one.of_slots;
     room = one.of_room;
   })
 
 module _ {D : Type 0} (moves : D → Move → D → Type 0) (turn : Option IpAddress) (s : Sender D) (m m' : Meta) (v : UdpValue) (q : DatagramToSend)
     (new : D) (i' : InnerValue) where
   abbrev heard : Meta
-  heard = freed m (is_heard s.inner m)
+  heard = freed m (passes_filter s.inner m)
 
   module _ (p : PacketValue) (may : MayLeave s m v q p) where
     abbrev offered_item : Item Socket
@@ -254,7 +254,7 @@ module _ {D : Type 0} (moves : D → Move → D → Type 0) (turn : Option IpAdd
         (left_item sent)) (sym may.awake) (Offer.Packet false, Kind.Udp (offering v q p), offers s m v q p may, sends) where
           leaves : HasLeft moves turn s heard p sent (sender new i' s.left) (if is_done sent then unmarked else heard)
           leaves =
-              straight_left moves turn s heard (if is_done sent then unmarked else heard) p direct.0 sent new i' direct.1 direct.3
+              direct_left moves turn s heard (if is_done sent then unmarked else heard) p direct.0 sent new i' direct.1 direct.3
               (from_mark moves direct.0 p s.device new s.inner i' m m' heard sent direct.2)
 
           sends : Sends moves turn s offered_item false (turned_by sent false) (sender new i' s.left) (left_item sent)
@@ -264,7 +264,7 @@ module _ {D : Type 0} (moves : D → Move → D → Type 0) (turn : Option IpAdd
 
   pub left_turns : LeavesAtOnce moves s m v q Outcome.Gone new i' m'
       → (v' : UdpValue) × Turns moves turn s (udp_item m (send_after v q.0 q.1)) (Turn.Next true) (sender new i' s.left) (udp_item m' v')
-      × IsSameButForPlaces v v'
+      × IsSameButForSlots v v'
   left_turns left =
       let p = left.0 in
       let may = left.1 in
@@ -282,7 +282,7 @@ module _ {D : Type 0} (moves : D → Move → D → Type 0) (turn : Option IpAdd
   pub refused_turns : LeavesAtOnce moves s m v q Outcome.Refused new i' m'
       → (v' : UdpValue)
       × Turns moves turn s (udp_item m (send_after v q.0 q.1)) (Turn.Stop false) (sender new i' s.left) (udp_item heard v')
-      × IsSameButForPlaces (send_after v q.0 q.1) v'
+      × IsSameButForSlots (send_after v q.0 q.1) v'
   refused_turns left =
       let p = left.0 in
       let may = left.1 in
@@ -306,21 +306,21 @@ some_same : {A : Type 0} (x y : A) → Some x ≡ Some y → x ≡ y
 some_same x y is = cc
 
 module _ {D : Type 0} (moves : D → Move → D → Type 0) (turn : Option IpAddress) (s s' : Sender D) (m : Meta) (v : UdpValue) (q : DatagramToSend)
-    (p : PacketValue) (to : HardwareAddress) (turned : Turned) (item' : Item Socket) (may : MayLeave s m v q p)
-    (straight : GoesStraight s.inner p.header to) where
+    (p : PacketValue) (to : HardwareAddress) (turned : Served) (item' : Item Socket) (may : MayLeave s m v q p)
+    (direct : GoesDirect s.inner p.header to) where
   abbrev freed_mark : Meta
-  freed_mark = freed m (is_heard s.inner m)
+  freed_mark = freed m (passes_filter s.inner m)
 
   abbrev mark_after : Sent → Meta
   mark_after sent = if is_done sent then unmarked else m
 
   abbrev LeftSo : Sent → Type 0
-  LeftSo sent = LeavesStraight moves to p s.device s.inner m sent s'.device s'.inner (mark_after sent)
+  LeftSo sent = LeavesDirect moves to p s.device s.inner m sent s'.device s'.inner (mark_after sent)
 
   held_none : held turn freed_mark s.inner (destination_of p.header) (plan_at s p) ≡ None
-  held_none = ap (held turn freed_mark s.inner (destination_of p.header)) (straight.plan (is_some s.left))
+  held_none = ap (held turn freed_mark s.inner (destination_of p.header)) (direct.plan (is_some s.left))
 
-  rests_back : (sent : Sent) (given : Bool) → moves s.device (Allowed s.inner.moment given) s'.device → s'.inner ≡ s.inner → s'.left ≡ s.left →
+  rests_back : (sent : Sent) (given : Bool) → moves s.device (Allowed s.inner.instant given) s'.device → s'.inner ≡ s.inner → s'.left ≡ s.left →
       outcome_by given (held turn freed_mark s.inner (destination_of p.header) (plan_at s p)) ≡ Some sent → LeftSo sent × (s'.left ≡ s.left)
   rests_back sent true moved inner left is = absurd (none_some sent (sym held_none ∙ is))
   rests_back sent false moved inner left is =
@@ -330,11 +330,11 @@ module _ {D : Type 0} (moves : D → Move → D → Type 0) (turn : Option IpAdd
   leaves_back : (sent : Sent) → Leaves moves turn s freed_mark p sent s' → LeftSo sent × (s'.left ≡ s.left)
   leaves_back sent (inl rests) = rests_back sent rests.0 rests.1 rests.2 rests.3 rests.4
   leaves_back sent (inr admits) =
-      let went : GoesOut moves admits.0 s.inner s.left p (Way.Go to) sent s'.device s'.inner s'.left =
-      subst (λ (plan : Plan). GoesOut moves admits.0 s.inner s.left p plan sent s'.device s'.inner s'.left) (straight.plan (is_some s.left)) admits.2 in
-      (inr (admits.0, admits.1, went.0, refl), went.1)
+      let was_sent : IsTransmitted moves admits.0 s.inner s.left p (Way.Go to) sent s'.device s'.inner s'.left =
+      subst (λ (plan : Plan). IsTransmitted moves admits.0 s.inner s.left p plan sent s'.device s'.inner s'.left) (direct.plan (is_some s.left)) admits.2 in
+      (inr (admits.0, admits.1, was_sent.0, refl), was_sent.1)
 
-  by_done : (done : Bool) → IsSameButForPlaces (if done then v else send_after v q.0 q.1) (Datagrams.settled done (offering v q p))
+  by_done : (done : Bool) → IsSameButForSlots (if done then v else send_after v q.0 q.1) (Datagrams.settled done (offering v q p))
   by_done true = same_gone s m v q p may
   by_done false = same_refused s m v q p may
 
@@ -342,7 +342,7 @@ module _ {D : Type 0} (moves : D → Move → D → Type 0) (turn : Option IpAdd
       LeavesInTurn moves s m v q p to turned s' item'
   sends_back sends =
       let same : sends.0 ≡ p =
-      sends.1 ∙ sourced_stays s.inner p (or_true (is_raw p.payload) (comes_from_here s.inner p.header) straight.here) in
+      sends.1 ∙ sourced_stays s.inner p (or_true (is_raw p.payload) (comes_from_here s.inner p.header) direct.here) in
       let so : SendsAs moves turn p s (udp_item freed_mark (offering v q p)) false turned s' item' =
       subst (λ (l : PacketValue). SendsAs moves turn l s (udp_item freed_mark (offering v q p)) false turned s' item') same sends.3 in
       let back = leaves_back so.0 so.1 in
@@ -390,7 +390,7 @@ module _ {D : Type 0} (moves : D → Move → D → Type 0) (turn : Option IpAdd
       kind_back asks.0 asks.1 asks.2 asks.3
 
 pub turns_back : {D : Type 0} (moves : D → Move → D → Type 0) (turn : Option IpAddress) (s s' : Sender D) (m : Meta) (v : UdpValue) (q : DatagramToSend)
-    (p : PacketValue) (to : HardwareAddress) (turned : Turned) (item' : Item Socket)
-    → MayLeave s m v q p → GoesStraight s.inner p.header to
+    (p : PacketValue) (to : HardwareAddress) (turned : Served) (item' : Item Socket)
+    → MayLeave s m v q p → GoesDirect s.inner p.header to
     → Turns moves turn s (udp_item m (send_after v q.0 q.1)) turned s' item' → LeavesInTurn moves s m v q p to turned s' item'
-turns_back moves turn s s' m v q p to turned item' may straight turns = turns_in moves turn s s' m v q p to turned item' may straight turns
+turns_back moves turn s s' m v q p to turned item' may direct turns = turns_in moves turn s s' m v q p to turned item' may direct turns

@@ -1,65 +1,62 @@
--- A source that is chosen is an own address, where the packet leaves at all.
-use Rattle.std.proofs.Common.{◌≡◌, ℕ, zero, suc, Bool, true, false, if◌then◌else◌, List, [], ◌∷◌, ◌++◌, Option, None, Some, refl, ap, ◌∙◌, sym}
+-- A source that is chosen is a local address, where the packet leaves at all.
+use Rattle.std.proofs.Common.{◌≡◌, ℕ, Bool, true, false, if◌then◌else◌, List, [], ◌∷◌, ◌++◌, Option, None, Some, refl, ap, ◌∙◌, sym}
 use Rattle.std.proofs.lemmas.Slice.Eq.{bytes_eq-Decides}
-use Rattle.std.specs.Prelude.{◌&&◌, ◌||◌, not, replicate, find, position, slice_get}
+use Rattle.std.specs.Prelude.{◌&&◌, ◌||◌, not, replicate, find, position}
 use Rattle.std.specs.List.{list_any, filter_map, cons_option}
 use Rattle.std.specs.Str.{bytes_eq}
-use Rattle.ip_wire.specs.AddressTests.{is_in_block, is_loopback, is_loopback_v4, is_loopback_v6, is_multicast, is_unspecified}
+use Rattle.ip_wire.specs.AddressTests.{is_in_cidr, is_loopback, is_loopback_v4, is_loopback_v6, is_multicast, is_unspecified}
 use Rattle.ip_wire.specs.Ip.{source_of, destination_of}
 use Rattle.ip_wire.specs.IpAddress.{IpAddress}
 use Rattle.ip_wire.specs.IpAddress.TheVariants as Address
 use Rattle.ip_wire.specs.IpCidr.{IpCidr}
-use Rattle.ip_wire.specs.IpCidr.TheVariants as Block
+use Rattle.ip_wire.specs.IpCidr.TheVariants as Tcb
 use Rattle.ip_wire.specs.IpRepr.{IpRepr}
 use Rattle.ip_wire.specs.Ipv4Address.{Ipv4Address}
 use Rattle.ip_wire.specs.Ipv6Address.{Ipv6Address}
 use Rattle.ip_wire.specs.Ipv6Cidr.{Ipv6Cidr}
-use Rattle.interface_ingress.specs.Packet.{PacketValue}
-use Rattle.interface_ingress.proofs.OwnSources.{clash, or_first, or_later, at_some}
-use Rattle.interface_tables.specs.Best.{at_place, first_that, is_unbeaten}
-use Rattle.interface_tables.specs.Inner.{InnerValue, is_address_of, is_own, is_loopback_of, is_foreign_loopback, is_local_broadcast, may_come_from}
-use Rattle.interface_tables.specs.Source.{source_for, source_by, source_v4, source_v6, in_v4, v4_address, v6_address, or_else, is_v4, is_v6, first_v6}
-use Rattle.interface_tables.specs.Source.{best_source, better_for, candidate, may_send, address_or, localhost}
-use Rattle.interface_egress.specs.Plan.{never_leaves}
-use Rattle.interface.specs.Turn.{is_raw, keeps_source, with_source, sourced}
+use Rattle.iface_ingress.specs.Packet.{PacketValue}
+use Rattle.iface_ingress.proofs.LocalSources.{clash, or_first, or_later, at_some}
+use Rattle.iface_tables.specs.Best.{at_index, is_unbeaten}
+use Rattle.iface_tables.specs.Inner.{InnerValue, is_address_of, is_local, is_loopback_of, is_foreign_loopback, is_local_broadcast, may_be_source}
+use Rattle.iface_tables.specs.Source.{source_for, source_by, source_v4, source_v6, in_v4, v4_address, v6_address, or_else, is_v4, is_abroad, first_abroad}
+use Rattle.iface_tables.specs.Source.{best_source, better_for, candidate, may_send, address_or, localhost}
+use Rattle.iface_egress.specs.Plan.{never_leaves}
+use Rattle.interface.specs.Serve.{is_raw, keeps_source, with_source, sourced}
 use Rattle.interface.proofs.Sourced.{sourced_same, sourced_chosen, sourced_none}
 
 -- IPv4
 
 of_either : (blocks : List IpCidr) (x : Option ℕ) (y : Option ℕ) (f : Ipv4Address)
-    → v4_address (or_else (at_place x blocks) (at_place y blocks)) ≡ Some f → list_any (is_address_of (Address.Ipv4 f)) blocks ≡ true
-of_either blocks x y f is = by (at_place x blocks) (λ g found. at_some blocks x g found) is where
+    → v4_address (or_else (at_index x blocks) (at_index y blocks)) ≡ Some f → list_any (is_address_of (Address.Ipv4 f)) blocks ≡ true
+of_either blocks x y f is = by (at_index x blocks) (λ g found. at_some blocks x g found) is where
   by : (o : Option IpCidr) → ((g : Ipv4Address) → v4_address o ≡ Some g → list_any (is_address_of (Address.Ipv4 g)) blocks ≡ true)
-      → v4_address (or_else o (at_place y blocks)) ≡ Some f → list_any (is_address_of (Address.Ipv4 f)) blocks ≡ true
+      → v4_address (or_else o (at_index y blocks)) ≡ Some f → list_any (is_address_of (Address.Ipv4 f)) blocks ≡ true
   by None first is = at_some blocks y f is
   by (Some b) first is = first f is
 
 chosen_v4 : (addresses : List IpCidr) (to f : Ipv4Address) → source_v4 addresses to ≡ Some f → list_any (is_address_of (Address.Ipv4 f)) addresses ≡ true
 chosen_v4 addresses to f is =
-    of_either addresses (position (λ b. is_in_block b (Address.Ipv4 to)) addresses) (position is_v4 addresses) f is
+    of_either addresses (position (λ b. is_in_cidr b (Address.Ipv4 to)) addresses) (position is_v4 addresses) f is
 
 -- IPv6
 
-at_any : (blocks : List IpCidr) (n : ℕ) (f : Ipv6Address) → v6_address (slice_get blocks n) ≡ Some f → list_any (is_address_of (Address.Ipv6 f)) blocks ≡ true
-at_any [] n f is = absurd (cc is)
-at_any (Block.Ipv6 b ∷ blocks) zero f is =
-    or_first (bytes_eq b.address.0 f.0) (list_any (is_address_of (Address.Ipv6 f)) blocks)
-    ((bytes_eq-Decides b.address.0 f.0).1 (let same : b.address ≡ f = cc is in ap (λ (a : Ipv6Address). a.0) same))
-at_any (Block.Ipv4 b ∷ blocks) zero f is = absurd (cc is)
-at_any (b ∷ blocks) (suc n) f is =
-    or_later (is_address_of (Address.Ipv6 f) b) (list_any (is_address_of (Address.Ipv6 f)) blocks) (at_any blocks n f is)
-
-first_own : (blocks : List IpCidr) (f : Ipv6Address) → first_v6 blocks ≡ Some f → list_any (is_address_of (Address.Ipv6 f)) blocks ≡ true
-first_own blocks f is = by (position is_v6 blocks) is where
-  by : (place : Option ℕ) → v6_address (at_place place blocks) ≡ Some f → list_any (is_address_of (Address.Ipv6 f)) blocks ≡ true
-  by None is = absurd (cc is)
-  by (Some n) is = at_any blocks n f is
+first_local : (blocks : List IpCidr) (f : Ipv6Address) → first_abroad blocks ≡ Some f → list_any (is_address_of (Address.Ipv6 f)) blocks ≡ true
+first_local [] f is = absurd (cc is)
+first_local (Tcb.Ipv4 b ∷ blocks) f is = first_local blocks f is
+first_local (Tcb.Ipv6 b ∷ blocks) f is = by (not (is_loopback_v6 b.address)) is (first_local blocks f) where
+  by : (here : Bool) → v6_address (if here then Some (Tcb.Ipv6 b) else find is_abroad blocks) ≡ Some f
+      → (first_abroad blocks ≡ Some f → list_any (is_address_of (Address.Ipv6 f)) blocks ≡ true)
+      → list_any (is_address_of (Address.Ipv6 f)) (Tcb.Ipv6 b ∷ blocks) ≡ true
+  by true is later =
+      or_first (bytes_eq b.address.0 f.0) (list_any (is_address_of (Address.Ipv6 f)) blocks)
+      ((bytes_eq-Decides b.address.0 f.0).1 (let same : b.address ≡ f = cc is in ap (λ (a : Ipv6Address). a.0) same))
+  by false is later = or_later (bytes_eq b.address.0 f.0) (list_any (is_address_of (Address.Ipv6 f)) blocks) (later is)
 
 -- of a first candidate, or of the rest
 found_here : (test : Ipv6Cidr → Bool) (c b : Ipv6Cidr) (rest : List Ipv6Cidr) (blocks : List IpCidr) (passes : Bool)
     → (find test rest ≡ Some b → list_any (is_address_of (Address.Ipv6 b.address)) blocks ≡ true)
     → (if passes then Some c else find test rest) ≡ Some b
-    → list_any (is_address_of (Address.Ipv6 b.address)) (Block.Ipv6 c ∷ blocks) ≡ true
+    → list_any (is_address_of (Address.Ipv6 b.address)) (Tcb.Ipv6 c ∷ blocks) ≡ true
 found_here test c b rest blocks true later is =
     or_first (bytes_eq c.address.0 b.address.0) (list_any (is_address_of (Address.Ipv6 b.address)) blocks)
     ((bytes_eq-Decides c.address.0 b.address.0).1 (let same : c ≡ b = cc is in ap (λ (x : Ipv6Cidr). x.address.0) same))
@@ -69,18 +66,18 @@ found_here test c b rest blocks false later is =
 found_first : (test : Ipv6Cidr → Bool) (c b : Ipv6Cidr) (rest : List Ipv6Cidr) (blocks : List IpCidr) (may : Bool)
     → (find test rest ≡ Some b → list_any (is_address_of (Address.Ipv6 b.address)) blocks ≡ true)
     → find test (cons_option (if may then Some c else None) rest) ≡ Some b
-    → list_any (is_address_of (Address.Ipv6 b.address)) (Block.Ipv6 c ∷ blocks) ≡ true
+    → list_any (is_address_of (Address.Ipv6 b.address)) (Tcb.Ipv6 c ∷ blocks) ≡ true
 found_first test c b rest blocks true later is = found_here test c b rest blocks (test c) later is
 found_first test c b rest blocks false later is =
     or_later (bytes_eq c.address.0 b.address.0) (list_any (is_address_of (Address.Ipv6 b.address)) blocks) (later is)
 
--- what a search among the candidates finds is an own address
-found_own : (test : Ipv6Cidr → Bool) (to : Ipv6Address) (blocks : List IpCidr) (b : Ipv6Cidr)
+-- what a search among the candidates finds is a local address
+found_local : (test : Ipv6Cidr → Bool) (to : Ipv6Address) (blocks : List IpCidr) (b : Ipv6Cidr)
     → find test (filter_map (candidate to) blocks) ≡ Some b → list_any (is_address_of (Address.Ipv6 b.address)) blocks ≡ true
-found_own test to [] b is = absurd (cc is)
-found_own test to (Block.Ipv4 c ∷ blocks) b is = found_own test to blocks b is
-found_own test to (Block.Ipv6 c ∷ blocks) b is =
-    found_first test c b (filter_map (candidate to) blocks) blocks (may_send to c) (found_own test to blocks b) is
+found_local test to [] b is = absurd (cc is)
+found_local test to (Tcb.Ipv4 c ∷ blocks) b is = found_local test to blocks b is
+found_local test to (Tcb.Ipv6 c ∷ blocks) b is =
+    found_first test c b (filter_map (candidate to) blocks) blocks (may_send to c) (found_local test to blocks b) is
 
 -- a host with an IPv6 loopback address has ::1
 no_four : (a : Bool) → (a && false) ≡ true → ⊥
@@ -98,10 +95,10 @@ or_cases false b is first later = later is
 has_localhost : (to : Ipv6Address) (blocks : List IpCidr) → list_any (is_loopback_of (Address.Ipv6 to)) blocks ≡ true
     → list_any (is_address_of (Address.Ipv6 localhost)) blocks ≡ true
 has_localhost to [] is = clash false is refl
-has_localhost to (Block.Ipv4 b ∷ blocks) is =
+has_localhost to (Tcb.Ipv4 b ∷ blocks) is =
     or_cases (is_loopback_v4 b.address && false) (list_any (is_loopback_of (Address.Ipv6 to)) blocks) is
     (λ first. absurd (no_four (is_loopback_v4 b.address) first)) (has_localhost to blocks)
-has_localhost to (Block.Ipv6 b ∷ blocks) is =
+has_localhost to (Tcb.Ipv6 b ∷ blocks) is =
     or_cases (is_loopback_v6 b.address && true) (list_any (is_loopback_of (Address.Ipv6 to)) blocks) is
     (λ first. or_first (bytes_eq b.address.0 localhost.0) (list_any (is_address_of (Address.Ipv6 localhost)) blocks)
     (and_first (is_loopback_v6 b.address) true first))
@@ -121,7 +118,7 @@ module _ (i : InnerValue) (to : Ipv6Address) where
   chosen_v6 : (loops : Bool) (best : Option Ipv6Cidr) (first : Option Ipv6Address) → is_loopback_v6 to ≡ loops
       → ((b : Ipv6Cidr) → best ≡ Some b → list_any (is_address_of (Address.Ipv6 b.address)) i.addresses ≡ true)
       → ((f : Ipv6Address) → first ≡ Some f → list_any (is_address_of (Address.Ipv6 f)) i.addresses ≡ true)
-      → may_come_from i (Address.Ipv6 (if loops then localhost else address_or best first)) (Address.Ipv6 to) ≡ true
+      → may_be_source i (Address.Ipv6 (if loops then localhost else address_or best first)) (Address.Ipv6 to) ≡ true
       → is_foreign_loopback i (Address.Ipv6 to) ≡ false
       → list_any (is_address_of (Address.Ipv6 (if loops then localhost else address_or best first))) i.addresses ≡ true
   chosen_v6 true best first loops of_best of_first may foreign =
@@ -134,10 +131,10 @@ module _ (i : InnerValue) (to : Ipv6Address) where
 
 -- BOTH
 
-pub chosen_own : (i : InnerValue) (to a : IpAddress) → source_for i.addresses to ≡ Some a → may_come_from i a to ≡ true
-    → is_foreign_loopback i to ≡ false → is_own i a ≡ true
-chosen_own i to a is may foreign = or_later i.any_ip (list_any (is_address_of a) i.addresses) (by to a may foreign (is_unspecified to) is) where
-  by : (to a : IpAddress) → may_come_from i a to ≡ true → is_foreign_loopback i to ≡ false → (none : Bool)
+pub chosen_local : (i : InnerValue) (to a : IpAddress) → source_for i.addresses to ≡ Some a → may_be_source i a to ≡ true
+    → is_foreign_loopback i to ≡ false → is_local i a ≡ true
+chosen_local i to a is may foreign = or_later i.any_ip (list_any (is_address_of a) i.addresses) (by to a may foreign (is_unspecified to) is) where
+  by : (to a : IpAddress) → may_be_source i a to ≡ true → is_foreign_loopback i to ≡ false → (none : Bool)
       → (if none then None else source_by i.addresses to) ≡ Some a → list_any (is_address_of a) i.addresses ≡ true
   by to a may foreign true is = absurd (cc is)
   by (Address.Ipv4 d) (Address.Ipv4 f) may foreign false is = four (source_v4 i.addresses d) refl is where
@@ -152,10 +149,10 @@ chosen_own i to a is may foreign = or_later i.any_ip (list_any (is_address_of a)
   by (Address.Ipv6 d) (Address.Ipv6 f) may foreign false is =
       let same : source_v6 i.addresses d ≡ f = cc is in
       ap (λ (x : Ipv6Address). list_any (is_address_of (Address.Ipv6 x)) i.addresses) (sym same)
-      ∙ chosen_v6 i d (is_loopback_v6 d) (best_source i.addresses d) (first_v6 i.addresses) refl
-      (λ b found. found_own (is_unbeaten (better_for d) (filter_map (candidate d) i.addresses)) d i.addresses b found)
-      (first_own i.addresses)
-      (ap (λ (x : Ipv6Address). may_come_from i (Address.Ipv6 x) (Address.Ipv6 d)) same ∙ may) foreign
+      ∙ chosen_v6 i d (is_loopback_v6 d) (best_source i.addresses d) (first_abroad i.addresses) refl
+      (λ b found. found_local (is_unbeaten (better_for d) (filter_map (candidate d) i.addresses)) d i.addresses b found)
+      (first_local i.addresses)
+      (ap (λ (x : Ipv6Address). may_be_source i (Address.Ipv6 x) (Address.Ipv6 d)) same ∙ may) foreign
 
 -- A PACKET FROM ANOTHER SOURCE THAN ITS OWN
 
@@ -169,29 +166,29 @@ raw_or : (raw may : Bool) → (raw || may) ≡ false → may ≡ false
 raw_or true may is = clash true refl is
 raw_or false may is = is
 
-pub packet_own : (i : InnerValue) (p : PacketValue) → keeps_source i p ≡ false → never_leaves i (sourced i p).header ≡ false
-    → is_own i (source_of (sourced i p).header) ≡ true
-packet_own i p keeps leaves = by (source_for i.addresses to) refl where
+pub packet_local : (i : InnerValue) (p : PacketValue) → keeps_source i p ≡ false → never_leaves i (sourced i p).header ≡ false
+    → is_local i (source_of (sourced i p).header) ≡ true
+packet_local i p keeps leaves = by (source_for i.addresses to) refl where
   to : IpAddress
   to = destination_of p.header
 
   h : IpRepr
   h = (sourced i p).header
 
-  parts : (is_foreign_loopback i (destination_of h) ≡ false) × (may_come_from i (source_of h) (destination_of h) ≡ true)
+  parts : (is_foreign_loopback i (destination_of h) ≡ false) × (may_be_source i (source_of h) (destination_of h) ≡ true)
   parts = leaves_parts (is_unspecified (destination_of h)) (is_foreign_loopback i (destination_of h))
-      (may_come_from i (source_of h) (destination_of h)) leaves
+      (may_be_source i (source_of h) (destination_of h)) leaves
 
-  by : (o : Option IpAddress) → source_for i.addresses to ≡ o → is_own i (source_of h) ≡ true
+  by : (o : Option IpAddress) → source_for i.addresses to ≡ o → is_local i (source_of h) ≡ true
   by None is =
       let same : sourced i p ≡ p = sourced_none i p is in
-      clash (may_come_from i (source_of p.header) to)
-      (ap (λ (q : PacketValue). may_come_from i (source_of q.header) (destination_of q.header)) (sym same) ∙ parts.1)
-      (raw_or (is_raw p.payload) (may_come_from i (source_of p.header) to) keeps)
+      clash (may_be_source i (source_of p.header) to)
+      (ap (λ (q : PacketValue). may_be_source i (source_of q.header) (destination_of q.header)) (sym same) ∙ parts.1)
+      (raw_or (is_raw p.payload) (may_be_source i (source_of p.header) to) keeps)
   by (Some a) is =
       let from : source_of h ≡ a = sourced_chosen i p a keeps is in
       let there : destination_of h ≡ to = (sourced_same i p).0 in
-      ap (is_own i) from
-      ∙ chosen_own i to a is
-      (ap (λ (x : IpAddress). may_come_from i x to) (sym from) ∙ ap (may_come_from i (source_of h)) (sym there) ∙ parts.1)
+      ap (is_local i) from
+      ∙ chosen_local i to a is
+      (ap (λ (x : IpAddress). may_be_source i x to) (sym from) ∙ ap (may_be_source i (source_of h)) (sym there) ∙ parts.1)
       (ap (is_foreign_loopback i) (sym there) ∙ parts.0)

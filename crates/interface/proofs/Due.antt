@@ -3,28 +3,28 @@ use Rattle.std.proofs.Common.{◌≡◌, Bool, true, false, not, ◌&&◌, if◌
 use Rattle.std.proofs.Common.{ap, ◌∙◌, subst, arith}
 use Rattle.std.specs.List.{fold}
 use Rattle.std.proofs.lemmas.List.Folds.{fold-map}
-use Rattle.interface_ingress.specs.Polling.{IsBefore}
-use Rattle.interface_ingress.specs.PollAt.{PollAt}
-use Rattle.interface_ingress.specs.PollAt.TheVariants as At
-use Rattle.interface_tables.specs.Inner.{InnerValue}
-use Rattle.interface_egress.specs.Meta.{waits_by, poll_by}
-use Rattle.interface_egress.specs.declared.socket_meta.Waiting.{Waiting}
-use Rattle.interface_egress.specs.declared.socket_set.SocketStorage.{SocketStorage}
-use Rattle.interface_ingress.specs.Socket.{Socket}
-use Rattle.interface.specs.Instant.{instant_of, earlier, place_instant, soonest}
+use Rattle.iface_ingress.specs.Polling.{IsBefore}
+use Rattle.iface_ingress.specs.PollAt.{PollAt}
+use Rattle.iface_ingress.specs.PollAt.TheVariants as At
+use Rattle.iface_tables.specs.Inner.{InnerValue}
+use Rattle.iface_egress.specs.Meta.{waits_by, poll_by}
+use Rattle.iface_egress.specs.declared.socket_meta.Waiting.{Waiting}
+use Rattle.iface_egress.specs.declared.socket_set.SocketStorage.{SocketStorage}
+use Rattle.iface_ingress.specs.Socket.{Socket}
+use Rattle.interface.specs.Instant.{instant_of, earlier, slot_instant, soonest}
 use Rattle.interface.specs.QuietStep.{IsEarlier}
 
 -- ONE SOCKET
 
-not_both : (t moment : ℤ) → t <ℤ moment → int_lt t moment ≡ false → ⊥
-not_both t moment before late = grind (arith)
+not_both : (t instant : ℤ) → t <ℤ instant → int_lt t instant ≡ false → ⊥
+not_both t instant before late = grind (arith)
 
 pub before_due : (t : ℤ) → pos 0 ≤ℤ t → (p : PollAt) → IsEarlier t (instant_of p) → IsBefore t p
-before_due t moment At.Now early = absurd (negative t moment early) where
+before_due t instant At.Now early = absurd (negative t instant early) where
   negative : (t : ℤ) → pos 0 ≤ℤ t → t <ℤ pos 0 → ⊥
   negative t low high = grind (arith)
-before_due t moment (At.Time m) early = early
-before_due t moment At.Ingress early = tt
+before_due t instant (At.Time m) early = early
+before_due t instant At.Ingress early = tt
 
 -- a marked socket that doesn't wait any more, and whose waiting hadn't ended before, is due when it says so itself
 module _ (t asked_at : ℤ) (p : PollAt) where
@@ -66,24 +66,24 @@ both_early t (Some a) None early = (early, tt)
 both_early t (Some a) (Some b) early = both_later t a b (int_lt b a) refl early
 
 module _ (t : ℤ) (asked : InnerValue) where
-  -- every place is later
+  -- every slot is later
   abbrev pub AllLater : List (SocketStorage Socket) → Type 0
   AllLater [] = Unit {0}
-  AllLater (p ∷ ps) = IsEarlier t (place_instant asked p) × AllLater ps
+  AllLater (p ∷ ps) = IsEarlier t (slot_instant asked p) × AllLater ps
 
   later_from : (best : Option ℤ) (ps : List (SocketStorage Socket))
-      → IsEarlier t (fold (λ b p. earlier b (place_instant asked p)) best ps) → IsEarlier t best × AllLater ps
+      → IsEarlier t (fold (λ b p. earlier b (slot_instant asked p)) best ps) → IsEarlier t best × AllLater ps
   later_from best [] early = (early, tt)
   later_from best (p ∷ ps) early =
-      let rest = later_from (earlier best (place_instant asked p)) ps early in
-      let both = both_early t best (place_instant asked p) rest.0 in
+      let rest = later_from (earlier best (slot_instant asked p)) ps early in
+      let both = both_early t best (slot_instant asked p) rest.0 in
       (both.0, (both.1, rest.1))
 
   pub all_later : (ps : List (SocketStorage Socket)) → IsEarlier t (soonest asked ps) → AllLater ps
   all_later ps early = (later_from None ps early).1
 
--- the soonest is known by the instants of the places
-pub soonest_of : (asked : InnerValue) (ps qs : List (SocketStorage Socket)) → map (place_instant asked) ps ≡ map (place_instant asked) qs →
+-- the soonest is known by the instants of the slots
+pub soonest_of : (asked : InnerValue) (ps qs : List (SocketStorage Socket)) → map (slot_instant asked) ps ≡ map (slot_instant asked) qs →
     soonest asked ps ≡ soonest asked qs
 soonest_of asked ps qs same =
-    sym (fold-map earlier (place_instant asked) None ps) ∙ ap (fold earlier None) same ∙ fold-map earlier (place_instant asked) None qs
+    sym (fold-map earlier (slot_instant asked) None ps) ∙ ap (fold earlier None) same ∙ fold-map earlier (slot_instant asked) None qs

@@ -1,39 +1,39 @@
--- A count that is said of a host's addresses and tables alone, and that each packet's way out raises by one at most.
+-- A count that is said of a host's addresses and tables alone, and that each packet's egress path raises by one at most.
 use Rattle.std.proofs.Common.{◌≡◌, ℕ, ◌+◌, ◌≤◌, arith, Bool, true, false, inl, inr, Option, Some, None, is_some, sym, ap, subst}
 use Rattle.std.specs.Prelude.{ℤ}
 use Rattle.net_base.specs.Device.{Move}
 use Rattle.ip_wire.specs.IpRepr.{IpRepr}
 use Rattle.ip_wire.specs.IpAddress.{IpAddress}
-use Rattle.interface_ingress.specs.Packet.{PacketValue}
-use Rattle.interface_ingress.specs.Offer as Answer
-use Rattle.interface_ingress.specs.Offer.TheVariants as Offer
-use Rattle.interface_ingress.specs.Sockets.{offered_by}
-use Rattle.interface_ingress.specs.Socket.{Socket}
-use Rattle.interface_tables.specs.Inner.{InnerValue, at_moment}
-use Rattle.interface_egress.specs.Departing.{host_after}
-use Rattle.interface_egress.specs.Fragments.{LeftValue}
-use Rattle.interface_egress.specs.GoesOut.{GoesOut}
-use Rattle.interface_egress.specs.Plan.{plan_of}
-use Rattle.interface_egress.specs.declared.plan.Plan.{Plan}
-use Rattle.interface_egress.specs.declared.socket_meta.Meta.{Meta}
-use Rattle.interface_egress.specs.declared.socket_set.Item.{Item}
-use Rattle.interface_egress.specs.declared.way_out.Sent.{Sent}
-use Rattle.interface_egress.proofs.Changes.{changes}
-use Rattle.interface_ingress.specs.Arrives as Replies
-use Rattle.interface_ingress.specs.Arrives.{ReplyValue}
-use Rattle.interface_ingress.specs.Kept.{HasSameSettings}
+use Rattle.iface_ingress.specs.Packet.{PacketValue}
+use Rattle.iface_ingress.specs.Offer as Answer
+use Rattle.iface_ingress.specs.Offer.TheVariants as Offer
+use Rattle.iface_ingress.specs.Sockets.{offered_by}
+use Rattle.iface_ingress.specs.Socket.{Socket}
+use Rattle.iface_tables.specs.Inner.{InnerValue, at_instant}
+use Rattle.iface_egress.specs.Departing.{host_after}
+use Rattle.iface_egress.specs.Fragments.{LeftValue}
+use Rattle.iface_egress.specs.IsTransmitted.{IsTransmitted}
+use Rattle.iface_egress.specs.Plan.{plan_of}
+use Rattle.iface_egress.specs.declared.plan.Plan.{Plan}
+use Rattle.iface_egress.specs.declared.socket_meta.Meta.{Meta}
+use Rattle.iface_egress.specs.declared.socket_set.Item.{Item}
+use Rattle.iface_egress.specs.declared.egress_path.Sent.{Sent}
+use Rattle.iface_egress.proofs.Changes.{changes}
+use Rattle.iface_ingress.specs.Arrives as Replies
+use Rattle.iface_ingress.specs.Arrives.{ReplyValue}
+use Rattle.iface_ingress.specs.FragmentStored.{HasSameSettings}
 use Rattle.interface.specs.Host.{Sender}
 use Rattle.interface.specs.Ingress.{Takes, Replied, is_awaited, sender_of, sender_with}
 use Rattle.interface.specs.State.{State}
-use Rattle.interface.specs.Turn.{Leaves, SendsBy, Answers, TurnsIf, ItemTurns, is_waiting, let_through}
-use Rattle.interface.specs.declared.turn.Turned.{Turned}
+use Rattle.interface.specs.Serve.{Leaves, SendsBy, Answers, TurnsIf, ItemTurns, is_waiting, let_through}
+use Rattle.interface.specs.declared.serve.Served.{Served}
 use Rattle.interface.proofs.Kept.{IsPriced}
 use Rattle.interface.proofs.Runs.{receives_same}
 
 -- what is asked of the count
 pub record IsHostCount (t : ℤ) (Q : ℕ → InnerValue → Type 0) : Type 0 where
   pub more : (n m : ℕ) (i : InnerValue) → n ≤ m → Q n i → Q m i
-  pub begins : (n : ℕ) (i : InnerValue) → Q n i → Q n (at_moment t i)
+  pub begins : (n : ℕ) (i : InnerValue) → Q n i → Q n (at_instant t i)
   pub arrives : (n : ℕ) (i i' : InnerValue) → HasSameSettings i i' → Q n i → Q n i'
   pub goes : (n : ℕ) (i i' : InnerValue) (plan : Plan) (sent : Sent) (h : IpRepr) → i' ≡ host_after plan sent h i → Q n i → Q (n + 1) i'
 
@@ -42,7 +42,7 @@ module _ {D : Type 0} (moves : D → Move → D → Type 0) (t : ℤ) (Q : ℕ �
   still i i' is so = kept.more n (n + 1) i' (omega arith) (subst (Q n) (sym is) so)
 
   out : (d d' : D) (i i' : InnerValue) (l l' : Option LeftValue) (p : PacketValue) (busy : Bool) (sent : Sent) →
-      GoesOut moves d i l p (plan_of i busy p.header) sent d' i' l' → Q n i → Q (n + 1) i'
+      IsTransmitted moves d i l p (plan_of i busy p.header) sent d' i' l' → Q n i → Q (n + 1) i'
   out d d' i i' l l' p busy sent goes so = kept.goes n i i' (plan_of i busy p.header) sent p.header (changes moves d d' i i' l l' p busy sent goes).1 so
 
   -- ARRIVALS
@@ -77,31 +77,31 @@ module _ {D : Type 0} (moves : D → Move → D → Type 0) (t : ℤ) (Q : ℕ �
     leaves m p sent (inl rests) = still x.inner x'.inner rests.2 so
     leaves m p sent (inr goes) = out goes.0 x'.device x.inner x'.inner x.left x'.left p (is_some x.left) sent goes.2 so
 
-    offers : (o : Option PacketValue) (item item' : Item Socket) (changed : Bool) (turned : Turned) → SendsBy moves turn o x item changed turned x' item' → Next
+    offers : (o : Option PacketValue) (item item' : Item Socket) (changed : Bool) (turned : Served) → SendsBy moves turn o x item changed turned x' item' → Next
     offers None item item' changed turned sends = absurd sends
     offers (Some p) item item' changed turned sends = leaves item.meta sends.0 sends.3.0 sends.3.1
 
-    answers : (answer : Answer.Offer) (item item' : Item Socket) (turned : Turned) → Answers moves turn answer x item turned x' item' → Next
+    answers : (answer : Answer.Offer) (item item' : Item Socket) (turned : Served) → Answers moves turn answer x item turned x' item' → Next
     answers (Offer.Silent changed) item item' turned is = rests is.1
     answers (Offer.Packet changed) item item' turned is = offers (offered_by item.socket) item item' changed turned is
 
-    asked : (waits : Bool) (item item' : Item Socket) (turned : Turned) → TurnsIf moves turn waits x item turned x' item' → Next
+    asked : (waits : Bool) (item item' : Item Socket) (turned : Served) → TurnsIf moves turn waits x item turned x' item' → Next
     asked true item item' turned turns = rests turns.1
     asked false item item' turned turns = answers turns.0 (record item { socket = turns.1 }) item' turned turns.3
 
-    turns_count : (o o' : Option (Item Socket)) (turned : Turned) → ItemTurns moves turn o x turned x' o' → Next
+    turns_count : (o o' : Option (Item Socket)) (turned : Served) → ItemTurns moves turn o x turned x' o' → Next
     turns_count None None turned turns = rests turns.1
     turns_count (Some item) (Some item') turned turns = asked (is_waiting x.inner item.meta) (let_through x.inner item) item' turned turns
     turns_count None (Some item') turned turns = absurd turns
     turns_count (Some item) None turned turns = absurd turns
 
--- a piece has its number already
+-- a fragment has its number already
 pub hosts_priced : {D : Type 0} (moves : D → Move → D → Type 0) (t : ℤ) (Q : ℕ → InnerValue → Type 0) → IsHostCount t Q →
     IsPriced moves t 0 (λ (n : ℕ) (s : State D). Q n s.host.inner)
 hosts_priced moves t Q kept = record {
   more = λ n m s up so. kept.more n m s.host.inner up so;
   maintenance = λ n s so. kept.begins n s.host.inner so;
   arrivals = λ n s s' answer runs so takes. takes_count moves t Q kept n s s' answer so takes;
-  pieces = λ n h ps x x' l gone runs is so leaves same. kept.more n (n + 0) x'.inner (omega arith) (subst (Q n) (sym same) so);
+  fragments = λ n h ps x x' l gone runs is so leaves same. kept.more n (n + 0) x'.inner (omega arith) (subst (Q n) (sym same) so);
   turns = λ turn n h before after p p' x x' turned used runs so turns. turns_count moves t Q kept n turn x x' so p.inner p'.inner turned turns;
 }

@@ -1,11 +1,11 @@
 -- What is said of a host's addresses and tables alone, and what every poll keeps of it.
 use Rattle.std.proofs.Common.{ℕ, ℤ, Bool, true, false, Option, Some, None, refl, sym, ap, ◌∙◌, subst}
 use Rattle.net_base.specs.Device.{Move}
-use Rattle.interface_tables.specs.Inner.{InnerValue, at_moment}
-use Rattle.interface_egress.specs.Departing.{HasSettingsOf}
-use Rattle.interface_ingress.specs.Kept.{HasSameSettings}
+use Rattle.iface_tables.specs.Inner.{InnerValue, at_instant}
+use Rattle.iface_egress.specs.Departing.{HasSettingsOf}
+use Rattle.iface_ingress.specs.FragmentStored.{HasSameSettings}
 use Rattle.interface.specs.SameHost.{IsSameHost}
-use Rattle.interface.proofs.SameHost.{place_same}
+use Rattle.interface.proofs.SameHost.{slot_same}
 use Rattle.interface.specs.State.{State}
 use Rattle.interface.specs.Ingress.{Takes}
 use Rattle.interface.specs.Polls.{Polls}
@@ -23,17 +23,17 @@ module _ {D : Type 0} (moves : D → Move → D → Type 0) (t : ℤ) (Q : Inner
         let same = receives_same moves reads.0 (record s { device = takes.1 }) s' reads.2 in
         sends reads.2.0.inner s'.host.inner same.1 (arrives s.host.inner reads.2.0.inner same.0 holds)
 
-    pub hosts_keep : (begins : (i : InnerValue) → Q i → Q (at_moment t i)) → IsKept moves t (λ s. Q s.host.inner)
+    pub hosts_keep : (begins : (i : InnerValue) → Q i → Q (at_instant t i)) → IsKept moves t (λ s. Q s.host.inner)
     hosts_keep begins = record {
       maintenance = λ s holds. begins s.host.inner holds;
       arrivals = λ s s' answer runs holds takes. takes_keep s s' answer holds takes;
-      pieces = λ h ps x x' l gone runs is holds leaves same. subst Q (sym same) holds;
-      turns = λ turn h before after p p' x x' turned runs holds turns. sends x.inner x'.inner (place_same moves turn x x' p p' turned turns) holds;
+      fragments = λ h ps x x' l gone runs is holds leaves same. subst Q (sym same) holds;
+      turns = λ turn h before after p p' x x' turned runs holds turns. sends x.inner x'.inner (slot_same moves turn x x' p p' turned turns) holds;
     }
 
 -- SETTINGS
 
-begins_so : (t : ℤ) (old i : InnerValue) → HasSettingsOf old i → HasSettingsOf old (at_moment t i)
+begins_so : (t : ℤ) (old i : InnerValue) → HasSettingsOf old i → HasSettingsOf old (at_instant t i)
 begins_so t old i has = record {
   hardware = has.hardware;
   mtu = has.mtu;

@@ -4,11 +4,11 @@ use Rattle.std.specs.Prelude.{ℤ}
 use Rattle.std.proofs.Math.Nat.{mul-le-mul_left}
 use Rattle.net_base.specs.Device.{Move}
 use Rattle.ip_wire.specs.IpRepr.{IpRepr}
-use Rattle.interface_tables.specs.Inner.{InnerValue, at_moment}
-use Rattle.interface_egress.specs.Departing.{takes_number, ident_after}
-use Rattle.interface_egress.specs.declared.plan.Plan.{Plan}
-use Rattle.interface_egress.specs.declared.way_out.Sent.{Sent}
-use Rattle.interface_egress.specs.declared.way_out.Sent.TheVariants as Outcome
+use Rattle.iface_tables.specs.Inner.{InnerValue, at_instant}
+use Rattle.iface_egress.specs.Departing.{takes_number, ident_after}
+use Rattle.iface_egress.specs.declared.plan.Plan.{Plan}
+use Rattle.iface_egress.specs.declared.egress_path.Sent.{Sent}
+use Rattle.iface_egress.specs.declared.egress_path.Sent.TheVariants as Outcome
 use Rattle.interface.specs.Polls.{Polls}
 use Rattle.interface.specs.State.{State}
 use Rattle.interface.specs.Idents.{TakesIdents}
@@ -48,18 +48,18 @@ module _ (i : InnerValue) where
   counted : (t : ℤ) → IsHostCount t Taken
   counted t = record {
     more = more;
-    begins = λ n j taken. same n j (at_moment t j) refl taken;
+    begins = λ n j taken. same n j (at_instant t j) refl taken;
     arrives = λ n j j' settings taken. same n j j' settings.ident taken;
     goes = λ n j j' plan sent h is taken. by_outcome n j j' plan sent h (ap (λ (x : InnerValue). x.ident) is) taken;
   }
 
 pub polls_take : {D : Type 0} (moves : D → Move → D → Type 0) (t : ℤ) (budget : ℕ) (s s' : State D) (changed : Bool) → Polls moves t budget s changed s'
-    → TakesIdents (budget * (1 + sockets_in s.places)) s.host.inner s'.host.inner
+    → TakesIdents (budget * (1 + sockets_in s.slots)) s.host.inner s'.host.inner
 polls_take {D} moves t budget s s' changed polls =
     let i : InnerValue = s.host.inner in
     let start : TakesIdents 0 i i = record { count = 0; few = omega arith; next = refl } in
-    let cost : ℕ = budget * (1 + (0 + sockets_in s.places)) in
-    let most : cost ≤ budget * (1 + sockets_in s.places) = mul-le-mul_left budget (omega arith) in
-    more i (0 + cost) (budget * (1 + sockets_in s.places)) s'.host.inner (omega (arith, most))
+    let cost : ℕ = budget * (1 + (0 + sockets_in s.slots)) in
+    let most : cost ≤ budget * (1 + sockets_in s.slots) = mul-le-mul_left budget (omega arith) in
+    more i (0 + cost) (budget * (1 + sockets_in s.slots)) s'.host.inner (omega (arith, most))
     (polls_cost moves t 0 (λ (n : ℕ) (x : State D). TakesIdents n i x.host.inner)
     (hosts_priced moves t (λ (n : ℕ) (j : InnerValue). TakesIdents n i j) (counted i t)) budget 0 s s' changed start polls).0

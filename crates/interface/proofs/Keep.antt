@@ -1,19 +1,19 @@
--- What maintenance, arrivals, pieces and turns keep is kept by a poll.
+-- What maintenance, arrivals, fragments and turns keep is kept by a poll.
 use Rattle.std.proofs.Common.{◌≡◌, ℕ, zero, suc, ℤ, Bool, true, false, ◌||◌, inl, inr, List, [], ◌∷◌, ◌++◌, Option, Some, None, refl, sym, subst, append_assoc}
 use Rattle.std.proofs.Common.{append-nil}
 use Rattle.net_base.specs.Device.{Move}
 use Rattle.ip_wire.specs.IpAddress.{IpAddress}
-use Rattle.interface_ingress.specs.Socket.{Socket}
-use Rattle.interface_tables.specs.Inner.{InnerValue}
-use Rattle.interface_egress.specs.declared.socket_set.SocketStorage.{SocketStorage}
-use Rattle.interface_egress.specs.Fragments.{LeftValue}
+use Rattle.iface_ingress.specs.Socket.{Socket}
+use Rattle.iface_tables.specs.Inner.{InnerValue}
+use Rattle.iface_egress.specs.declared.socket_set.SocketStorage.{SocketStorage}
+use Rattle.iface_egress.specs.Fragments.{LeftValue}
 use Rattle.interface.specs.Awaited.{turn_of}
 use Rattle.interface.specs.Host.{HostValue, Sender, sender}
 use Rattle.interface.specs.Pass.{Pass, Passed}
-use Rattle.interface.specs.WayOut.{Clears, Egress}
-use Rattle.interface.specs.declared.turn.Turned.TheVariants as Turn
+use Rattle.interface.specs.EgressPath.{Clears, Egress}
+use Rattle.interface.specs.declared.serve.Served.TheVariants as Turn
 use Rattle.interface.specs.State.{State}
-use Rattle.interface.specs.Egress.{EgressStep, behind}
+use Rattle.interface.specs.Egress.{EgressStep, following}
 use Rattle.interface.specs.Ingress.{IngressStep}
 use Rattle.interface.specs.Polls.{Repeats, Polls, begun}
 use Rattle.interface.proofs.Kept.{RunsAt, IsKept}
@@ -29,9 +29,9 @@ module _ {D : Type 0} (moves : D → Move → D → Type 0) (t : ℤ) (P : State
 
   module _ (h : HostValue) where
     pass_keeps : (turn : Option IpAddress) (ps before : List (SocketStorage Socket)) (x : Sender D) (changed : Bool) (e : Passed D) →
-        Holds (sending_as h x (before ++ ps)) → Pass moves turn x before changed ps e → Holds (behind h e)
+        Holds (sending_as h x (before ++ ps)) → Pass moves turn x before changed ps e → Holds (following h e)
     pass_keeps turn [] before x changed e holds ends =
-        subst (λ (y : Passed D). Holds (behind h y)) (sym ends)
+        subst (λ (y : Passed D). Holds (following h y)) (sym ends)
         (subst (λ (qs : List (SocketStorage Socket)). Holds (sending_as h x qs)) (append-nil before) holds)
     pass_keeps turn (p ∷ ps) before x changed e holds (inl goes) =
         let next : P (sending_as h goes.1 (before ++ goes.2 ∷ ps)) = kept.turns turn h before ps p goes.2 x goes.1 (Turn.Next goes.0) holds.1 holds.0 goes.3 in
@@ -41,25 +41,25 @@ module _ {D : Type 0} (moves : D → Move → D → Type 0) (t : ℤ) (P : State
     pass_keeps turn (p ∷ ps) before x changed e holds (inr stops) =
         let next : P (sending_as h stops.1 (before ++ stops.2 ∷ ps)) =
         kept.turns turn h before ps p stops.2 x stops.1 (Turn.Stop stops.0) holds.1 holds.0 stops.3 in
-        subst (λ (y : Passed D). Holds (behind h y)) (sym stops.4) (next, turn_runs moves t turn x stops.1 p stops.2 (Turn.Stop stops.0) stops.3 holds.1)
+        subst (λ (y : Passed D). Holds (following h y)) (sym stops.4) (next, turn_runs moves t turn x stops.1 p stops.2 (Turn.Stop stops.0) stops.3 holds.1)
 
     clears_keeps : (ps : List (SocketStorage Socket)) (x x' : Sender D) (l : Option LeftValue) (clear : Bool) → x.left ≡ l → Holds (sending_as h x ps) →
         Clears moves l x clear x' → Holds (sending_as h x' ps)
     clears_keeps ps x x' None clear is holds clears = subst (λ (y : Sender D). Holds (sending_as h y ps)) (sym clears.1) holds
     clears_keeps ps x x' (Some l) clear is holds clears =
-        (kept.pieces h ps x x' l clear holds.1 is holds.0 clears.0 clears.1, runs_where t x.inner x'.inner clears.1 holds.1)
+        (kept.fragments h ps x x' l clear holds.1 is holds.0 clears.0 clears.1, runs_where t x.inner x'.inner clears.1 holds.1)
 
-    egress_keeps : (x : Sender D) (ps : List (SocketStorage Socket)) (e : Passed D) → Holds (sending_as h x ps) → Egress moves x ps e → Holds (behind h e)
+    egress_keeps : (x : Sender D) (ps : List (SocketStorage Socket)) (e : Passed D) → Holds (sending_as h x ps) → Egress moves x ps e → Holds (following h e)
     egress_keeps x ps e holds (inl stays) =
-        subst (λ (y : Passed D). Holds (behind h y)) (sym stays.2) (clears_keeps ps x stays.0 x.left false refl holds stays.1)
+        subst (λ (y : Passed D). Holds (following h y)) (sym stays.2) (clears_keeps ps x stays.0 x.left false refl holds stays.1)
     egress_keeps x ps e holds (inr goes) =
         pass_keeps (turn_of goes.0.inner ps) ps [] goes.0 false e (clears_keeps ps x goes.0 x.left true refl holds goes.1) goes.2
 
   pub out_step_keeps : (s s' : State D) (answer : Option Bool) → Holds s → EgressStep moves t s answer s' → Holds s'
   out_step_keeps s s' answer holds step =
-      let goes : Egress moves (sender s.device s.host.inner s.host.left) s.places step.0 =
-      subst (λ (i : InnerValue). Egress moves (sender s.device i s.host.left) s.places step.0) (runs_so t s.host.inner holds.1) step.1 in
-      subst Holds (sym step.2) (egress_keeps s.host (sender s.device s.host.inner s.host.left) s.places step.0 holds goes)
+      let goes : Egress moves (sender s.device s.host.inner s.host.left) s.slots step.0 =
+      subst (λ (i : InnerValue). Egress moves (sender s.device i s.host.left) s.slots step.0) (runs_so t s.host.inner holds.1) step.1 in
+      subst Holds (sym step.2) (egress_keeps s.host (sender s.device s.host.inner s.host.left) s.slots step.0 holds goes)
 
   -- THE WAY IN
 

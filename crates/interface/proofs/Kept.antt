@@ -2,22 +2,22 @@
 use Rattle.std.specs.Prelude.{◌≡◌, ℕ, ◌+◌, ◌≤◌, ℤ, Bool, true, false, List, ◌∷◌, ◌++◌, Option, Some}
 use Rattle.net_base.specs.Device.{Move}
 use Rattle.ip_wire.specs.IpAddress.{IpAddress}
-use Rattle.interface_ingress.specs.Socket.{Socket}
-use Rattle.interface_tables.specs.Inner.{InnerValue}
-use Rattle.interface_egress.specs.declared.socket_set.SocketStorage.{SocketStorage}
-use Rattle.interface_egress.specs.Fragments.{LeftValue}
+use Rattle.iface_ingress.specs.Socket.{Socket}
+use Rattle.iface_tables.specs.Inner.{InnerValue}
+use Rattle.iface_egress.specs.declared.socket_set.SocketStorage.{SocketStorage}
+use Rattle.iface_egress.specs.Fragments.{LeftValue}
 use Rattle.interface.specs.Host.{HostValue, Sender}
-use Rattle.interface.specs.WayOut.{PieceLeaves}
-use Rattle.interface.specs.Turn.{PlaceTurns}
-use Rattle.interface.specs.declared.turn.Turned.{Turned}
+use Rattle.interface.specs.EgressPath.{FragmentLeaves}
+use Rattle.interface.specs.Serve.{ServesSlot}
+use Rattle.interface.specs.declared.serve.Served.{Served}
 use Rattle.interface.specs.State.{State, sending_as}
 use Rattle.interface.specs.Ingress.{Takes}
 use Rattle.interface.specs.Polls.{begun}
 use Rattle.interface.specs.Used.{is_used}
 
--- the host's call runs, at this moment
+-- the host's call runs, at this instant
 abbrev pub RunsAt : ℤ → InnerValue → Type 0
-RunsAt t i = (i.moment ≡ t) × (i.fresh ≡ false)
+RunsAt t i = (i.instant ≡ t) × (i.initial ≡ false)
 
 module _ {D : Type 0} (moves : D → Move → D → Type 0) (t : ℤ) (P : State D → Type 0) where
   -- maintenance keeps it
@@ -28,50 +28,50 @@ module _ {D : Type 0} (moves : D → Move → D → Type 0) (t : ℤ) (P : State
   abbrev pub KeptByArrivals : Type 0
   KeptByArrivals = (s s' : State D) (answer : Option Bool) → RunsAt t s.host.inner → P s → Takes moves s answer s' → P s'
 
-  -- the piece that waits keeps it, whether it goes or not
-  abbrev pub KeptByPieces : Type 0
-  KeptByPieces =
+  -- the fragment that waits keeps it, whether it goes or not
+  abbrev pub KeptByFragments : Type 0
+  KeptByFragments =
       (h : HostValue) (ps : List (SocketStorage Socket)) (x x' : Sender D) (l : LeftValue) (gone : Bool) → RunsAt t x.inner → x.left ≡ Some l
-      → P (sending_as h x ps) → PieceLeaves moves l x gone x' → x'.inner ≡ x.inner → P (sending_as h x' ps)
+      → P (sending_as h x ps) → FragmentLeaves moves l x gone x' → x'.inner ≡ x.inner → P (sending_as h x' ps)
 
-  -- a socket's turn at its place keeps it
+  -- a socket's turn at its slot keeps it
   abbrev pub KeptByTurns : Type 0
   KeptByTurns =
-      (turn : Option IpAddress) (h : HostValue) (before after : List (SocketStorage Socket)) (p p' : SocketStorage Socket) (x x' : Sender D) (turned : Turned) →
+      (turn : Option IpAddress) (h : HostValue) (before after : List (SocketStorage Socket)) (p p' : SocketStorage Socket) (x x' : Sender D) (turned : Served) →
       RunsAt t x.inner
-      → P (sending_as h x (before ++ p ∷ after)) → PlaceTurns moves turn x p turned x' p' → P (sending_as h x' (before ++ p' ∷ after))
+      → P (sending_as h x (before ++ p ∷ after)) → ServesSlot moves turn x p turned x' p' → P (sending_as h x' (before ++ p' ∷ after))
 
   -- each of the four
   pub record IsKept : Type 0 where
     pub maintenance : KeptByMaintenance
     pub arrivals : KeptByArrivals
-    pub pieces : KeptByPieces
+    pub fragments : KeptByFragments
     pub turns : KeptByTurns
 
 -- WITH A COUNT
 
--- The same of a property that counts: an arrival, a piece and a turn each raise the count by one at most, for each of them asks
+-- The same of a property that counts: an arrival, a fragment and a turn each raise the count by one at most, for each of them asks
 -- the device for one send at most.
 module _ {D : Type 0} (moves : D → Move → D → Type 0) (t : ℤ) (Q : ℕ → State D → Type 0) where
   pub record IsCounted : Type 0 where
     pub more : (n m : ℕ) (s : State D) → n ≤ m → Q n s → Q m s
     pub maintenance : (n : ℕ) (s : State D) → Q n s → Q n (begun t s)
     pub arrivals : (n : ℕ) (s s' : State D) (answer : Option Bool) → RunsAt t s.host.inner → Q n s → Takes moves s answer s' → Q (n + 1) s'
-    pub pieces : (n : ℕ) (h : HostValue) (ps : List (SocketStorage Socket)) (x x' : Sender D) (l : LeftValue) (gone : Bool) → RunsAt t x.inner → x.left ≡ Some l
-        → Q n (sending_as h x ps) → PieceLeaves moves l x gone x' → x'.inner ≡ x.inner → Q (n + 1) (sending_as h x' ps)
+    pub fragments : (n : ℕ) (h : HostValue) (ps : List (SocketStorage Socket)) (x x' : Sender D) (l : LeftValue) (gone : Bool) → RunsAt t x.inner → x.left ≡ Some l
+        → Q n (sending_as h x ps) → FragmentLeaves moves l x gone x' → x'.inner ≡ x.inner → Q (n + 1) (sending_as h x' ps)
     pub turns : (turn : Option IpAddress) (n : ℕ) (h : HostValue) (before after : List (SocketStorage Socket)) (p p' : SocketStorage Socket) (x x' : Sender D)
-        (turned : Turned) → RunsAt t x.inner
-        → Q n (sending_as h x (before ++ p ∷ after)) → PlaceTurns moves turn x p turned x' p' → Q (n + 1) (sending_as h x' (before ++ p' ∷ after))
+        (turned : Served) → RunsAt t x.inner
+        → Q n (sending_as h x (before ++ p ∷ after)) → ServesSlot moves turn x p turned x' p' → Q (n + 1) (sending_as h x' (before ++ p' ∷ after))
 
--- An arrival and a socket's turn each raise the count by one at most, and the piece that waits by `piece`. A free place has no turn.
-module _ {D : Type 0} (moves : D → Move → D → Type 0) (t : ℤ) (piece : ℕ) (Q : ℕ → State D → Type 0) where
+-- An arrival and a socket's turn each raise the count by one at most, and the fragment that waits by `fragment`. A free slot has no turn.
+module _ {D : Type 0} (moves : D → Move → D → Type 0) (t : ℤ) (fragment : ℕ) (Q : ℕ → State D → Type 0) where
   pub record IsPriced : Type 0 where
     pub more : (n m : ℕ) (s : State D) → n ≤ m → Q n s → Q m s
     pub maintenance : (n : ℕ) (s : State D) → Q n s → Q n (begun t s)
     pub arrivals : (n : ℕ) (s s' : State D) (answer : Option Bool) → RunsAt t s.host.inner → Q n s → Takes moves s answer s' → Q (n + 1) s'
-    pub pieces : (n : ℕ) (h : HostValue) (ps : List (SocketStorage Socket)) (x x' : Sender D) (l : LeftValue) (gone : Bool) → RunsAt t x.inner → x.left ≡ Some l
-        → Q n (sending_as h x ps) → PieceLeaves moves l x gone x' → x'.inner ≡ x.inner → Q (n + piece) (sending_as h x' ps)
+    pub fragments : (n : ℕ) (h : HostValue) (ps : List (SocketStorage Socket)) (x x' : Sender D) (l : LeftValue) (gone : Bool) → RunsAt t x.inner → x.left ≡ Some l
+        → Q n (sending_as h x ps) → FragmentLeaves moves l x gone x' → x'.inner ≡ x.inner → Q (n + fragment) (sending_as h x' ps)
     pub turns : (turn : Option IpAddress) (n : ℕ) (h : HostValue) (before after : List (SocketStorage Socket)) (p p' : SocketStorage Socket) (x x' : Sender D)
-        (turned : Turned) → is_used p ≡ true
-        → RunsAt t x.inner → Q n (sending_as h x (before ++ p ∷ after)) → PlaceTurns moves turn x p turned x' p' →
+        (turned : Served) → is_used p ≡ true
+        → RunsAt t x.inner → Q n (sending_as h x (before ++ p ∷ after)) → ServesSlot moves turn x p turned x' p' →
         Q (n + 1) (sending_as h x' (before ++ p' ∷ after))

@@ -1,5 +1,5 @@
 pub mod Waiting
-pub mod AtRest
+pub mod IdleSlots
 pub mod Known
 pub mod Due
 pub mod QuietTurn
@@ -28,10 +28,10 @@ pub mod Unrefused
 pub mod Loopbacks
 pub mod ByKind
 pub mod Sourced
-pub mod Straight
+pub mod Direct
 pub mod Replied
 pub mod AtOnce
-pub mod FreeSlots
+pub mod FreeAssemblers
 pub mod Chosen
 pub mod Told
 pub mod Arrives

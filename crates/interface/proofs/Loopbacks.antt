@@ -1,15 +1,15 @@
--- But for want of memory a loopback's moves are determined.
+-- But for lack of memory a loopback's moves are determined.
 use Rattle.std.proofs.Common.{◌≡◌, ◌<◌, ◌≤◌, ℕ, ℤ, true, false, List, sym, ap, ◌∙◌, arith}
 use Rattle.std.specs.Prelude.{drop}
 use Rattle.net_base.specs.Device.{Move, Took, Empty, Allowed, Emitted, Denied, gives_tokens}
 use Rattle.net_base.specs.Loopback.{LoopbackValue, LoopbackMove}
 use Rattle.interface.proofs.Unrefused.{IsCounting, head_is, none_waits, given_or_not}
 
-abbrev behind : LoopbackValue → LoopbackValue
-behind l = record l { queue = drop 1 l.queue }
+abbrev following : LoopbackValue → LoopbackValue
+following l = record l { queue = drop 1 l.queue }
 
 one_end : (here one other : LoopbackValue) (m : Move) → LoopbackMove here m one → LoopbackMove here m other → one ≡ other
-one_end here one other (Took t frame) a b = ap behind (sym a.1 ∙ b.1)
+one_end here one other (Took t frame) a b = ap following (sym a.1 ∙ b.1)
 one_end here one other (Empty t) a b = a.0 ∙ sym b.0
 one_end here one other (Allowed t given) a b = a.0 ∙ sym b.0
 one_end here one other (Emitted frame) a b = a ∙ sym b

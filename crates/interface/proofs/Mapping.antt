@@ -1,43 +1,43 @@
 -- A poll at one device is a poll at another, where each of its moves is one there.
 use Rattle.std.proofs.Common.{◌≡◌, ℕ, zero, suc, ℤ, Bool, true, false, ◌||◌, inl, inr, List, [], ◌∷◌, ◌++◌, Option, Some, None, is_some, sym, ap, subst}
 use Rattle.net_base.specs.Device.{Move, Took, Empty, Allowed, Emitted, Denied}
-use Rattle.interface_ingress.specs.Packet.{PacketValue}
-use Rattle.interface_ingress.specs.Offer as Answer
-use Rattle.interface_ingress.specs.Offer.TheVariants as Offer
-use Rattle.interface_ingress.specs.Sockets.{offered_by}
-use Rattle.interface_ingress.specs.Socket.{Socket}
-use Rattle.interface_tables.specs.Inner.{InnerValue}
-use Rattle.interface_egress.specs.declared.socket_set.Item.{Item}
-use Rattle.interface_egress.specs.declared.socket_set.SocketStorage.{SocketStorage}
-use Rattle.interface_egress.specs.Departure as Departures
-use Rattle.interface_egress.specs.Departure.{Departure}
-use Rattle.interface_egress.specs.Fragments.{LeftValue, departure_from}
-use Rattle.interface_egress.specs.GoesOut.{GoesOut, PieceGoesOut, Departs, Asked, Went, WasCut, frame_of, frame_len_of, numbered, cut_of}
-use Rattle.interface_egress.specs.Plan.{plan_of}
-use Rattle.interface_egress.specs.declared.plan.Plan.{Plan}
-use Rattle.interface_egress.specs.declared.plan.Plan.TheVariants as Way
-use Rattle.interface_egress.specs.declared.way_out.Sent.{Sent}
-use Rattle.interface_egress.specs.declared.way_out.Sent.TheVariants as Outcome
+use Rattle.iface_ingress.specs.Packet.{PacketValue}
+use Rattle.iface_ingress.specs.Offer as Answer
+use Rattle.iface_ingress.specs.Offer.TheVariants as Offer
+use Rattle.iface_ingress.specs.Sockets.{offered_by}
+use Rattle.iface_ingress.specs.Socket.{Socket}
+use Rattle.iface_tables.specs.Inner.{InnerValue}
+use Rattle.iface_egress.specs.declared.socket_set.Item.{Item}
+use Rattle.iface_egress.specs.declared.socket_set.SocketStorage.{SocketStorage}
+use Rattle.iface_egress.specs.Departure as Departures
+use Rattle.iface_egress.specs.Departure.{Departure}
+use Rattle.iface_egress.specs.Fragments.{LeftValue, departure_from}
+use Rattle.iface_egress.specs.IsTransmitted.{IsTransmitted, FragmentIsTransmitted, Departs, Asked, WasSent, WasCut, frame_of, frame_len_of, numbered, cut_of}
+use Rattle.iface_egress.specs.Plan.{plan_of}
+use Rattle.iface_egress.specs.declared.plan.Plan.{Plan}
+use Rattle.iface_egress.specs.declared.plan.Plan.TheVariants as Way
+use Rattle.iface_egress.specs.declared.egress_path.Sent.{Sent}
+use Rattle.iface_egress.specs.declared.egress_path.Sent.TheVariants as Outcome
 use Rattle.ip_wire.specs.IpRepr.{IpRepr}
-use Rattle.interface_ingress.specs.Arrives as Replies
-use Rattle.interface_ingress.specs.Arrives.{ReplyValue}
-use Rattle.interface_ingress.specs.Incoming.{IncomingValue}
+use Rattle.iface_ingress.specs.Arrives as Replies
+use Rattle.iface_ingress.specs.Arrives.{ReplyValue}
+use Rattle.iface_ingress.specs.Incoming.{IncomingValue}
 use Rattle.ip_wire.specs.IpAddress.{IpAddress}
-use Rattle.interface_egress.specs.declared.frame.Question.{Question}
-use Rattle.interface_egress.specs.declared.socket_meta.Meta.{Meta}
+use Rattle.iface_egress.specs.declared.frame.NeighborQuery.{NeighborQuery}
+use Rattle.iface_egress.specs.declared.socket_meta.Meta.{Meta}
 use Rattle.interface.specs.Awaited.{turn_of}
 use Rattle.interface.specs.Host.{Sender, sender}
 use Rattle.interface.specs.Pass.{Pass, Passed, passed}
-use Rattle.interface.specs.WayOut.{Clears, Egress, PieceLeaves}
-use Rattle.interface.specs.Turn.{Leaves, SendsBy, Answers, TurnsIf, ItemTurns, PlaceTurns, is_waiting, let_through}
-use Rattle.interface.specs.declared.turn.Turned.{Turned}
-use Rattle.interface.specs.declared.turn.Turned.TheVariants as Turn
+use Rattle.interface.specs.EgressPath.{Clears, Egress, FragmentLeaves}
+use Rattle.interface.specs.Serve.{Leaves, SendsBy, Answers, TurnsIf, ItemTurns, ServesSlot, is_waiting, let_through}
+use Rattle.interface.specs.declared.serve.Served.{Served}
+use Rattle.interface.specs.declared.serve.Served.TheVariants as Turn
 use Rattle.interface.specs.State.{State, state, at_device}
 use Rattle.interface.specs.Egress.{EgressStep, sending}
 use Rattle.interface.specs.Ingress.{IngressStep, Takes, Receives, Replied, is_awaited, sender_of, sender_with}
 use Rattle.interface.specs.Polls.{Repeats, Polls, begun}
 
--- How moves of one device are moves of another: what holds of the devices before is kept, and what holds of those behind held before.
+-- How moves of one device are moves of another: what holds of the devices before is kept, and what holds of those after held before.
 pub record IsMapped {D E : Type 0} (f : D → E) (moves : D → Move → D → Type 0) (others : E → Move → E → Type 0) (Before After : D → Type 0) : Type 0 where
   pub up : (old new : D) (m : Move) → moves old m new → Before old → Before new
   pub down : (old new : D) (m : Move) → moves old m new → After new → After old
@@ -75,10 +75,10 @@ module _ {D E : Type 0} (f : D → E) (moves : D → Move → D → Type 0) (oth
   on_sender x = sender (f x.device) x.inner x.left
 
   abbrev pub on_state : State D → State E
-  on_state s = state (f s.device) s.host s.places
+  on_state s = state (f s.device) s.host s.slots
 
   abbrev pub on_passed : Passed D → Passed E
-  on_passed e = passed (on_sender e.sender) e.places e.changed
+  on_passed e = passed (on_sender e.sender) e.slots e.changed
 
   -- A FRAME
 
@@ -95,7 +95,7 @@ module _ {D E : Type 0} (f : D → E) (moves : D → Move → D → Type 0) (oth
 
   -- A PACKET'S WAY OUT
 
-  asked : (old new : D) (i i' : InnerValue) (q : Question) (sent : Sent) → Asked moves old i q sent new i' →
+  asked : (old new : D) (i i' : InnerValue) (q : NeighborQuery) (sent : Sent) → Asked moves old i q sent new i' →
       Leads old new (Asked others (f old) i q sent (f new) i')
   asked old new i i' q Outcome.Waits goes =
       departs_and old new i (Departures.Asks q) true (Asked others (f old) i q Outcome.Waits (f new) i') (λ x. (x, goes.1)) goes.0
@@ -105,13 +105,13 @@ module _ {D E : Type 0} (f : D → E) (moves : D → Move → D → Type 0) (oth
   asked old new i i' q Outcome.Dropped goes = absurd goes
   asked old new i i' q Outcome.Busy goes = absurd goes
 
-  went : (old new : D) (i i' : InnerValue) (h : IpRepr) (d : Departure) (sent : Sent) → Went moves old i h d sent new i' →
-      Leads old new (Went others (f old) i h d sent (f new) i')
-  went old new i i' h d Outcome.Gone goes = departs_and old new i d true (Went others (f old) i h d Outcome.Gone (f new) i') (λ x. (x, goes.1)) goes.0
-  went old new i i' h d Outcome.Refused goes = departs_and old new i d false (Went others (f old) i h d Outcome.Refused (f new) i') (λ x. (x, goes.1)) goes.0
-  went old new i i' h d Outcome.Waits goes = absurd goes
-  went old new i i' h d Outcome.Dropped goes = absurd goes
-  went old new i i' h d Outcome.Busy goes = absurd goes
+  was_sent : (old new : D) (i i' : InnerValue) (h : IpRepr) (d : Departure) (sent : Sent) → WasSent moves old i h d sent new i' →
+      Leads old new (WasSent others (f old) i h d sent (f new) i')
+  was_sent old new i i' h d Outcome.Gone goes = departs_and old new i d true (WasSent others (f old) i h d Outcome.Gone (f new) i') (λ x. (x, goes.1)) goes.0
+  was_sent old new i i' h d Outcome.Refused goes = departs_and old new i d false (WasSent others (f old) i h d Outcome.Refused (f new) i') (λ x. (x, goes.1)) goes.0
+  was_sent old new i i' h d Outcome.Waits goes = absurd goes
+  was_sent old new i i' h d Outcome.Dropped goes = absurd goes
+  was_sent old new i i' h d Outcome.Busy goes = absurd goes
 
   was_cut : (old new : D) (i i' : InnerValue) (l l' : Option LeftValue) (c : LeftValue) (sent : Sent) → WasCut moves old i l c sent new i' l' →
       Leads old new (WasCut others (f old) i l c sent (f new) i' l')
@@ -123,32 +123,32 @@ module _ {D E : Type 0} (f : D → E) (moves : D → Move → D → Type 0) (oth
   was_cut old new i i' l l' c Outcome.Dropped goes = absurd goes
   was_cut old new i i' l l' c Outcome.Busy goes = absurd goes
 
-  goes_out : (old new : D) (i i' : InnerValue) (l l' : Option LeftValue) (p : PacketValue) (plan : Plan) (sent : Sent) →
-      GoesOut moves old i l p plan sent new i' l'
-      → Leads old new (GoesOut others (f old) i l p plan sent (f new) i' l')
-  goes_out old new i i' l l' p Way.Drop sent goes =
-      stays old new (GoesOut others (f old) i l p Way.Drop sent (f new) i' l') goes.1.0 (goes.0, (ap f goes.1.0, goes.1.1, goes.1.2))
-  goes_out old new i i' l l' p Way.NoRoute sent goes =
-      stays old new (GoesOut others (f old) i l p Way.NoRoute sent (f new) i' l') goes.1.0 (goes.0, (ap f goes.1.0, goes.1.1, goes.1.2))
-  goes_out old new i i' l l' p Way.Wait sent goes =
-      stays old new (GoesOut others (f old) i l p Way.Wait sent (f new) i' l') goes.1.0 (goes.0, (ap f goes.1.0, goes.1.1, goes.1.2))
-  goes_out old new i i' l l' p Way.Busy sent goes =
-      stays old new (GoesOut others (f old) i l p Way.Busy sent (f new) i' l') goes.1.0 (goes.0, (ap f goes.1.0, goes.1.1, goes.1.2))
-  goes_out old new i i' l l' p (Way.Ask question) sent goes =
-      so old new (Asked others (f old) i question sent (f new) i') (GoesOut others (f old) i l p (Way.Ask question) sent (f new) i' l') (λ x. (x, goes.1))
-      (asked old new i i' question sent goes.0)
-  goes_out old new i i' l l' p (Way.Go to) sent goes =
-      so old new (Went others (f old) i p.header (Departures.Whole to (numbered i p)) sent (f new) i')
-      (GoesOut others (f old) i l p (Way.Go to) sent (f new) i' l') (λ x. (x, goes.1))
-      (went old new i i' p.header (Departures.Whole to (numbered i p)) sent goes.0)
-  goes_out old new i i' l l' p (Way.Cut to) sent goes = was_cut old new i i' l l' (cut_of i to p) sent goes
+  is_transmitted : (old new : D) (i i' : InnerValue) (l l' : Option LeftValue) (p : PacketValue) (plan : Plan) (sent : Sent) →
+      IsTransmitted moves old i l p plan sent new i' l'
+      → Leads old new (IsTransmitted others (f old) i l p plan sent (f new) i' l')
+  is_transmitted old new i i' l l' p Way.Drop sent goes =
+      stays old new (IsTransmitted others (f old) i l p Way.Drop sent (f new) i' l') goes.1.0 (goes.0, (ap f goes.1.0, goes.1.1, goes.1.2))
+  is_transmitted old new i i' l l' p Way.NoRoute sent goes =
+      stays old new (IsTransmitted others (f old) i l p Way.NoRoute sent (f new) i' l') goes.1.0 (goes.0, (ap f goes.1.0, goes.1.1, goes.1.2))
+  is_transmitted old new i i' l l' p Way.Wait sent goes =
+      stays old new (IsTransmitted others (f old) i l p Way.Wait sent (f new) i' l') goes.1.0 (goes.0, (ap f goes.1.0, goes.1.1, goes.1.2))
+  is_transmitted old new i i' l l' p Way.Busy sent goes =
+      stays old new (IsTransmitted others (f old) i l p Way.Busy sent (f new) i' l') goes.1.0 (goes.0, (ap f goes.1.0, goes.1.1, goes.1.2))
+  is_transmitted old new i i' l l' p (Way.Ask neighbor_query) sent goes =
+      so old new (Asked others (f old) i neighbor_query sent (f new) i') (IsTransmitted others (f old) i l p (Way.Ask neighbor_query) sent (f new) i' l') (λ x. (x, goes.1))
+      (asked old new i i' neighbor_query sent goes.0)
+  is_transmitted old new i i' l l' p (Way.Go to) sent goes =
+      so old new (WasSent others (f old) i p.header (Departures.Whole to (numbered i p)) sent (f new) i')
+      (IsTransmitted others (f old) i l p (Way.Go to) sent (f new) i' l') (λ x. (x, goes.1))
+      (was_sent old new i i' p.header (Departures.Whole to (numbered i p)) sent goes.0)
+  is_transmitted old new i i' l l' p (Way.Cut to) sent goes = was_cut old new i i' l l' (cut_of i to p) sent goes
 
-  piece_out : (old new : D) (i : InnerValue) (l : LeftValue) (gone : Bool) (l' : Option LeftValue) → PieceGoesOut moves old i l gone new l' →
-      Leads old new (PieceGoesOut others (f old) i l gone (f new) l')
-  piece_out old new i l true l' goes =
-      departs_and old new i (departure_from i l) true (PieceGoesOut others (f old) i l true (f new) l') (λ x. (x, goes.1)) goes.0
-  piece_out old new i l false l' goes =
-      departs_and old new i (departure_from i l) false (PieceGoesOut others (f old) i l false (f new) l') (λ x. (x, goes.1)) goes.0
+  fragment_out : (old new : D) (i : InnerValue) (l : LeftValue) (gone : Bool) (l' : Option LeftValue) → FragmentIsTransmitted moves old i l gone new l' →
+      Leads old new (FragmentIsTransmitted others (f old) i l gone (f new) l')
+  fragment_out old new i l true l' goes =
+      departs_and old new i (departure_from i l) true (FragmentIsTransmitted others (f old) i l true (f new) l') (λ x. (x, goes.1)) goes.0
+  fragment_out old new i l false l' goes =
+      departs_and old new i (departure_from i l) false (FragmentIsTransmitted others (f old) i l false (f new) l') (λ x. (x, goes.1)) goes.0
 
   -- TURNS
 
@@ -156,16 +156,16 @@ module _ {D E : Type 0} (f : D → E) (moves : D → Move → D → Type 0) (oth
     leaves : (x y : Sender D) (mark : Meta) (p : PacketValue) (sent : Sent) → Leaves moves turn x mark p sent y →
         Leads x.device y.device (Leaves others turn (on_sender x) mark p sent (on_sender y))
     leaves x y mark p sent (inl a) =
-        so x.device y.device (others (f x.device) (Allowed x.inner.moment a.0) (f y.device)) (Leaves others turn (on_sender x) mark p sent (on_sender y))
+        so x.device y.device (others (f x.device) (Allowed x.inner.instant a.0) (f y.device)) (Leaves others turn (on_sender x) mark p sent (on_sender y))
         (λ n. inl (a.0, n, a.2, a.3, a.4))
-        (moves_so x.device y.device (Allowed x.inner.moment a.0) a.1)
+        (moves_so x.device y.device (Allowed x.inner.instant a.0) a.1)
     leaves x y mark p sent (inr a) =
-        both x.device a.0 y.device (others (f x.device) (Allowed x.inner.moment true) (f a.0))
-        (GoesOut others (f a.0) x.inner x.left p (plan_of x.inner (is_some x.left) p.header) sent (f y.device) y.inner y.left)
-        (Leaves others turn (on_sender x) mark p sent (on_sender y)) (λ n g. inr (f a.0, n, g, a.3)) (moves_so x.device a.0 (Allowed x.inner.moment true) a.1)
-        (goes_out a.0 y.device x.inner y.inner x.left y.left p (plan_of x.inner (is_some x.left) p.header) sent a.2)
+        both x.device a.0 y.device (others (f x.device) (Allowed x.inner.instant true) (f a.0))
+        (IsTransmitted others (f a.0) x.inner x.left p (plan_of x.inner (is_some x.left) p.header) sent (f y.device) y.inner y.left)
+        (Leaves others turn (on_sender x) mark p sent (on_sender y)) (λ n g. inr (f a.0, n, g, a.3)) (moves_so x.device a.0 (Allowed x.inner.instant true) a.1)
+        (is_transmitted a.0 y.device x.inner y.inner x.left y.left p (plan_of x.inner (is_some x.left) p.header) sent a.2)
 
-    sends : (o : Option PacketValue) (x y : Sender D) (item m : Item Socket) (changed : Bool) (a : Turned) → SendsBy moves turn o x item changed a y m
+    sends : (o : Option PacketValue) (x y : Sender D) (item m : Item Socket) (changed : Bool) (a : Served) → SendsBy moves turn o x item changed a y m
         → Leads x.device y.device (SendsBy others turn o (on_sender x) item changed a (on_sender y) m)
     sends None x y item m changed a one = absurd one
     sends (Some p) x y item m changed a one =
@@ -177,7 +177,7 @@ module _ {D E : Type 0} (f : D → E) (moves : D → Move → D → Type 0) (oth
     same_device : (x y : Sender D) → y ≡ x → y.device ≡ x.device
     same_device x y is = ap (λ (v : Sender D). v.device) is
 
-    answers : (answer : Answer.Offer) (x y : Sender D) (item m : Item Socket) (a : Turned) → Answers moves turn answer x item a y m
+    answers : (answer : Answer.Offer) (x y : Sender D) (item m : Item Socket) (a : Served) → Answers moves turn answer x item a y m
         → Leads x.device y.device (Answers others turn answer (on_sender x) item a (on_sender y) m)
     answers (Offer.Silent changed) x y item m a one =
         stays x.device y.device (Answers others turn (Offer.Silent changed) (on_sender x) item a (on_sender y) m) (same_device x y one.1) (
@@ -187,7 +187,7 @@ module _ {D E : Type 0} (f : D → E) (moves : D → Move → D → Type 0) (oth
         )
     answers (Offer.Packet changed) x y item m a one = sends (offered_by item.socket) x y item m changed a one
 
-    turns_if : (waits : Bool) (x y : Sender D) (item m : Item Socket) (a : Turned) → TurnsIf moves turn waits x item a y m
+    turns_if : (waits : Bool) (x y : Sender D) (item m : Item Socket) (a : Served) → TurnsIf moves turn waits x item a y m
         → Leads x.device y.device (TurnsIf others turn waits (on_sender x) item a (on_sender y) m)
     turns_if true x y item m a one =
         stays x.device y.device (TurnsIf others turn true (on_sender x) item a (on_sender y) m) (same_device x y one.1) (one.0, ap on_sender one.1, one.2)
@@ -196,7 +196,7 @@ module _ {D E : Type 0} (f : D → E) (moves : D → Move → D → Type 0) (oth
         (TurnsIf others turn false (on_sender x) item a (on_sender y) m)
         (λ n. (one.0, one.1, one.2, n)) (answers one.0 x y (record item { socket = one.1 }) m a one.3)
 
-    item_turns : (o p : Option (Item Socket)) (x y : Sender D) (a : Turned) → ItemTurns moves turn o x a y p →
+    item_turns : (o p : Option (Item Socket)) (x y : Sender D) (a : Served) → ItemTurns moves turn o x a y p →
         Leads x.device y.device (ItemTurns others turn o (on_sender x) a (on_sender y) p)
     item_turns None None x y a one =
         stays x.device y.device (ItemTurns others turn None (on_sender x) a (on_sender y) None) (same_device x y one.1) (one.0, ap on_sender one.1)
@@ -204,53 +204,53 @@ module _ {D E : Type 0} (f : D → E) (moves : D → Move → D → Type 0) (oth
     item_turns None (Some m) x y a one = absurd one
     item_turns (Some item) None x y a one = absurd one
 
-    place_turns : (o p : SocketStorage Socket) (x y : Sender D) (a : Turned) → PlaceTurns moves turn x o a y p →
-        Leads x.device y.device (PlaceTurns others turn (on_sender x) o a (on_sender y) p)
-    place_turns o p x y a one = item_turns o.inner p.inner x y a one
+    slot_turns : (o p : SocketStorage Socket) (x y : Sender D) (a : Served) → ServesSlot moves turn x o a y p →
+        Leads x.device y.device (ServesSlot others turn (on_sender x) o a (on_sender y) p)
+    slot_turns o p x y a one = item_turns o.inner p.inner x y a one
 
   -- THE WAY OUT
 
-  abbrev Places : Type 0
-  Places = List (SocketStorage Socket)
+  abbrev Slots : Type 0
+  Slots = List (SocketStorage Socket)
 
-  pass : (turn : Option IpAddress) (ps before : Places) (x : Sender D) (changed : Bool) (e : Passed D) → Pass moves turn x before changed ps e →
+  pass : (turn : Option IpAddress) (ps before : Slots) (x : Sender D) (changed : Bool) (e : Passed D) → Pass moves turn x before changed ps e →
       Leads x.device e.sender.device (Pass others turn (on_sender x) before changed ps (on_passed e))
   pass turn [] before x changed e one =
       stays x.device e.sender.device (Pass others turn (on_sender x) before changed [] (on_passed e)) (ap (λ (v : Passed D). v.sender.device) one)
       (ap on_passed one)
   pass turn (p ∷ ps) before x changed e (inl a) =
-      both x.device a.1.device e.sender.device (PlaceTurns others turn (on_sender x) p (Turn.Next a.0) (on_sender a.1) a.2)
+      both x.device a.1.device e.sender.device (ServesSlot others turn (on_sender x) p (Turn.Next a.0) (on_sender a.1) a.2)
       (Pass others turn (on_sender a.1) (before ++ a.2 ∷ []) (changed || a.0) ps (on_passed e))
       (Pass others turn (on_sender x) before changed (p ∷ ps) (on_passed e))
-      (λ n g. inl (a.0, on_sender a.1, a.2, n, g)) (place_turns turn p a.2 x a.1 (Turn.Next a.0) a.3)
+      (λ n g. inl (a.0, on_sender a.1, a.2, n, g)) (slot_turns turn p a.2 x a.1 (Turn.Next a.0) a.3)
       (pass turn ps (before ++ a.2 ∷ []) a.1 (changed || a.0) e a.4)
   pass turn (p ∷ ps) before x changed e (inr a) =
-      both x.device a.1.device e.sender.device (PlaceTurns others turn (on_sender x) p (Turn.Stop a.0) (on_sender a.1) a.2)
+      both x.device a.1.device e.sender.device (ServesSlot others turn (on_sender x) p (Turn.Stop a.0) (on_sender a.1) a.2)
       (on_passed e ≡ passed (on_sender a.1) (before ++ a.2 ∷ ps) (changed || a.0)) (Pass others turn (on_sender x) before changed (p ∷ ps) (on_passed e))
-      (λ n g. inr (a.0, on_sender a.1, a.2, n, g)) (place_turns turn p a.2 x a.1 (Turn.Stop a.0) a.3)
+      (λ n g. inr (a.0, on_sender a.1, a.2, n, g)) (slot_turns turn p a.2 x a.1 (Turn.Stop a.0) a.3)
       (stays a.1.device e.sender.device (on_passed e ≡ passed (on_sender a.1) (before ++ a.2 ∷ ps) (changed || a.0))
       (ap (λ (v : Passed D). v.sender.device) a.4) (ap on_passed a.4))
 
-  piece_leaves : (l : LeftValue) (x y : Sender D) (gone : Bool) → PieceLeaves moves l x gone y →
-      Leads x.device y.device (PieceLeaves others l (on_sender x) gone (on_sender y))
-  piece_leaves l x y gone (inl a) =
-      so x.device y.device (others (f x.device) (Allowed x.inner.moment false) (f y.device)) (PieceLeaves others l (on_sender x) gone (on_sender y))
+  fragment_leaves : (l : LeftValue) (x y : Sender D) (gone : Bool) → FragmentLeaves moves l x gone y →
+      Leads x.device y.device (FragmentLeaves others l (on_sender x) gone (on_sender y))
+  fragment_leaves l x y gone (inl a) =
+      so x.device y.device (others (f x.device) (Allowed x.inner.instant false) (f y.device)) (FragmentLeaves others l (on_sender x) gone (on_sender y))
       (λ n. inl (n, a.1, a.2))
-      (moves_so x.device y.device (Allowed x.inner.moment false) a.0)
-  piece_leaves l x y gone (inr a) =
-      both x.device a.0 y.device (others (f x.device) (Allowed x.inner.moment true) (f a.0)) (PieceGoesOut others (f a.0) x.inner l gone (f y.device) y.left)
-      (PieceLeaves others l (on_sender x) gone (on_sender y))
-      (λ n g. inr (f a.0, n, g)) (moves_so x.device a.0 (Allowed x.inner.moment true) a.1) (piece_out a.0 y.device x.inner l gone y.left a.2)
+      (moves_so x.device y.device (Allowed x.inner.instant false) a.0)
+  fragment_leaves l x y gone (inr a) =
+      both x.device a.0 y.device (others (f x.device) (Allowed x.inner.instant true) (f a.0)) (FragmentIsTransmitted others (f a.0) x.inner l gone (f y.device) y.left)
+      (FragmentLeaves others l (on_sender x) gone (on_sender y))
+      (λ n g. inr (f a.0, n, g)) (moves_so x.device a.0 (Allowed x.inner.instant true) a.1) (fragment_out a.0 y.device x.inner l gone y.left a.2)
 
   clears : (l : Option LeftValue) (x y : Sender D) (clear : Bool) → Clears moves l x clear y →
       Leads x.device y.device (Clears others l (on_sender x) clear (on_sender y))
   clears None x y clear one =
       stays x.device y.device (Clears others None (on_sender x) clear (on_sender y)) (same_device None x y one.1) (one.0, ap on_sender one.1)
   clears (Some l) x y clear one =
-      so x.device y.device (PieceLeaves others l (on_sender x) clear (on_sender y)) (Clears others (Some l) (on_sender x) clear (on_sender y)) (λ n. (n, one.1))
-      (piece_leaves l x y clear one.0)
+      so x.device y.device (FragmentLeaves others l (on_sender x) clear (on_sender y)) (Clears others (Some l) (on_sender x) clear (on_sender y)) (λ n. (n, one.1))
+      (fragment_leaves l x y clear one.0)
 
-  egress : (x : Sender D) (ps : Places) (e : Passed D) → Egress moves x ps e → Leads x.device e.sender.device (Egress others (on_sender x) ps (on_passed e))
+  egress : (x : Sender D) (ps : Slots) (e : Passed D) → Egress moves x ps e → Leads x.device e.sender.device (Egress others (on_sender x) ps (on_passed e))
   egress x ps e (inl a) =
       both x.device a.0.device e.sender.device (Clears others x.left (on_sender x) false (on_sender a.0)) (on_passed e ≡ passed (on_sender a.0) ps false)
       (Egress others (on_sender x) ps (on_passed e))
@@ -264,10 +264,10 @@ module _ {D E : Type 0} (f : D → E) (moves : D → Move → D → Type 0) (oth
   out_step : (t : ℤ) (s s' : State D) (answer : Option Bool) → EgressStep moves t s answer s' →
       Leads s.device s'.device (EgressStep others t (on_state s) answer (on_state s'))
   out_step t s s' answer one =
-      both s.device one.0.sender.device s'.device (Egress others (on_sender (sending t s)) s.places (on_passed one.0)) (on_state s' ≡
-      on_state (Rattle.interface.specs.Egress.behind s.host one.0))
-      (EgressStep others t (on_state s) answer (on_state s')) (λ n g. (on_passed one.0, n, g, one.3)) (egress (sending t s) s.places one.0 one.1)
-      (stays one.0.sender.device s'.device (on_state s' ≡ on_state (Rattle.interface.specs.Egress.behind s.host one.0)) (ap (λ (v : State D). v.device) one.2)
+      both s.device one.0.sender.device s'.device (Egress others (on_sender (sending t s)) s.slots (on_passed one.0)) (on_state s' ≡
+      on_state (Rattle.interface.specs.Egress.following s.host one.0))
+      (EgressStep others t (on_state s) answer (on_state s')) (λ n g. (on_passed one.0, n, g, one.3)) (egress (sending t s) s.slots one.0 one.1)
+      (stays one.0.sender.device s'.device (on_state s' ≡ on_state (Rattle.interface.specs.Egress.following s.host one.0)) (ap (λ (v : State D). v.device) one.2)
       (ap on_state one.2))
 
   -- THE WAY IN
@@ -283,9 +283,9 @@ module _ {D E : Type 0} (f : D → E) (moves : D → Move → D → Type 0) (oth
       stays x.device y.device (Replied others awaited (Some (Replies.Answers p)) (on_sender x) (on_sender y)) (same_device None x y held.0)
       (inl (ap on_sender held.0, held.1))
   replied awaited (Some (Replies.Answers p)) x y (inr one) =
-      so x.device y.device (GoesOut others (f x.device) x.inner x.left p (plan_of x.inner (is_some x.left) p.header) one.0 (f y.device) y.inner y.left)
+      so x.device y.device (IsTransmitted others (f x.device) x.inner x.left p (plan_of x.inner (is_some x.left) p.header) one.0 (f y.device) y.inner y.left)
       (Replied others awaited (Some (Replies.Answers p)) (on_sender x) (on_sender y)) (λ n. inr (one.0, n, one.2, one.3))
-      (goes_out x.device y.device x.inner y.inner x.left y.left p (plan_of x.inner (is_some x.left) p.header) one.0 one.1)
+      (is_transmitted x.device y.device x.inner y.inner x.left y.left p (plan_of x.inner (is_some x.left) p.header) one.0 one.1)
 
   receives : (content : Option IncomingValue) (s s' : State D) → Receives moves content s s' →
       Leads s.device s'.device (Receives others content (on_state s) (on_state s'))
@@ -296,18 +296,18 @@ module _ {D E : Type 0} (f : D → E) (moves : D → Move → D → Type 0) (oth
 
   takes : (s s' : State D) (answer : Option Bool) → Takes moves s answer s' → Leads s.device s'.device (Takes others (on_state s) answer (on_state s'))
   takes s s' None one =
-      so s.device s'.device (others (f s.device) (Empty s.host.inner.moment) (f s'.device)) (Takes others (on_state s) None (on_state s'))
+      so s.device s'.device (others (f s.device) (Empty s.host.inner.instant) (f s'.device)) (Takes others (on_state s) None (on_state s'))
       (λ n. (n, ap on_state one.1))
-      (moves_so s.device s'.device (Empty s.host.inner.moment) one.0)
+      (moves_so s.device s'.device (Empty s.host.inner.instant) one.0)
   takes s s' (Some false) one =
-      so s.device s'.device (others (f s.device) (Took s.host.inner.moment one.0) (f s'.device)) (Takes others (on_state s) (Some false) (on_state s'))
+      so s.device s'.device (others (f s.device) (Took s.host.inner.instant one.0) (f s'.device)) (Takes others (on_state s) (Some false) (on_state s'))
       (λ n. (one.0, n, one.2, ap on_state one.3))
-      (moves_so s.device s'.device (Took s.host.inner.moment one.0) one.1)
+      (moves_so s.device s'.device (Took s.host.inner.instant one.0) one.1)
   takes s s' (Some true) one =
-      both s.device one.1 s'.device (others (f s.device) (Took s.host.inner.moment one.0) (f one.1))
+      both s.device one.1 s'.device (others (f s.device) (Took s.host.inner.instant one.0) (f one.1))
       (Receives others one.4.0 (on_state (at_device s one.1)) (on_state s'))
       (Takes others (on_state s) (Some true) (on_state s'))
-      (λ n g. (one.0, f one.1, n, one.3, (one.4.0, one.4.1, g))) (moves_so s.device one.1 (Took s.host.inner.moment one.0) one.2)
+      (λ n g. (one.0, f one.1, n, one.3, (one.4.0, one.4.1, g))) (moves_so s.device one.1 (Took s.host.inner.instant one.0) one.2)
       (receives one.4.0 (at_device s one.1) s' one.4.2)
 
   -- STEPS

@@ -1,55 +1,55 @@
 -- The protocol that a frame names is the one that was sent.
 use Rattle.std.proofs.Common.{◌≡◌, ℕ, List, ◌++◌, Option, Some, refl, sym, subst, ap, ◌∙◌}
 use Rattle.net_base.specs.ChecksumCapabilities.{ChecksumCapabilities}
-use Rattle.interface_ingress.specs.HardwareAddress.{HardwareAddress}
-use Rattle.ip_packet.specs.declared.ip.repr.IpRepr.{IpRepr}
-use Rattle.ip_packet.specs.declared.ip.repr.IpRepr.TheVariants as Ip
-use Rattle.socket_base.specs.Packet.{PacketValue, PayloadValue, packet_of, payload_written}
-use Rattle.interface_egress.specs.Inner.{InnerValue}
-use Rattle.interface_ingress.specs.Incoming.{IncomingValue, IsContent}
-use Rattle.interface_ingress.specs.Sent.{AreSealed}
-use Rattle.interface_ingress.proofs.OneContent.{one-content}
-use Rattle.interface_egress.specs.Departure.{Departure, Asks, Tells, Whole, Part}
-use Rattle.interface_egress.specs.GoesOut.{frame_of}
-use Rattle.interface_egress.specs.declared.frame.CutHeader.TheVariants as Cut
-use Rattle.interface_egress.specs.declared.frame.Question.TheVariants as Query
+use Rattle.iface_ingress.specs.HardwareAddress.{HardwareAddress}
+use Rattle.wire_ip.specs.declared.ip.repr.IpRepr.{IpRepr}
+use Rattle.wire_ip.specs.declared.ip.repr.IpRepr.TheVariants as Ip
+use Rattle.socket_context.specs.Packet.{PacketValue, PayloadValue, packet_of, payload_written}
+use Rattle.iface_egress.specs.Inner.{InnerValue}
+use Rattle.iface_ingress.specs.Incoming.{IncomingValue, IsContent}
+use Rattle.iface_ingress.specs.Sent.{AreSealed}
+use Rattle.iface_ingress.proofs.OneContent.{one-content}
+use Rattle.iface_egress.specs.Departure.{Departure, Asks, Tells, Whole, Part}
+use Rattle.iface_egress.specs.IsTransmitted.{frame_of}
+use Rattle.iface_egress.specs.declared.frame.CutHeader.TheVariants as Cut
+use Rattle.iface_egress.specs.declared.frame.NeighborQuery.TheVariants as Query
 use Rattle.interface.specs.Delivered.{CanArrive, packet_read, read_from, read_of, protocol_read, protocol_sent, NamesNoPorts, HasNoPorts, SendsNoPorts}
-use Rattle.interface_ingress.proofs.Bare.{bare_v6}
-use Rattle.interface_egress.specs.Departure.{solicitation, solicitation_header}
-use Rattle.ip_packet.specs.Ip.{carried_in}
-use Rattle.ip_packet.specs.Ipv6 as Ipv6
-use Rattle.ip_packet.specs.declared.ipv6.repr.Ipv6Repr.{Ipv6Repr}
+use Rattle.iface_ingress.proofs.Bare.{bare_v6}
+use Rattle.iface_egress.specs.Departure.{solicitation, solicitation_header}
+use Rattle.wire_ip.specs.Ip.{carried_in}
+use Rattle.wire_ip.specs.Ipv6 as Ipv6
+use Rattle.wire_ip.specs.declared.ipv6.repr.Ipv6Repr.{Ipv6Repr}
 use Rattle.interface.proofs.Arrives.{arrives}
 
-packet_names : (caps : ChecksumCapabilities) (own to : HardwareAddress) (h : IpRepr) (x : PayloadValue) →
-    protocol_read (packet_read caps own to (packet_of h x)) ≡ protocol_sent (Whole to (packet_of h x))
-packet_names caps own to (Ip.Ipv4 v) x = refl
-packet_names caps own to (Ip.Ipv6 v) x = refl
+packet_names : (caps : ChecksumCapabilities) (local to : HardwareAddress) (h : IpRepr) (x : PayloadValue) →
+    protocol_read (packet_read caps local to (packet_of h x)) ≡ protocol_sent (Whole to (packet_of h x))
+packet_names caps local to (Ip.Ipv4 v) x = refl
+packet_names caps local to (Ip.Ipv6 v) x = refl
 
-names : (own : HardwareAddress) (caps : ChecksumCapabilities) (d : Departure) → protocol_read (read_from own caps d) ≡ protocol_sent d
-names own caps (Asks (Query.Arp from source target)) = refl
-names own caps (Asks (Query.Neighbor from source target)) = refl
-names own caps (Tells packet) = refl
-names own caps (Whole to p) = packet_names caps own to p.header p.payload
-names own caps (Part to (Cut.Ipv4 header) p) = refl
-names own caps (Part to (Cut.Ipv6 header number) p) = refl
+names : (local : HardwareAddress) (caps : ChecksumCapabilities) (d : Departure) → protocol_read (read_from local caps d) ≡ protocol_sent d
+names local caps (Asks (Query.Arp from source target)) = refl
+names local caps (Asks (Query.Neighbor from source target)) = refl
+names local caps (Tells packet) = refl
+names local caps (Whole to p) = packet_names caps local to p.header p.payload
+names local caps (Part to (Cut.Ipv4 header) p) = refl
+names local caps (Part to (Cut.Ipv6 header number) p) = refl
 
-packet_free : (caps : ChecksumCapabilities) (own to : HardwareAddress) (h : IpRepr) (x : PayloadValue) → SendsNoPorts caps (Whole to (packet_of h x)) →
-    HasNoPorts (packet_read caps own to (packet_of h x))
-packet_free caps own to (Ip.Ipv4 v) x free = free
-packet_free caps own to (Ip.Ipv6 v) x free = free
+packet_free : (caps : ChecksumCapabilities) (local to : HardwareAddress) (h : IpRepr) (x : PayloadValue) → SendsNoPorts caps (Whole to (packet_of h x)) →
+    HasNoPorts (packet_read caps local to (packet_of h x))
+packet_free caps local to (Ip.Ipv4 v) x free = free
+packet_free caps local to (Ip.Ipv6 v) x free = free
 
-is_free : (own : HardwareAddress) (caps : ChecksumCapabilities) (d : Departure) → SendsNoPorts caps d → HasNoPorts (read_from own caps d)
-is_free own caps (Asks (Query.Arp from source target)) free = tt
-is_free own caps (Asks (Query.Neighbor from source target)) free =
+is_free : (local : HardwareAddress) (caps : ChecksumCapabilities) (d : Departure) → SendsNoPorts caps d → HasNoPorts (read_from local caps d)
+is_free local caps (Asks (Query.Arp from source target)) free = tt
+is_free local caps (Asks (Query.Neighbor from source target)) free =
     let packet : PacketValue = solicitation from source target in
     let header : Ipv6Repr = Ipv6.normal (solicitation_header source target) in
-    let straight = bare_v6 header (payload_written caps packet.header packet.payload) refl in
-    subst (λ (h : IpRepr). NamesNoPorts (carried_in h)) (sym straight.0) (λ is. absurd cc, λ is. absurd cc)
-is_free own caps (Tells packet) free = tt
-is_free own caps (Whole to p) free = packet_free caps own to p.header p.payload free
-is_free own caps (Part to (Cut.Ipv4 header) p) free = free
-is_free own caps (Part to (Cut.Ipv6 header number) p) free = free
+    let direct = bare_v6 header (payload_written caps packet.header packet.payload) refl in
+    subst (λ (h : IpRepr). NamesNoPorts (carried_in h)) (sym direct.0) (λ is. absurd cc, λ is. absurd cc)
+is_free local caps (Tells packet) free = tt
+is_free local caps (Whole to p) free = packet_free caps local to p.header p.payload free
+is_free local caps (Part to (Cut.Ipv4 header) p) free = free
+is_free local caps (Part to (Cut.Ipv6 header number) p) free = free
 
 some_is : (x y : IncomingValue) → (let o : Option IncomingValue = Some x in o) ≡ Some y → x ≡ y
 some_is x y is = cc

@@ -4,27 +4,27 @@ use Rattle.std.proofs.Common.{length-drop, arith}
 use Rattle.std.specs.Prelude.{nat_lt}
 use Rattle.std.proofs.lemmas.Bool.Decides.{nat_tests}
 use Rattle.net_base.specs.Device.{Move}
-use Rattle.interface_ingress.specs.HardwareAddress.{HardwareAddress}
-use Rattle.ip_packet.specs.Ip as Ips
-use Rattle.ip_packet.specs.declared.ip.repr.IpRepr.{IpRepr}
-use Rattle.ip_packet.specs.declared.ip.repr.IpRepr.TheVariants as Ip
-use Rattle.ip_packet.specs.declared.ipv4.repr.Ipv4Repr.{Ipv4Repr}
-use Rattle.socket_base.specs.Packet.{PacketValue, PayloadValue, ControlV4, ControlV6, Bytes, Datagram, Segment, packet_of, PayloadFits, IsSendable}
-use Rattle.socket_base.specs.Packet.{payload_written}
-use Rattle.interface_egress.specs.Inner.{InnerValue}
-use Rattle.interface_ingress.specs.Sent.{CanBeRead, AreSealed}
-use Rattle.interface_ingress.proofs.FramesArrive.{payload-brought}
-use Rattle.interface_egress.specs.Departure.{Departure, Asks, Whole, piece_header_len}
-use Rattle.interface_egress.specs.Fragments.{LeftValue, piece_room, next_piece, departure_from, cut_mtu, left_after}
-use Rattle.interface_egress.specs.GoesOut.{GoesOut, PieceGoesOut, Departs, numbered_v4, numbered_header, numbered, cut_header, cut_of}
-use Rattle.interface_egress.specs.Plan.{longest_cut, total_len, has_extensions, plan_of, IsPacket}
-use Rattle.interface_egress.specs.declared.frame.Question.{Question}
-use Rattle.interface_egress.specs.declared.plan.Plan.{Plan}
-use Rattle.interface_egress.specs.declared.plan.Plan.TheVariants as Way
-use Rattle.interface_egress.specs.declared.way_out.Sent.TheVariants as Outcome
-use Rattle.interface_egress.proofs.Planned.{plan_cases}
-use Rattle.interface.specs.Delivered.{CanArrive, IsCutValue, IsWritable, IsWritablePiece}
-use Rattle.interface.specs.Taken.{Reader, CanRead, Arrives, IsCarriedTo, HasWidths, IsOffered, IsHalfSent}
+use Rattle.iface_ingress.specs.HardwareAddress.{HardwareAddress}
+use Rattle.wire_ip.specs.Ip as Ips
+use Rattle.wire_ip.specs.declared.ip.repr.IpRepr.{IpRepr}
+use Rattle.wire_ip.specs.declared.ip.repr.IpRepr.TheVariants as Ip
+use Rattle.wire_ip.specs.declared.ipv4.repr.Ipv4Repr.{Ipv4Repr}
+use Rattle.socket_context.specs.Packet.{PacketValue, PayloadValue, ControlV4, ControlV6, Bytes, Datagram, Segment, packet_of, PayloadFits, IsSendable}
+use Rattle.socket_context.specs.Packet.{payload_written}
+use Rattle.iface_egress.specs.Inner.{InnerValue}
+use Rattle.iface_ingress.specs.Sent.{CanBeRead, AreSealed}
+use Rattle.iface_ingress.proofs.FramesArrive.{payload-brought}
+use Rattle.iface_egress.specs.Departure.{Departure, Asks, Whole, fragment_header_len}
+use Rattle.iface_egress.specs.Fragments.{LeftValue, fragment_room, next_fragment, departure_from, cut_mtu, left_after}
+use Rattle.iface_egress.specs.IsTransmitted.{IsTransmitted, FragmentIsTransmitted, Departs, numbered_v4, numbered_header, numbered, cut_header, cut_of}
+use Rattle.iface_egress.specs.Plan.{longest_cut, total_len, has_extensions, plan_of, IsPacket}
+use Rattle.iface_egress.specs.declared.frame.NeighborQuery.{NeighborQuery}
+use Rattle.iface_egress.specs.declared.plan.Plan.{Plan}
+use Rattle.iface_egress.specs.declared.plan.Plan.TheVariants as Way
+use Rattle.iface_egress.specs.declared.egress_path.Sent.TheVariants as Outcome
+use Rattle.iface_egress.proofs.Planned.{plan_cases}
+use Rattle.interface.specs.Delivered.{CanArrive, IsCutValue, IsWritable, IsWritableFragment}
+use Rattle.interface.specs.TransmittedFrame.{Reader, CanRead, Arrives, IsCarriedTo, HasWidths, IsOffered, IsHalfSent}
 use Rattle.interface.proofs.Arrives.{arrives, length-written}
 
 -- THE NUMBER: it stands in the header alone
@@ -39,7 +39,7 @@ fits_v4 i v (Segment tcp bytes) fits = fits
 writable : (i : InnerValue) (h : IpRepr) (x : PayloadValue) → i.ident < 2 ^ 16 → IsWritable (packet_of h x) → IsWritable (numbered i (packet_of h x))
 writable i (Ip.Ipv4 v) x small w = record {
   sendable = record { header = w.sendable.header; payload = fits_v4 i v x w.sendable.payload; len = w.sendable.len };
-  header = record { source = w.header.source; destination = w.header.destination; identification = small; protocol = w.header.protocol; hops = w.header.hops };
+  header = record { source = w.header.source; destination = w.header.destination; identification = small; protocol = w.header.protocol; hop_limit = w.header.hop_limit };
   payload = w.payload;
 }
 writable i (Ip.Ipv6 v) x small w = w
@@ -97,12 +97,12 @@ taken moves old new i d reader departs sealed can =
 pub whole : {D : Type 0} (moves : D → Move → D →
     Type 0) (old new : D) (i i' : InnerValue) (l l' : Option LeftValue) (busy : Bool) (p : PacketValue) (to : HardwareAddress) (reader : Reader) →
     HasWidths i → IsOffered p
-    → plan_of i busy p.header ≡ Way.Go to → GoesOut moves old i l p (plan_of i busy p.header) Outcome.Gone new i' l' → CanRead i to reader →
+    → plan_of i busy p.header ≡ Way.Go to → IsTransmitted moves old i l p (plan_of i busy p.header) Outcome.Gone new i' l' → CanRead i to reader →
     Arrives moves old i (Whole to (numbered i p)) reader new
 whole moves old new i i' l l' busy p to reader wide offered plan goes can =
-    let went : GoesOut moves old i l p (Way.Go to) Outcome.Gone new i' l' = subst (λ (x : Plan). GoesOut moves old i l p x Outcome.Gone new i' l') plan goes in
+    let was_sent : IsTransmitted moves old i l p (Way.Go to) Outcome.Gone new i' l' = subst (λ (x : Plan). IsTransmitted moves old i l p x Outcome.Gone new i' l') plan goes in
     let short : total_len p.header ≤ i.mtu = go_short i busy p.header to plan in
-    taken moves old new i (Whole to (numbered i p)) reader went.0.0 can.sealed (can.medium, writes i p wide offered (omega (arith, short, wide.mtu)))
+    taken moves old new i (Whole to (numbered i p)) reader was_sent.0.0 can.sealed (can.medium, writes i p wide offered (omega (arith, short, wide.mtu)))
 
 pub carried : (i : InnerValue) (busy : Bool) (p : PacketValue) (to : HardwareAddress) (reader : Reader) → HasWidths i → IsOffered p →
     plan_of i busy p.header ≡ Way.Go to → CanRead i to reader → CanBeRead p.header p.payload
@@ -114,19 +114,19 @@ carried i busy p to reader wide offered plan can reads =
 
 -- PIECES
 
-later_piece : (mtu : ℕ) (l : LeftValue) → IsHalfSent l → IsWritablePiece l.header (next_piece mtu l)
-later_piece mtu l half = record {
+later_fragment : (mtu : ℕ) (l : LeftValue) → IsHalfSent l → IsWritableFragment l.header (next_fragment mtu l)
+later_fragment mtu l half = record {
   header_is = half.header_is;
-  short = omega (arith, half.short, length-take {A = ℕ} (piece_room l.header mtu) (drop l.at l.payload), length-drop {A = ℕ} l.at l.payload);
+  short = omega (arith, half.short, length-take {A = ℕ} (fragment_room l.header mtu) (drop l.at l.payload), length-drop {A = ℕ} l.at l.payload);
   within = omega (arith, half.short, half.within);
   unit = half.unit;
 }
 
 pub later : {D : Type 0} (moves : D → Move → D → Type 0) (old new : D) (i : InnerValue) (l : LeftValue) (l' : Option LeftValue) (reader : Reader) →
-    IsHalfSent l → PieceGoesOut moves old i l true new l' → CanRead i l.to reader
+    IsHalfSent l → FragmentIsTransmitted moves old i l true new l' → CanRead i l.to reader
     → Arrives moves old i (departure_from i l) reader new
 later moves old new i l l' reader half goes can =
-    taken moves old new i (departure_from i l) reader goes.0 can.sealed (can.medium, later_piece (cut_mtu i l) l half)
+    taken moves old new i (departure_from i l) reader goes.0 can.sealed (can.medium, later_fragment (cut_mtu i l) l half)
 
 -- the header of what is cut
 cut_value : (i : InnerValue) (h : IpRepr) → HasWidths i → Ips.IsValue h → IsCutValue (cut_header i h)
@@ -135,12 +135,12 @@ cut_value i (Ip.Ipv4 v) wide value = record {
   destination = value.destination;
   identification = wide.ident;
   protocol = value.protocol;
-  hops = value.hops;
+  hop_limit = value.hop_limit;
 }
 cut_value i (Ip.Ipv6 v) wide value = (value, omega (arith, wide.ident))
 
 cut_room : (i : InnerValue) (h : IpRepr) (n : ℕ) → total_len h ≤ longest_cut → Ips.payload_len_of (numbered_header i h) ≡ n →
-    piece_header_len (cut_header i h) + n < 2 ^ 16
+    fragment_header_len (cut_header i h) + n < 2 ^ 16
 cut_room i (Ip.Ipv4 v) n short len = omega (arith, short, len)
 cut_room i (Ip.Ipv6 v) n short len = omega (arith, short, len)
 
@@ -160,37 +160,37 @@ begun_half i busy p to wide offered plan =
 pub first : {D : Type 0} (moves : D → Move → D →
     Type 0) (old new : D) (i i' : InnerValue) (l l' : Option LeftValue) (busy : Bool) (p : PacketValue) (to : HardwareAddress)
     (reader : Reader) → HasWidths i → IsOffered p
-    → plan_of i busy p.header ≡ Way.Cut to → GoesOut moves old i l p (plan_of i busy p.header) Outcome.Gone new i' l' → CanRead i to reader
+    → plan_of i busy p.header ≡ Way.Cut to → IsTransmitted moves old i l p (plan_of i busy p.header) Outcome.Gone new i' l' → CanRead i to reader
     → Arrives moves old i (departure_from i (cut_of i to p)) reader new
 first moves old new i i' l l' busy p to reader wide offered plan goes can =
-    let went : GoesOut moves old i l p (Way.Cut to) Outcome.Gone new i' l' =
-    subst (λ (x : Plan). GoesOut moves old i l p x Outcome.Gone new i' l') plan goes in
-    taken moves old new i (departure_from i (cut_of i to p)) reader went.0 can.sealed (
+    let was_sent : IsTransmitted moves old i l p (Way.Cut to) Outcome.Gone new i' l' =
+    subst (λ (x : Plan). IsTransmitted moves old i l p x Outcome.Gone new i' l') plan goes in
+    taken moves old new i (departure_from i (cut_of i to p)) reader was_sent.0 can.sealed (
       can.medium,
-      later_piece (cut_mtu i (cut_of i to p)) (cut_of i to p) (begun_half i busy p to wide offered plan),
+      later_fragment (cut_mtu i (cut_of i to p)) (cut_of i to p) (begun_half i busy p to wide offered plan),
     )
 
-left_by : (mtu : ℕ) (l : LeftValue) (b : Bool) → nat_lt (l.at + piece_room l.header mtu) (length l.payload) ≡ b → IsHalfSent l →
-    IfSome (cond b (Some (record l { at = l.at + piece_room l.header mtu })) None) IsHalfSent
+left_by : (mtu : ℕ) (l : LeftValue) (b : Bool) → nat_lt (l.at + fragment_room l.header mtu) (length l.payload) ≡ b → IsHalfSent l →
+    IfSome (cond b (Some (record l { at = l.at + fragment_room l.header mtu })) None) IsHalfSent
 left_by mtu l true is half =
-    let more : l.at + piece_room l.header mtu < length l.payload = grind (arith, nat_tests) in
+    let more : l.at + fragment_room l.header mtu < length l.payload = grind (arith, nat_tests) in
     record { header_is = half.header_is; short = half.short; within = omega (arith, more); unit = omega (arith, half.unit) }
 left_by mtu l false is half = tt
 
 pub left_half : (mtu : ℕ) (l : LeftValue) → IsHalfSent l → IfSome (left_after mtu l) IsHalfSent
-left_half mtu l half = left_by mtu l (nat_lt (l.at + piece_room l.header mtu) (length l.payload)) refl half
+left_half mtu l half = left_by mtu l (nat_lt (l.at + fragment_room l.header mtu) (length l.payload)) refl half
 
 -- QUESTIONS
 
 pub asked : {D : Type 0} (moves : D → Move → D →
-    Type 0) (old new : D) (i i' : InnerValue) (l l' : Option LeftValue) (busy : Bool) (p : PacketValue) (q : Question) (reader : Reader)
-    → plan_of i busy p.header ≡ Way.Ask q → GoesOut moves old i l p (plan_of i busy p.header) Outcome.Waits new i' l' →
+    Type 0) (old new : D) (i i' : InnerValue) (l l' : Option LeftValue) (busy : Bool) (p : PacketValue) (q : NeighborQuery) (reader : Reader)
+    → plan_of i busy p.header ≡ Way.Ask q → IsTransmitted moves old i l p (plan_of i busy p.header) Outcome.Waits new i' l' →
     CanArrive i.hardware reader.hardware (Asks q) → AreSealed i.checksums reader.checksums
     → Arrives moves old i (Asks q) reader new
 asked moves old new i i' l l' busy p q reader plan goes can sealed =
-    let went : GoesOut moves old i l p (Way.Ask q) Outcome.Waits new i' l' =
-    subst (λ (x : Plan). GoesOut moves old i l p x Outcome.Waits new i' l') plan goes in
-    taken moves old new i (Asks q) reader went.0.0 sealed can
+    let was_sent : IsTransmitted moves old i l p (Way.Ask q) Outcome.Waits new i' l' =
+    subst (λ (x : Plan). IsTransmitted moves old i l p x Outcome.Waits new i' l') plan goes in
+    taken moves old new i (Asks q) reader was_sent.0.0 sealed can
 
 pub told : {D : Type 0} (moves : D → Move → D → Type 0) (old new : D) (i : InnerValue) (d : Departure) (reader : Reader) → Departs moves old i d true new →
     CanArrive i.hardware reader.hardware d → AreSealed i.checksums reader.checksums

@@ -4,44 +4,44 @@ use Rattle.std.proofs.Common.{ap, ◌∙◌, subst, arith}
 use Rattle.net_base.specs.Device.{Move, Took, Empty, Allowed, Emitted, Denied}
 use Rattle.ip_wire.specs.Ip.{destination_of}
 use Rattle.ip_wire.specs.IpAddress.{IpAddress}
-use Rattle.interface_ingress.specs.Context.{ContextValue}
-use Rattle.interface_ingress.specs.Packet.{PacketValue}
-use Rattle.interface_ingress.specs.Offer as Answer
-use Rattle.interface_ingress.specs.Offer.TheVariants as Offer
-use Rattle.interface_ingress.specs.Sockets.{Offers, offered_by}
-use Rattle.interface_ingress.specs.Socket.{Socket}
-use Rattle.interface_tables.specs.Inner.{InnerValue}
-use Rattle.interface_egress.specs.declared.socket_meta.Meta.{Meta}
-use Rattle.interface_egress.specs.declared.socket_set.Item.{Item}
-use Rattle.interface_egress.specs.declared.socket_set.SocketStorage.{SocketStorage}
-use Rattle.interface_egress.specs.Departing.{SendsOnce, departure_by, was_taken}
-use Rattle.interface_egress.specs.Departure as Departures
-use Rattle.interface_egress.specs.Departure.{Departure}
-use Rattle.interface_egress.specs.Determined.{IsDetermined}
-use Rattle.interface_egress.specs.Fragments.{LeftValue, departure_from}
-use Rattle.interface_egress.specs.GoesOut.{GoesOut, PieceGoesOut, Departs, frame_of, frame_len_of}
-use Rattle.interface_egress.specs.Plan.{plan_of}
-use Rattle.interface_egress.specs.declared.way_out.Sent.{Sent}
-use Rattle.interface_egress.proofs.Changes.{changes, piece_sends}
-use Rattle.interface_egress.proofs.OneWay.{one_way, one_piece}
-use Rattle.interface_ingress.specs.Incoming.{IncomingValue}
-use Rattle.interface_ingress.proofs.OneContent.{one-content}
-use Rattle.interface_ingress.specs.Arrives as Replies
-use Rattle.interface_ingress.specs.Arrives.{ReplyValue, Arrived, ArrivesAs}
-use Rattle.interface_ingress.proofs.OneArrival.{one_arrives_as}
+use Rattle.iface_ingress.specs.Context.{ContextValue}
+use Rattle.iface_ingress.specs.Packet.{PacketValue}
+use Rattle.iface_ingress.specs.Offer as Answer
+use Rattle.iface_ingress.specs.Offer.TheVariants as Offer
+use Rattle.iface_ingress.specs.Sockets.{Offers, offered_by}
+use Rattle.iface_ingress.specs.Socket.{Socket}
+use Rattle.iface_tables.specs.Inner.{InnerValue}
+use Rattle.iface_egress.specs.declared.socket_meta.Meta.{Meta}
+use Rattle.iface_egress.specs.declared.socket_set.Item.{Item}
+use Rattle.iface_egress.specs.declared.socket_set.SocketStorage.{SocketStorage}
+use Rattle.iface_egress.specs.Departing.{SendsOnce, departure_by, was_taken}
+use Rattle.iface_egress.specs.Departure as Departures
+use Rattle.iface_egress.specs.Departure.{Departure}
+use Rattle.iface_egress.specs.Determined.{IsDetermined}
+use Rattle.iface_egress.specs.Fragments.{LeftValue, departure_from}
+use Rattle.iface_egress.specs.IsTransmitted.{IsTransmitted, FragmentIsTransmitted, Departs, frame_of, frame_len_of}
+use Rattle.iface_egress.specs.Plan.{plan_of}
+use Rattle.iface_egress.specs.declared.egress_path.Sent.{Sent}
+use Rattle.iface_egress.proofs.Changes.{changes, fragment_sends}
+use Rattle.iface_egress.proofs.OneWay.{one_way, one_fragment}
+use Rattle.iface_ingress.specs.Incoming.{IncomingValue}
+use Rattle.iface_ingress.proofs.OneContent.{one-content}
+use Rattle.iface_ingress.specs.Arrives as Replies
+use Rattle.iface_ingress.specs.Arrives.{ReplyValue, Arrived, ArrivesAs}
+use Rattle.iface_ingress.proofs.OneArrival.{one_arrives_as}
 use Rattle.interface.specs.Remote.{context_for}
 use Rattle.interface.specs.Awaited.{turn_of}
 use Rattle.interface.specs.Host.{Sender}
 use Rattle.interface.specs.Pass.{Pass, Passed, passed}
-use Rattle.interface.specs.WayOut.{Clears, Egress, PieceLeaves}
-use Rattle.interface.specs.Turn.{Leaves, SendsAs, SendsBy, Answers, TurnsIf, ItemTurns, PlaceTurns, is_waiting, let_through, turned_by, settled_by}
-use Rattle.interface.specs.Turn.{plan_at, held_at}
-use Rattle.interface.specs.Turn.{outcome_by, waits_until}
-use Rattle.interface.specs.declared.turn.Turned.{Turned}
-use Rattle.interface.specs.declared.turn.Turned.TheVariants as Turn
+use Rattle.interface.specs.EgressPath.{Clears, Egress, FragmentLeaves}
+use Rattle.interface.specs.Serve.{Leaves, SendsAs, SendsBy, Answers, TurnsIf, ItemTurns, ServesSlot, is_waiting, let_through, turned_by, settled_by}
+use Rattle.interface.specs.Serve.{plan_at, held_at}
+use Rattle.interface.specs.Serve.{outcome_by, waits_until}
+use Rattle.interface.specs.declared.serve.Served.{Served}
+use Rattle.interface.specs.declared.serve.Served.TheVariants as Turn
 use Rattle.interface.specs.State.{State, at_device}
-use Rattle.interface.specs.Egress.{EgressStep, sending, behind, if_changed}
-use Rattle.interface.specs.Ingress.{IngressStep, Takes, Receives, Reads, Replied, is_awaited, would_ask, is_read, sender_of, sender_with}
+use Rattle.interface.specs.Egress.{EgressStep, sending, following, if_changed}
+use Rattle.interface.specs.Ingress.{IngressStep, Takes, Receives, Reads, Replied, is_awaited, would_solicit, is_read, sender_of, sender_with}
 use Rattle.interface.specs.Polls.{Repeats, Polls, begun}
 use Rattle.interface.specs.Steady.{IsSteady}
 
@@ -98,13 +98,13 @@ module _ (one_offer : OneOffer) {D : Type 0} (moves : D → Move → D → Type 
   det_once old new i (Some d) taken once det = det_of old new i d taken once det
 
   det_out : (old new : D) (i i' : InnerValue) (l l' : Option LeftValue) (p : PacketValue) (busy : Bool) (sent : Sent) →
-      GoesOut moves old i l p (plan_of i busy p.header) sent new i' l' → Det old → Det new
+      IsTransmitted moves old i l p (plan_of i busy p.header) sent new i' l' → Det old → Det new
   det_out old new i i' l l' p busy sent goes =
       det_once old new i (departure_by i p (plan_of i busy p.header)) (was_taken sent) (changes moves old new i i' l l' p busy sent goes).0
 
   differ : (old new other : D) (i : InnerValue) (d : Departure) → Det old → Departs moves old i d true new → Departs moves old i d false other → ⊥
-  differ old new other i d det went denied =
-      steady.clear old new other (frame_of i d) det went.0 (subst (λ (n : ℕ). moves old (Denied n) other) (sym went.1) denied)
+  differ old new other i d det was_sent denied =
+      steady.clear old new other (frame_of i d) det was_sent.0 (subst (λ (n : ℕ). moves old (Denied n) other) (sym was_sent.1) denied)
 
   one_sent : (d : Departure) (old new other : D) (i : InnerValue) (a b : Bool) → Det old → Departs moves old i d a new →
       Departs moves old i d b other → new ≡ other
@@ -117,7 +117,7 @@ module _ (one_offer : OneOffer) {D : Type 0} (moves : D → Move → D → Type 
   SameOut s new j k t other j' k' = (s ≡ t) × (new ≡ other) × (j ≡ j') × (k ≡ k')
 
   one_out : (old new other : D) (i j j' : InnerValue) (l k k' : Option LeftValue) (p : PacketValue) (busy : Bool) (s t : Sent) → Det old
-      → GoesOut moves old i l p (plan_of i busy p.header) s new j k → GoesOut moves old i l p (plan_of i busy p.header) t other j' k' →
+      → IsTransmitted moves old i l p (plan_of i busy p.header) s new j k → IsTransmitted moves old i l p (plan_of i busy p.header) t other j' k' →
       SameOut s new j k t other j' k'
   one_out old new other i j j' l k k' p busy s t det one two =
       let o : Option Departure = departure_by i p (plan_of i busy p.header) in
@@ -143,43 +143,43 @@ module _ (one_offer : OneOffer) {D : Type 0} (moves : D → Move → D → Type 
     one_leaves : (x y z : Sender D) (m : Meta) (p : PacketValue) (s t : Sent) → Det x.device → Leaves moves turn x m p s y → Leaves moves turn x m p t z →
         (s ≡ t) × (y ≡ z)
     one_leaves x y z m p s t det (inl a) (inl b) =
-        let given : a.0 ≡ b.0 = one_given x.inner.moment a.0 b.0 x.device y.device z.device det a.1 b.1 in
-        let again : moves x.device (Allowed x.inner.moment a.0) z.device = subst (λ (g : Bool). moves x.device (Allowed x.inner.moment g) z.device)
+        let given : a.0 ≡ b.0 = one_given x.inner.instant a.0 b.0 x.device y.device z.device det a.1 b.1 in
+        let again : moves x.device (Allowed x.inner.instant a.0) z.device = subst (λ (g : Bool). moves x.device (Allowed x.inner.instant g) z.device)
         (sym given) b.1 in (
           same_sent s t (sym a.4 ∙ ap (λ (g : Bool). outcome_by g (held_at moves turn x m p)) given ∙ b.4),
-          same_sender y z (det.one_end y.device z.device (Allowed x.inner.moment a.0) a.1 again) (a.2 ∙ sym b.2) (a.3 ∙ sym b.3),
+          same_sender y z (det.one_end y.device z.device (Allowed x.inner.instant a.0) a.1 again) (a.2 ∙ sym b.2) (a.3 ∙ sym b.3),
         )
     one_leaves x y z m p s t det (inl a) (inr b) = absurd
-        (rests_or_goes x.inner.moment a.0 (held_at moves turn x m p) s x.device y.device b.0 det a.1 a.4 b.1 b.3)
+        (rests_or_goes x.inner.instant a.0 (held_at moves turn x m p) s x.device y.device b.0 det a.1 a.4 b.1 b.3)
     one_leaves x y z m p s t det (inr a) (inl b) = absurd
-        (rests_or_goes x.inner.moment b.0 (held_at moves turn x m p) t x.device z.device a.0 det b.1 b.4 a.1 a.3)
+        (rests_or_goes x.inner.instant b.0 (held_at moves turn x m p) t x.device z.device a.0 det b.1 b.4 a.1 a.3)
     one_leaves x y z m p s t det (inr a) (inr b) =
-        let mids : b.0 ≡ a.0 = det.one_end b.0 a.0 (Allowed x.inner.moment true) b.1 a.1 in
-        let two : GoesOut moves a.0 x.inner x.left p (plan_of x.inner (is_some x.left) p.header) t z.device z.inner z.left =
-        subst (λ (d : D). GoesOut moves d x.inner x.left p (plan_of x.inner (is_some x.left) p.header) t z.device z.inner z.left) mids b.2 in
+        let mids : b.0 ≡ a.0 = det.one_end b.0 a.0 (Allowed x.inner.instant true) b.1 a.1 in
+        let two : IsTransmitted moves a.0 x.inner x.left p (plan_of x.inner (is_some x.left) p.header) t z.device z.inner z.left =
+        subst (λ (d : D). IsTransmitted moves d x.inner x.left p (plan_of x.inner (is_some x.left) p.header) t z.device z.inner z.left) mids b.2 in
         let same = one_out a.0 y.device z.device x.inner y.inner z.inner x.left y.left z.left p (is_some x.left) s t
-        (steady.stays x.device a.0 (Allowed x.inner.moment true) det a.1) a.2 two in
+        (steady.stays x.device a.0 (Allowed x.inner.instant true) det a.1) a.2 two in
         (same.0, same_sender y z same.1 same.2 same.3)
 
     det_leaves : (x y : Sender D) (m : Meta) (p : PacketValue) (s : Sent) → Leaves moves turn x m p s y → Det x.device → Det y.device
-    det_leaves x y m p s (inl a) det = steady.stays x.device y.device (Allowed x.inner.moment a.0) det a.1
+    det_leaves x y m p s (inl a) det = steady.stays x.device y.device (Allowed x.inner.instant a.0) det a.1
     det_leaves x y m p s (inr a) det =
-        det_out a.0 y.device x.inner y.inner x.left y.left p (is_some x.left) s a.2 (steady.stays x.device a.0 (Allowed x.inner.moment true) det a.1)
+        det_out a.0 y.device x.inner y.inner x.left y.left p (is_some x.left) s a.2 (steady.stays x.device a.0 (Allowed x.inner.instant true) det a.1)
 
-    abbrev SameTurn : {A : Type 0} → Turned → Sender D → A → Turned → Sender D → A → Type 0
+    abbrev SameTurn : {A : Type 0} → Served → Sender D → A → Served → Sender D → A → Type 0
     SameTurn a y p b z q = (a ≡ b) × (y ≡ z) × (p ≡ q)
 
-    one_as : (p : PacketValue) (x y z : Sender D) (item m n : Item Socket) (changed : Bool) (a b : Turned) → Det x.device
+    one_as : (p : PacketValue) (x y z : Sender D) (item m n : Item Socket) (changed : Bool) (a b : Served) → Det x.device
         → SendsAs moves turn p x item changed a y m → SendsAs moves turn p x item changed b z n → SameTurn a y m b z n
     one_as p x y z item m n changed a b det one two =
         let same = one_leaves x y z item.meta p one.0 two.0 det one.1 two.1 in (
           one.2 ∙ ap (λ (s : Sent). turned_by s changed) same.0 ∙ sym two.2,
           same.1,
-          one.3 ∙ ap (λ (s : Sent). settled_by s x.inner.moment (waits_until (plan_at x p) y.inner) (destination_of p.header) item) same.0
-              ∙ ap (λ (v : Sender D). settled_by two.0 x.inner.moment (waits_until (plan_at x p) v.inner) (destination_of p.header) item) same.1 ∙ sym two.3,
+          one.3 ∙ ap (λ (s : Sent). settled_by s x.inner.instant (waits_until (plan_at x p) y.inner) (destination_of p.header) item) same.0
+              ∙ ap (λ (v : Sender D). settled_by two.0 x.inner.instant (waits_until (plan_at x p) v.inner) (destination_of p.header) item) same.1 ∙ sym two.3,
         )
 
-    one_sends : (o : Option PacketValue) (x y z : Sender D) (item m n : Item Socket) (changed : Bool) (a b : Turned) → Det x.device
+    one_sends : (o : Option PacketValue) (x y z : Sender D) (item m n : Item Socket) (changed : Bool) (a b : Served) → Det x.device
         → SendsBy moves turn o x item changed a y m → SendsBy moves turn o x item changed b z n → SameTurn a y m b z n
     one_sends None x y z item m n changed a b det one two = absurd one
     one_sends (Some p) x y z item m n changed a b det one two =
@@ -187,12 +187,12 @@ module _ (one_offer : OneOffer) {D : Type 0} (moves : D → Move → D → Type 
         one_as one.0 x y z item m n changed a b det one.3
         (subst (λ (q : PacketValue). SendsAs moves turn q x item changed b z n) same two.3)
 
-    det_sends : (o : Option PacketValue) (x y : Sender D) (item m : Item Socket) (changed : Bool) (a : Turned) → SendsBy moves turn o x item changed a y m →
+    det_sends : (o : Option PacketValue) (x y : Sender D) (item m : Item Socket) (changed : Bool) (a : Served) → SendsBy moves turn o x item changed a y m →
         Det x.device → Det y.device
     det_sends None x y item m changed a one det = absurd one
     det_sends (Some p) x y item m changed a one det = det_leaves x y item.meta one.0 one.3.0 one.3.1 det
 
-    one_answers : (answer : Answer.Offer) (x y z : Sender D) (item m n : Item Socket) (a b : Turned) → Det x.device
+    one_answers : (answer : Answer.Offer) (x y z : Sender D) (item m n : Item Socket) (a b : Served) → Det x.device
         → Answers moves turn answer x item a y m → Answers moves turn answer x item b z n → SameTurn a y m b z n
     one_answers (Offer.Silent changed) x y z item m n a b det one two = (one.0 ∙ sym two.0, one.1 ∙ sym two.1, one.2 ∙ sym two.2)
     one_answers (Offer.Packet changed) x y z item m n a b det one two = one_sends (offered_by item.socket) x y z item m n changed a b det one two
@@ -200,12 +200,12 @@ module _ (one_offer : OneOffer) {D : Type 0} (moves : D → Move → D → Type 
     det_same : (x y : Sender D) → y ≡ x → Det x.device → Det y.device
     det_same x y is det = subst (λ (v : Sender D). Det v.device) (sym is) det
 
-    det_answers : (answer : Answer.Offer) (x y : Sender D) (item m : Item Socket) (a : Turned) → Answers moves turn answer x item a y m → Det x.device →
+    det_answers : (answer : Answer.Offer) (x y : Sender D) (item m : Item Socket) (a : Served) → Answers moves turn answer x item a y m → Det x.device →
         Det y.device
     det_answers (Offer.Silent changed) x y item m a one det = det_same x y one.1 det
     det_answers (Offer.Packet changed) x y item m a one det = det_sends (offered_by item.socket) x y item m changed a one det
 
-    one_turn : (waits : Bool) (x y z : Sender D) (item m n : Item Socket) (a b : Turned) → Det x.device
+    one_turn : (waits : Bool) (x y z : Sender D) (item m n : Item Socket) (a b : Served) → Det x.device
         → TurnsIf moves turn waits x item a y m → TurnsIf moves turn waits x item b z n → SameTurn a y m b z n
     one_turn true x y z item m n a b det one two = (one.0 ∙ sym two.0, one.1 ∙ sym two.1, one.2 ∙ sym two.2)
     one_turn false x y z item m n a b det one two =
@@ -215,11 +215,11 @@ module _ (one_offer : OneOffer) {D : Type 0} (moves : D → Move → D → Type 
         (subst (λ (answer : Answer.Offer). Answers moves turn answer x (record item { socket = two.1 }) b z n) same.0 two.3) in
         one_answers one.0 x y z (record item { socket = one.1 }) m n a b det one.3 again
 
-    det_turn : (waits : Bool) (x y : Sender D) (item m : Item Socket) (a : Turned) → TurnsIf moves turn waits x item a y m → Det x.device → Det y.device
+    det_turn : (waits : Bool) (x y : Sender D) (item m : Item Socket) (a : Served) → TurnsIf moves turn waits x item a y m → Det x.device → Det y.device
     det_turn true x y item m a one det = det_same x y one.1 det
     det_turn false x y item m a one det = det_answers one.0 x y (record item { socket = one.1 }) m a one.3 det
 
-    one_item : (o p q : Option (Item Socket)) (x y z : Sender D) (a b : Turned) → Det x.device → ItemTurns moves turn o x a y p →
+    one_item : (o p q : Option (Item Socket)) (x y z : Sender D) (a b : Served) → Det x.device → ItemTurns moves turn o x a y p →
         ItemTurns moves turn o x b z q → SameTurn a y p b z q
     one_item None None None x y z a b det one two = (one.0 ∙ sym two.0, one.1 ∙ sym two.1, refl)
     one_item (Some item) (Some m) (Some n) x y z a b det one two =
@@ -230,83 +230,83 @@ module _ (one_offer : OneOffer) {D : Type 0} (moves : D → Move → D → Type 
     one_item (Some item) None q x y z a b det one two = absurd one
     one_item (Some item) (Some m) None x y z a b det one two = absurd two
 
-    det_item : (o p : Option (Item Socket)) (x y : Sender D) (a : Turned) → ItemTurns moves turn o x a y p → Det x.device → Det y.device
+    det_item : (o p : Option (Item Socket)) (x y : Sender D) (a : Served) → ItemTurns moves turn o x a y p → Det x.device → Det y.device
     det_item None None x y a one det = det_same x y one.1 det
     det_item (Some item) (Some m) x y a one det = det_turn (is_waiting x.inner item.meta) x y (let_through x.inner item) m a one det
     det_item None (Some m) x y a one det = absurd one
     det_item (Some item) None x y a one det = absurd one
 
-    one_place : (o p q : SocketStorage Socket) (x y z : Sender D) (a b : Turned) → Det x.device → PlaceTurns moves turn x o a y p →
-        PlaceTurns moves turn x o b z q → SameTurn a y p b z q
-    one_place o p q x y z a b det one two =
+    one_slot : (o p q : SocketStorage Socket) (x y z : Sender D) (a b : Served) → Det x.device → ServesSlot moves turn x o a y p →
+        ServesSlot moves turn x o b z q → SameTurn a y p b z q
+    one_slot o p q x y z a b det one two =
         let same = one_item o.inner p.inner q.inner x y z a b det one two in
         (same.0, same.1, λ k. record { inner = same.2 k })
 
-    det_place : (o p : SocketStorage Socket) (x y : Sender D) (a : Turned) → PlaceTurns moves turn x o a y p → Det x.device → Det y.device
-    det_place o p x y a one det = det_item o.inner p.inner x y a one det
+    det_slot : (o p : SocketStorage Socket) (x y : Sender D) (a : Served) → ServesSlot moves turn x o a y p → Det x.device → Det y.device
+    det_slot o p x y a one det = det_item o.inner p.inner x y a one det
 
   -- THE WAY OUT
 
-  abbrev Places : Type 0
-  Places = List (SocketStorage Socket)
+  abbrev Slots : Type 0
+  Slots = List (SocketStorage Socket)
 
-  one_pass : (turn : Option IpAddress) (ps before : Places) (x : Sender D) (changed : Bool) (e f : Passed D) → Det x.device →
+  one_pass : (turn : Option IpAddress) (ps before : Slots) (x : Sender D) (changed : Bool) (e f : Passed D) → Det x.device →
       Pass moves turn x before changed ps e → Pass moves turn x before changed ps f → e ≡ f
   one_pass turn [] before x changed e f det one two = one ∙ sym two
   one_pass turn (p ∷ ps) before x changed e f det (inl a) (inl b) =
-      let same = one_place turn p b.2 a.2 x b.1 a.1 (Turn.Next b.0) (Turn.Next a.0) det b.3 a.3 in
+      let same = one_slot turn p b.2 a.2 x b.1 a.1 (Turn.Next b.0) (Turn.Next a.0) det b.3 a.3 in
       let two : Pass moves turn a.1 (before ++ a.2 ∷ []) (changed || a.0) ps f =
       subst (λ (v : Bool). Pass moves turn a.1 (before ++ a.2 ∷ []) (changed || v) ps f) (same_next b.0 a.0 same.0)
       (subst (λ (v : SocketStorage Socket). Pass moves turn a.1 (before ++ v ∷ []) (changed || b.0) ps f) same.2
       (subst (λ (v : Sender D). Pass moves turn v (before ++ b.2 ∷ []) (changed || b.0) ps f) same.1 b.4)) in
-      one_pass turn ps (before ++ a.2 ∷ []) a.1 (changed || a.0) e f (det_place turn p a.2 x a.1 (Turn.Next a.0) a.3 det) a.4 two
+      one_pass turn ps (before ++ a.2 ∷ []) a.1 (changed || a.0) e f (det_slot turn p a.2 x a.1 (Turn.Next a.0) a.3 det) a.4 two
   one_pass turn (p ∷ ps) before x changed e f det (inl a) (inr b) =
-      absurd (next_or_stop a.0 b.0 (one_place turn p a.2 b.2 x a.1 b.1 (Turn.Next a.0) (Turn.Stop b.0) det a.3 b.3).0)
+      absurd (next_or_stop a.0 b.0 (one_slot turn p a.2 b.2 x a.1 b.1 (Turn.Next a.0) (Turn.Stop b.0) det a.3 b.3).0)
   one_pass turn (p ∷ ps) before x changed e f det (inr a) (inl b) =
-      absurd (next_or_stop b.0 a.0 (one_place turn p b.2 a.2 x b.1 a.1 (Turn.Next b.0) (Turn.Stop a.0) det b.3 a.3).0)
+      absurd (next_or_stop b.0 a.0 (one_slot turn p b.2 a.2 x b.1 a.1 (Turn.Next b.0) (Turn.Stop a.0) det b.3 a.3).0)
   one_pass turn (p ∷ ps) before x changed e f det (inr a) (inr b) =
-      let same = one_place turn p a.2 b.2 x a.1 b.1 (Turn.Stop a.0) (Turn.Stop b.0) det a.3 b.3 in
+      let same = one_slot turn p a.2 b.2 x a.1 b.1 (Turn.Stop a.0) (Turn.Stop b.0) det a.3 b.3 in
       a.4 ∙ ap (λ (v : Bool). passed a.1 (before ++ a.2 ∷ ps) (changed || v)) (same_stop a.0 b.0 same.0)
       ∙ ap (λ (v : SocketStorage Socket). passed a.1 (before ++ v ∷ ps) (changed || b.0)) same.2
       ∙ ap (λ (v : Sender D). passed v (before ++ b.2 ∷ ps) (changed || b.0)) same.1 ∙ sym b.4
 
-  det_pass : (turn : Option IpAddress) (ps before : Places) (x : Sender D) (changed : Bool) (e : Passed D) → Pass moves turn x before changed ps e →
+  det_pass : (turn : Option IpAddress) (ps before : Slots) (x : Sender D) (changed : Bool) (e : Passed D) → Pass moves turn x before changed ps e →
       Det x.device → Det e.sender.device
   det_pass turn [] before x changed e one det = subst (λ (v : Passed D). Det v.sender.device) (sym one) det
   det_pass turn (p ∷ ps) before x changed e (inl a) det =
-      det_pass turn ps (before ++ a.2 ∷ []) a.1 (changed || a.0) e a.4 (det_place turn p a.2 x a.1 (Turn.Next a.0) a.3 det)
+      det_pass turn ps (before ++ a.2 ∷ []) a.1 (changed || a.0) e a.4 (det_slot turn p a.2 x a.1 (Turn.Next a.0) a.3 det)
   det_pass turn (p ∷ ps) before x changed e (inr a) det =
-      subst (λ (v : Passed D). Det v.sender.device) (sym a.4) (det_place turn p a.2 x a.1 (Turn.Stop a.0) a.3 det)
+      subst (λ (v : Passed D). Det v.sender.device) (sym a.4) (det_slot turn p a.2 x a.1 (Turn.Stop a.0) a.3 det)
 
-  one_piece_leaves : (l : LeftValue) (x y z : Sender D) (a b : Bool) → Det x.device → y.inner ≡ x.inner → z.inner ≡ x.inner → PieceLeaves moves l x a y →
-      PieceLeaves moves l x b z → (a ≡ b) × (y ≡ z)
-  one_piece_leaves l x y z a b det i j (inl one) (inl two) =
-      (one.1 ∙ sym two.1, same_sender y z (det.one_end y.device z.device (Allowed x.inner.moment false) one.0 two.0) (i ∙ sym j) (one.2 ∙ sym two.2))
-  one_piece_leaves l x y z a b det i j (inl one) (inr two) = absurd (det.gives x.inner.moment two.0 y.device two.1 one.0)
-  one_piece_leaves l x y z a b det i j (inr one) (inl two) = absurd (det.gives x.inner.moment one.0 z.device one.1 two.0)
-  one_piece_leaves l x y z a b det i j (inr one) (inr two) =
-      let mids : two.0 ≡ one.0 = det.one_end two.0 one.0 (Allowed x.inner.moment true) two.1 one.1 in
-      let again : PieceGoesOut moves one.0 x.inner l b z.device z.left = subst (λ (d : D). PieceGoesOut moves d x.inner l b z.device z.left) mids two.2 in
-      let here : Det one.0 = steady.stays x.device one.0 (Allowed x.inner.moment true) det one.1 in
+  one_fragment_leaves : (l : LeftValue) (x y z : Sender D) (a b : Bool) → Det x.device → y.inner ≡ x.inner → z.inner ≡ x.inner → FragmentLeaves moves l x a y →
+      FragmentLeaves moves l x b z → (a ≡ b) × (y ≡ z)
+  one_fragment_leaves l x y z a b det i j (inl one) (inl two) =
+      (one.1 ∙ sym two.1, same_sender y z (det.one_end y.device z.device (Allowed x.inner.instant false) one.0 two.0) (i ∙ sym j) (one.2 ∙ sym two.2))
+  one_fragment_leaves l x y z a b det i j (inl one) (inr two) = absurd (det.gives x.inner.instant two.0 y.device two.1 one.0)
+  one_fragment_leaves l x y z a b det i j (inr one) (inl two) = absurd (det.gives x.inner.instant one.0 z.device one.1 two.0)
+  one_fragment_leaves l x y z a b det i j (inr one) (inr two) =
+      let mids : two.0 ≡ one.0 = det.one_end two.0 one.0 (Allowed x.inner.instant true) two.1 one.1 in
+      let again : FragmentIsTransmitted moves one.0 x.inner l b z.device z.left = subst (λ (d : D). FragmentIsTransmitted moves d x.inner l b z.device z.left) mids two.2 in
+      let here : Det one.0 = steady.stays x.device one.0 (Allowed x.inner.instant true) det one.1 in
       let n : ℕ = frame_len_of x.inner (departure_from x.inner l) in
-      let same = one_piece moves n one.0 (of_length n one.0 here) x.inner l (omega arith) a b y.device z.device y.left z.left one.2 again in
+      let same = one_fragment moves n one.0 (of_length n one.0 here) x.inner l (omega arith) a b y.device z.device y.left z.left one.2 again in
       (same.0, same_sender y z same.1 (i ∙ sym j) same.2)
 
-  det_piece_leaves : (l : LeftValue) (x y : Sender D) (a : Bool) → PieceLeaves moves l x a y → Det x.device → Det y.device
-  det_piece_leaves l x y a (inl one) det = steady.stays x.device y.device (Allowed x.inner.moment false) det one.0
-  det_piece_leaves l x y a (inr one) det =
-      det_of one.0 y.device x.inner (departure_from x.inner l) a (piece_sends moves one.0 y.device x.inner l y.left a one.2)
-      (steady.stays x.device one.0 (Allowed x.inner.moment true) det one.1)
+  det_fragment_leaves : (l : LeftValue) (x y : Sender D) (a : Bool) → FragmentLeaves moves l x a y → Det x.device → Det y.device
+  det_fragment_leaves l x y a (inl one) det = steady.stays x.device y.device (Allowed x.inner.instant false) det one.0
+  det_fragment_leaves l x y a (inr one) det =
+      det_of one.0 y.device x.inner (departure_from x.inner l) a (fragment_sends moves one.0 y.device x.inner l y.left a one.2)
+      (steady.stays x.device one.0 (Allowed x.inner.instant true) det one.1)
 
   one_clears : (l : Option LeftValue) (x y z : Sender D) (a b : Bool) → Det x.device → Clears moves l x a y → Clears moves l x b z → (a ≡ b) × (y ≡ z)
   one_clears None x y z a b det one two = (one.0 ∙ sym two.0, one.1 ∙ sym two.1)
-  one_clears (Some l) x y z a b det one two = one_piece_leaves l x y z a b det one.1 two.1 one.0 two.0
+  one_clears (Some l) x y z a b det one two = one_fragment_leaves l x y z a b det one.1 two.1 one.0 two.0
 
   det_clears : (l : Option LeftValue) (x y : Sender D) (a : Bool) → Clears moves l x a y → Det x.device → Det y.device
   det_clears None x y a one det = det_same None x y one.1 det
-  det_clears (Some l) x y a one det = det_piece_leaves l x y a one.0 det
+  det_clears (Some l) x y a one det = det_fragment_leaves l x y a one.0 det
 
-  one_egress : (x : Sender D) (ps : Places) (e f : Passed D) → Det x.device → Egress moves x ps e → Egress moves x ps f → e ≡ f
+  one_egress : (x : Sender D) (ps : Slots) (e f : Passed D) → Det x.device → Egress moves x ps e → Egress moves x ps f → e ≡ f
   one_egress x ps e f det (inl a) (inl b) =
       a.2 ∙ ap (λ (v : Sender D). passed v ps false) (one_clears x.left x a.0 b.0 false false det a.1 b.1).1 ∙ sym b.2
   one_egress x ps e f det (inl a) (inr b) = absurd (let same = (one_clears x.left x a.0 b.0 false true det a.1 b.1).0 in cc)
@@ -316,7 +316,7 @@ module _ (one_offer : OneOffer) {D : Type 0} (moves : D → Move → D → Type 
       one_pass (turn_of a.0.inner ps) ps [] a.0 false e f (det_clears x.left x a.0 true a.1 det) a.2
       (subst (λ (v : Sender D). Pass moves (turn_of v.inner ps) v [] false ps f) same.1 b.2)
 
-  det_egress : (x : Sender D) (ps : Places) (e : Passed D) → Egress moves x ps e → Det x.device → Det e.sender.device
+  det_egress : (x : Sender D) (ps : Slots) (e : Passed D) → Egress moves x ps e → Det x.device → Det e.sender.device
   det_egress x ps e (inl a) det = subst (λ (v : Passed D). Det v.sender.device) (sym a.2) (det_clears x.left x a.0 false a.1 det)
   det_egress x ps e (inr a) det = det_pass (turn_of a.0.inner ps) ps [] a.0 false e a.2 (det_clears x.left x a.0 true a.1 det)
 
@@ -326,11 +326,11 @@ module _ (one_offer : OneOffer) {D : Type 0} (moves : D → Move → D → Type 
   module _ (t : ℤ) where
     out_one : (o s r : State D) (a b : Option Bool) → Det o.device → EgressStep moves t o a s → EgressStep moves t o b r → SameStep a s b r
     out_one o s r a b det one two =
-        let same : one.0 ≡ two.0 = one_egress (sending t o) o.places one.0 two.0 det one.1 two.1 in
-        (one.3 ∙ ap (λ (v : Passed D). if_changed v.changed) same ∙ sym two.3, one.2 ∙ ap (behind o.host) same ∙ sym two.2)
+        let same : one.0 ≡ two.0 = one_egress (sending t o) o.slots one.0 two.0 det one.1 two.1 in
+        (one.3 ∙ ap (λ (v : Passed D). if_changed v.changed) same ∙ sym two.3, one.2 ∙ ap (following o.host) same ∙ sym two.2)
 
     out_det : (o s : State D) (a : Option Bool) → EgressStep moves t o a s → Det o.device → Det s.device
-    out_det o s a one det = subst (λ (v : State D). Det v.device) (sym one.2) (det_egress (sending t o) o.places one.0 one.1 det)
+    out_det o s a one det = subst (λ (v : State D). Det v.device) (sym one.2) (det_egress (sending t o) o.slots one.0 one.1 det)
 
   -- THE WAY IN
 
@@ -341,8 +341,8 @@ module _ (one_offer : OneOffer) {D : Type 0} (moves : D → Move → D → Type 
       same_sender y z (one_sent (Departures.Tells packet) x.device y.device z.device x.inner one.0 two.0 det one.1 two.1) (one.2 ∙
       sym two.2) (one.3 ∙ sym two.3)
   one_replied awaited (Some (Replies.Answers p)) x y z det (inl one) (inl two) = one.0 ∙ sym two.0
-  one_replied awaited (Some (Replies.Answers p)) x y z det (inl one) (inr two) = absurd (both_read (awaited && would_ask x p) one.1 two.3)
-  one_replied awaited (Some (Replies.Answers p)) x y z det (inr one) (inl two) = absurd (both_read (awaited && would_ask x p) two.1 one.3)
+  one_replied awaited (Some (Replies.Answers p)) x y z det (inl one) (inr two) = absurd (both_read (awaited && would_solicit x p) one.1 two.3)
+  one_replied awaited (Some (Replies.Answers p)) x y z det (inr one) (inl two) = absurd (both_read (awaited && would_solicit x p) two.1 one.3)
   one_replied awaited (Some (Replies.Answers p)) x y z det (inr one) (inr two) =
       let same = one_out x.device y.device z.device x.inner y.inner z.inner x.left y.left z.left p (is_some x.left) one.0 two.0 det one.1 two.1 in
       same_sender y z same.1 same.2 same.3
@@ -353,20 +353,20 @@ module _ (one_offer : OneOffer) {D : Type 0} (moves : D → Move → D → Type 
   det_replied awaited (Some (Replies.Answers p)) x y (inl one) det = det_same None x y one.0 det
   det_replied awaited (Some (Replies.Answers p)) x y (inr one) det = det_out x.device y.device x.inner y.inner x.left y.left p (is_some x.left) one.0 one.1 det
 
-  same_state : (s r : State D) → s.device ≡ r.device → s.host.inner ≡ r.host.inner → s.host.left ≡ r.host.left → s.host.slots ≡ r.host.slots →
-      s.host.timeout ≡ r.host.timeout → s.places ≡ r.places → s ≡ r
-  same_state s r devices inners lefts slots timeouts places =
-      λ k. record { device = devices k; host = record { inner = inners k; left = lefts k; slots = slots k; timeout = timeouts k }; places = places k }
+  same_state : (s r : State D) → s.device ≡ r.device → s.host.inner ≡ r.host.inner → s.host.left ≡ r.host.left → s.host.assemblers ≡ r.host.assemblers →
+      s.host.timeout ≡ r.host.timeout → s.slots ≡ r.slots → s ≡ r
+  same_state s r devices inners lefts assemblers timeouts slots =
+      λ k. record { device = devices k; host = record { inner = inners k; left = lefts k; assemblers = assemblers k; timeout = timeouts k }; slots = slots k }
 
   one_receives : (content : Option IncomingValue) (o s r : State D) → Det o.device → Receives moves content o s → Receives moves content o r → s ≡ r
   one_receives content o s r det one two =
-      let same = one_arrives_as o.host.inner o.host.timeout o.host.slots o.places content r.host.slots s.host.slots two.0 one.0 two.1 one.1 in
+      let same = one_arrives_as o.host.inner o.host.timeout o.host.assemblers o.slots content r.host.assemblers s.host.assemblers two.0 one.0 two.1 one.1 in
       let again : Replied moves (is_awaited one.0) one.0.reply (sender_with moves o one.0) (sender_of moves r) =
       subst (λ (a : Arrived). Replied moves (is_awaited a) a.reply (sender_with moves o a) (sender_of moves r)) same.1 two.3 in
       let senders : sender_of moves s ≡ sender_of moves r =
       one_replied (is_awaited one.0) one.0.reply (sender_with moves o one.0) (sender_of moves s) (sender_of moves r) det one.3 again in
       same_state s r (ap (λ (x : Sender D). x.device) senders) (ap (λ (x : Sender D). x.inner) senders) (ap (λ (x : Sender D). x.left) senders)
-      (sym same.0) (one.4 ∙ sym two.4) (one.2 ∙ ap (λ (a : Arrived). a.places) (sym same.1) ∙ sym two.2)
+      (sym same.0) (one.4 ∙ sym two.4) (one.2 ∙ ap (λ (a : Arrived). a.slots) (sym same.1) ∙ sym two.2)
 
   one_reads : (frame : List ℕ) (o s r : State D) → Det o.device → Reads moves frame o s → Reads moves frame o r → s ≡ r
   one_reads frame o s r det one two =
@@ -375,38 +375,38 @@ module _ (one_offer : OneOffer) {D : Type 0} (moves : D → Move → D → Type 
 
   one_takes : (o s r : State D) (a b : Option Bool) → Det o.device → Takes moves o a s → Takes moves o b r → SameStep a s b r
   one_takes o s r None None det one two =
-      (refl, one.1 ∙ ap (at_device o) (det.one_end s.device r.device (Empty o.host.inner.moment) one.0 two.0) ∙ sym two.1)
-  one_takes o s r None (Some false) det one two = absurd (det.looks o.host.inner.moment r.device s.device two.0 two.1 one.0)
-  one_takes o s r None (Some true) det one two = absurd (det.looks o.host.inner.moment two.1 s.device two.0 two.2 one.0)
-  one_takes o s r (Some false) None det one two = absurd (det.looks o.host.inner.moment s.device r.device one.0 one.1 two.0)
-  one_takes o s r (Some true) None det one two = absurd (det.looks o.host.inner.moment one.1 r.device one.0 one.2 two.0)
+      (refl, one.1 ∙ ap (at_device o) (det.one_end s.device r.device (Empty o.host.inner.instant) one.0 two.0) ∙ sym two.1)
+  one_takes o s r None (Some false) det one two = absurd (det.looks o.host.inner.instant r.device s.device two.0 two.1 one.0)
+  one_takes o s r None (Some true) det one two = absurd (det.looks o.host.inner.instant two.1 s.device two.0 two.2 one.0)
+  one_takes o s r (Some false) None det one two = absurd (det.looks o.host.inner.instant s.device r.device one.0 one.1 two.0)
+  one_takes o s r (Some true) None det one two = absurd (det.looks o.host.inner.instant one.1 r.device one.0 one.2 two.0)
   one_takes o s r (Some false) (Some false) det one two =
-      let frames = det.one_frame o.host.inner.moment r.device s.device two.0 one.0 two.1 one.1 in
-      let again : moves o.device (Took o.host.inner.moment one.0) r.device = subst
-      (λ (f : List ℕ). moves o.device (Took o.host.inner.moment f) r.device) frames two.1 in
-      (refl, one.3 ∙ ap (at_device o) (det.one_end s.device r.device (Took o.host.inner.moment one.0) one.1 again) ∙ sym two.3)
+      let frames = det.one_frame o.host.inner.instant r.device s.device two.0 one.0 two.1 one.1 in
+      let again : moves o.device (Took o.host.inner.instant one.0) r.device = subst
+      (λ (f : List ℕ). moves o.device (Took o.host.inner.instant f) r.device) frames two.1 in
+      (refl, one.3 ∙ ap (at_device o) (det.one_end s.device r.device (Took o.host.inner.instant one.0) one.1 again) ∙ sym two.3)
   one_takes o s r (Some false) (Some true) det one two =
-      let frames = det.one_frame o.host.inner.moment s.device two.1 one.0 two.0 one.1 two.2 in
+      let frames = det.one_frame o.host.inner.instant s.device two.1 one.0 two.0 one.1 two.2 in
       absurd (both_read (is_read two.0) two.3 (ap is_read (sym frames) ∙ one.2))
   one_takes o s r (Some true) (Some false) det one two =
-      let frames = det.one_frame o.host.inner.moment one.1 r.device one.0 two.0 one.2 two.1 in
+      let frames = det.one_frame o.host.inner.instant one.1 r.device one.0 two.0 one.2 two.1 in
       absurd (both_read (is_read one.0) one.3 (ap is_read frames ∙ two.2))
   one_takes o s r (Some true) (Some true) det one two =
-      let frames : two.0 ≡ one.0 = det.one_frame o.host.inner.moment two.1 one.1 two.0 one.0 two.2 one.2 in
-      let took : moves o.device (Took o.host.inner.moment one.0) two.1 = subst
-      (λ (f : List ℕ). moves o.device (Took o.host.inner.moment f) two.1) frames two.2 in
-      let mids : two.1 ≡ one.1 = det.one_end two.1 one.1 (Took o.host.inner.moment one.0) took one.2 in
+      let frames : two.0 ≡ one.0 = det.one_frame o.host.inner.instant two.1 one.1 two.0 one.0 two.2 one.2 in
+      let took : moves o.device (Took o.host.inner.instant one.0) two.1 = subst
+      (λ (f : List ℕ). moves o.device (Took o.host.inner.instant f) two.1) frames two.2 in
+      let mids : two.1 ≡ one.1 = det.one_end two.1 one.1 (Took o.host.inner.instant one.0) took one.2 in
       let again : Reads moves one.0 (at_device o one.1) r =
       subst (λ (f : List ℕ). Reads moves f (at_device o one.1) r) frames (subst (λ (d : D). Reads moves two.0 (at_device o d) r) mids two.4) in
-      (refl, one_reads one.0 (at_device o one.1) s r (steady.stays o.device one.1 (Took o.host.inner.moment one.0) det one.2) one.4 again)
+      (refl, one_reads one.0 (at_device o one.1) s r (steady.stays o.device one.1 (Took o.host.inner.instant one.0) det one.2) one.4 again)
 
   det_takes : (o s : State D) (a : Option Bool) → Takes moves o a s → Det o.device → Det s.device
-  det_takes o s None one det = steady.stays o.device s.device (Empty o.host.inner.moment) det one.0
-  det_takes o s (Some false) one det = steady.stays o.device s.device (Took o.host.inner.moment one.0) det one.1
+  det_takes o s None one det = steady.stays o.device s.device (Empty o.host.inner.instant) det one.0
+  det_takes o s (Some false) one det = steady.stays o.device s.device (Took o.host.inner.instant one.0) det one.1
   det_takes o s (Some true) one det =
       let receives = one.4.2 in
       det_replied (is_awaited receives.0) receives.0.reply (sender_with moves (at_device o one.1) receives.0) (sender_of moves s) receives.3
-      (steady.stays o.device one.1 (Took o.host.inner.moment one.0) det one.2)
+      (steady.stays o.device one.1 (Took o.host.inner.instant one.0) det one.2)
 
   -- STEPS
 

@@ -1,22 +1,22 @@
--- A poll raises a count by what its arrivals, its pieces and its sockets' turns cost, for each step of its budget.
+-- A poll raises a count by what its arrivals, its fragments and its sockets' turns cost, for each step of its budget.
 use Rattle.std.proofs.Common.{◌≡◌, ℕ, zero, suc, ◌+◌, ◌*◌, ◌≤◌, ℤ, Bool, true, false, cond, ◌||◌, inl, inr, List, [], ◌∷◌, ◌++◌, Option, Some, None, refl, sym}
 use Rattle.std.proofs.Common.{◌∙◌, ap, subst, arith, append_assoc, append-nil, suc-mul, mul-add}
 use Rattle.net_base.specs.Device.{Move}
 use Rattle.ip_wire.specs.IpAddress.{IpAddress}
-use Rattle.interface_ingress.specs.Socket.{Socket}
-use Rattle.interface_tables.specs.Inner.{InnerValue}
-use Rattle.interface_egress.specs.declared.socket_set.Item.{Item}
-use Rattle.interface_egress.specs.declared.socket_set.SocketStorage.{SocketStorage}
-use Rattle.interface_egress.specs.Fragments.{LeftValue}
+use Rattle.iface_ingress.specs.Socket.{Socket}
+use Rattle.iface_tables.specs.Inner.{InnerValue}
+use Rattle.iface_egress.specs.declared.socket_set.Item.{Item}
+use Rattle.iface_egress.specs.declared.socket_set.SocketStorage.{SocketStorage}
+use Rattle.iface_egress.specs.Fragments.{LeftValue}
 use Rattle.interface.specs.Awaited.{turn_of}
 use Rattle.interface.specs.Host.{HostValue, Sender, sender}
 use Rattle.interface.specs.Pass.{Pass, Passed}
-use Rattle.interface.specs.Turn.{ItemTurns}
-use Rattle.interface.specs.WayOut.{Clears, Egress}
-use Rattle.interface.specs.declared.turn.Turned.{Turned}
-use Rattle.interface.specs.declared.turn.Turned.TheVariants as Turn
+use Rattle.interface.specs.Serve.{ItemTurns}
+use Rattle.interface.specs.EgressPath.{Clears, Egress}
+use Rattle.interface.specs.declared.serve.Served.{Served}
+use Rattle.interface.specs.declared.serve.Served.TheVariants as Turn
 use Rattle.interface.specs.State.{State}
-use Rattle.interface.specs.Egress.{EgressStep, behind}
+use Rattle.interface.specs.Egress.{EgressStep, following}
 use Rattle.interface.specs.Ingress.{IngressStep}
 use Rattle.interface.specs.Polls.{Repeats, Polls, begun}
 use Rattle.interface.proofs.Kept.{RunsAt}
@@ -24,23 +24,23 @@ use Rattle.interface.specs.State.{sending_as}
 use Rattle.interface.proofs.Kept.{IsPriced}
 use Rattle.interface.specs.Used.{is_used, sockets_in}
 use Rattle.interface.proofs.Runs.{runs_so, runs_where, takes_runs, turn_runs}
-use Rattle.interface.proofs.Shapes.{shape, trues, sockets_so, one_place, takes_shape}
+use Rattle.interface.proofs.Shapes.{shape, trues, sockets_so, one_slot, takes_shape}
 
-module _ {D : Type 0} (moves : D → Move → D → Type 0) (t : ℤ) (piece : ℕ) (Q : ℕ → State D → Type 0) (kept : IsPriced moves t piece Q) (first : List Bool) where
-  -- so many were counted, while the call runs; and the same places have sockets as at first
+module _ {D : Type 0} (moves : D → Move → D → Type 0) (t : ℤ) (fragment : ℕ) (Q : ℕ → State D → Type 0) (kept : IsPriced moves t fragment Q) (first : List Bool) where
+  -- so many were counted, while the call runs; and the same slots have sockets as at first
   record Counts (n : ℕ) (s : State D) : Type 0 where
     so : Q n s
     runs : RunsAt t s.host.inner
-    places : shape s.places ≡ first
+    slots : shape s.slots ≡ first
 
   more : (n m : ℕ) (s : State D) → n ≤ m → Counts n s → Counts m s
-  more n m s up holds = record { so = kept.more n m s up holds.so; runs = holds.runs; places = holds.places }
+  more n m s up holds = record { so = kept.more n m s up holds.so; runs = holds.runs; slots = holds.slots }
 
   -- THE WAY OUT
 
   module _ (h : HostValue) where
     item_counts : (turn : Option IpAddress) (before after : List (SocketStorage Socket)) (o o' : Option (Item Socket)) (n : ℕ) (x x' : Sender D)
-        (turned : Turned) → Counts n (sending_as h x (before ++ record { inner = o } ∷ after)) → ItemTurns moves turn o x turned x' o'
+        (turned : Served) → Counts n (sending_as h x (before ++ record { inner = o } ∷ after)) → ItemTurns moves turn o x turned x' o'
         → Counts (n + cond (is_used (record { inner = o })) 1 0) (sending_as h x' (before ++ record { inner = o' } ∷ after))
     item_counts turn before after None None n x x' turned holds turns =
         let free : SocketStorage Socket = record { inner = None } in
@@ -49,61 +49,61 @@ module _ {D : Type 0} (moves : D → Move → D → Type 0) (t : ℤ) (piece : �
     item_counts turn before after (Some item) (Some item') n x x' turned holds turns = record {
       so = kept.turns turn n h before after (record { inner = Some item }) (record { inner = Some item' }) x x' turned refl holds.runs holds.so turns;
       runs = turn_runs moves t turn x x' (record { inner = Some item }) (record { inner = Some item' }) turned turns holds.runs;
-      places = one_place before after (record { inner = Some item }) (record { inner = Some item' }) refl ∙ holds.places;
+      slots = one_slot before after (record { inner = Some item }) (record { inner = Some item' }) refl ∙ holds.slots;
     }
     item_counts turn before after None (Some item') n x x' turned holds turns = absurd turns
     item_counts turn before after (Some item) None n x x' turned holds turns = absurd turns
 
     pass_counts : (turn : Option IpAddress) (ps before : List (SocketStorage Socket)) (n : ℕ) (x : Sender D) (changed : Bool) (e : Passed D) →
-        Counts n (sending_as h x (before ++ ps)) → Pass moves turn x before changed ps e → Counts (n + trues (shape ps)) (behind h e)
+        Counts n (sending_as h x (before ++ ps)) → Pass moves turn x before changed ps e → Counts (n + trues (shape ps)) (following h e)
     pass_counts turn [] before n x changed e holds ends =
-        more n (n + 0) (behind h e) (omega arith)
-        (subst (λ (y : Passed D). Counts n (behind h y)) (sym ends)
+        more n (n + 0) (following h e) (omega arith)
+        (subst (λ (y : Passed D). Counts n (following h y)) (sym ends)
         (subst (λ (qs : List (SocketStorage Socket)). Counts n (sending_as h x qs)) (append-nil before) holds))
     pass_counts turn (p ∷ ps) before n x changed e holds (inl goes) =
         let cost : ℕ = cond (is_used p) 1 0 in
         let next : Counts (n + cost) (sending_as h goes.1 (before ++ goes.2 ∷ ps)) =
         item_counts turn before ps p.inner goes.2.inner n x goes.1 (Turn.Next goes.0) holds goes.3 in
-        more (n + cost + trues (shape ps)) (n + trues (shape (p ∷ ps))) (behind h e) (omega arith)
+        more (n + cost + trues (shape ps)) (n + trues (shape (p ∷ ps))) (following h e) (omega arith)
         (pass_counts turn ps (before ++ goes.2 ∷ []) (n + cost) goes.1 (changed || goes.0) e
         (subst (λ (qs : List (SocketStorage Socket)). Counts (n + cost) (sending_as h goes.1 qs)) (sym (append_assoc before (goes.2 ∷ []) ps)) next) goes.4)
     pass_counts turn (p ∷ ps) before n x changed e holds (inr stops) =
         let cost : ℕ = cond (is_used p) 1 0 in
         let next : Counts (n + cost) (sending_as h stops.1 (before ++ stops.2 ∷ ps)) =
         item_counts turn before ps p.inner stops.2.inner n x stops.1 (Turn.Stop stops.0) holds stops.3 in
-        more (n + cost) (n + trues (shape (p ∷ ps))) (behind h e) (omega arith)
-        (subst (λ (y : Passed D). Counts (n + cost) (behind h y)) (sym stops.4) next)
+        more (n + cost) (n + trues (shape (p ∷ ps))) (following h e) (omega arith)
+        (subst (λ (y : Passed D). Counts (n + cost) (following h y)) (sym stops.4) next)
 
     clears_counts : (n : ℕ) (ps : List (SocketStorage Socket)) (x x' : Sender D) (l : Option LeftValue) (clear : Bool) → x.left ≡ l →
-        Counts n (sending_as h x ps) → Clears moves l x clear x' → Counts (n + piece) (sending_as h x' ps)
+        Counts n (sending_as h x ps) → Clears moves l x clear x' → Counts (n + fragment) (sending_as h x' ps)
     clears_counts n ps x x' None clear is holds clears =
-        more n (n + piece) (sending_as h x' ps) (omega arith) (subst (λ (y : Sender D). Counts n (sending_as h y ps)) (sym clears.1) holds)
+        more n (n + fragment) (sending_as h x' ps) (omega arith) (subst (λ (y : Sender D). Counts n (sending_as h y ps)) (sym clears.1) holds)
     clears_counts n ps x x' (Some l) clear is holds clears = record {
-      so = kept.pieces n h ps x x' l clear holds.runs is holds.so clears.0 clears.1;
+      so = kept.fragments n h ps x x' l clear holds.runs is holds.so clears.0 clears.1;
       runs = runs_where t x.inner x'.inner clears.1 holds.runs;
-      places = holds.places;
+      slots = holds.slots;
     }
 
     egress_counts : (n : ℕ) (x : Sender D) (ps : List (SocketStorage Socket)) (e : Passed D) → Counts n (sending_as h x ps) → Egress moves x ps e →
-        Counts (n + piece + trues (shape ps)) (behind h e)
+        Counts (n + fragment + trues (shape ps)) (following h e)
     egress_counts n x ps e holds (inl stays) =
-        more (n + piece) (n + piece + trues (shape ps)) (behind h e) (omega arith)
-        (subst (λ (y : Passed D). Counts (n + piece) (behind h y)) (sym stays.2) (clears_counts n ps x stays.0 x.left false refl holds stays.1))
+        more (n + fragment) (n + fragment + trues (shape ps)) (following h e) (omega arith)
+        (subst (λ (y : Passed D). Counts (n + fragment) (following h y)) (sym stays.2) (clears_counts n ps x stays.0 x.left false refl holds stays.1))
     egress_counts n x ps e holds (inr goes) =
-        pass_counts (turn_of goes.0.inner ps) ps [] (n + piece) goes.0 false e (clears_counts n ps x goes.0 x.left true refl holds goes.1) goes.2
+        pass_counts (turn_of goes.0.inner ps) ps [] (n + fragment) goes.0 false e (clears_counts n ps x goes.0 x.left true refl holds goes.1) goes.2
 
-  -- what a step of the way out costs
+  -- what a step of the egress path costs
   abbrev out_cost : ℕ
-  out_cost = piece + trues first
+  out_cost = fragment + trues first
 
   out_step_counts : (n : ℕ) (s s' : State D) (answer : Option Bool) → Counts n s → EgressStep moves t s answer s' → Counts (n + out_cost) s'
   out_step_counts n s s' answer holds step =
-      let goes : Egress moves (sender s.device s.host.inner s.host.left) s.places step.0 =
-      subst (λ (i : InnerValue). Egress moves (sender s.device i s.host.left) s.places step.0) (runs_so t s.host.inner holds.runs) step.1 in
-      let now : Counts (n + piece + trues (shape s.places)) (behind s.host step.0) =
-      egress_counts s.host n (sender s.device s.host.inner s.host.left) s.places step.0 holds goes in
-      more (n + piece + trues (shape s.places)) (n + out_cost) s' (omega (arith, ap trues holds.places))
-      (subst (Counts (n + piece + trues (shape s.places))) (sym step.2) now)
+      let goes : Egress moves (sender s.device s.host.inner s.host.left) s.slots step.0 =
+      subst (λ (i : InnerValue). Egress moves (sender s.device i s.host.left) s.slots step.0) (runs_so t s.host.inner holds.runs) step.1 in
+      let now : Counts (n + fragment + trues (shape s.slots)) (following s.host step.0) =
+      egress_counts s.host n (sender s.device s.host.inner s.host.left) s.slots step.0 holds goes in
+      more (n + fragment + trues (shape s.slots)) (n + out_cost) s' (omega (arith, ap trues holds.slots))
+      (subst (Counts (n + fragment + trues (shape s.slots))) (sym step.2) now)
 
   -- THE WAY IN
 
@@ -111,7 +111,7 @@ module _ {D : Type 0} (moves : D → Move → D → Type 0) (t : ℤ) (piece : �
   in_step_counts n s s' answer holds step = record {
     so = kept.arrivals n (begun t s) s' answer (refl, refl) (kept.maintenance n s holds.so) step;
     runs = takes_runs moves t (begun t s) s' answer step (refl, refl);
-    places = takes_shape moves (begun t s) s' answer step ∙ holds.places;
+    slots = takes_shape moves (begun t s) s' answer step ∙ holds.slots;
   }
 
   -- STEPS
@@ -126,23 +126,23 @@ module _ {D : Type 0} (moves : D → Move → D → Type 0) (t : ℤ) (piece : �
         more (n + cost + k * cost) (n + suc k * cost) s' (omega (arith, suc-mul k cost))
         (repeats_count k (n + cost) goes.1 s' (c || goes.0) c' (costs n s goes.1 (Some goes.0) holds goes.2) goes.3)
 
-  pub counted : (budget n : ℕ) (s s' : State D) (changed : Bool) → shape s.places ≡ first → Q n s → Polls moves t budget s changed s'
-      → Q (n + budget * (1 + out_cost)) s' × RunsAt t s'.host.inner × (shape s'.places ≡ first)
-  counted budget n s s' changed places holds polls =
-      let start : Counts n (begun t s) = record { so = kept.maintenance n s holds; runs = (refl, refl); places = places } in
+  pub counted : (budget n : ℕ) (s s' : State D) (changed : Bool) → shape s.slots ≡ first → Q n s → Polls moves t budget s changed s'
+      → Q (n + budget * (1 + out_cost)) s' × RunsAt t s'.host.inner × (shape s'.slots ≡ first)
+  counted budget n s s' changed slots holds polls =
+      let start : Counts n (begun t s) = record { so = kept.maintenance n s holds; runs = (refl, refl); slots = slots } in
       let mid : Counts (n + budget * 1) polls.0 =
       repeats_count (IngressStep moves t) 1 in_step_counts budget n (begun t s) polls.0 false polls.1 start polls.2 in
       let last : Counts (n + budget * 1 + budget * out_cost) s' =
       repeats_count (EgressStep moves t) out_cost out_step_counts budget (n + budget * 1) polls.0 s' polls.1 changed mid polls.3 in
       let all : Counts (n + budget * (1 + out_cost)) s' =
       more (n + budget * 1 + budget * out_cost) (n + budget * (1 + out_cost)) s' (omega (arith, mul-add budget 1 out_cost)) last in
-      (all.so, all.runs, all.places)
+      (all.so, all.runs, all.slots)
 
--- what a poll costs for each step of its budget, beside the pieces
-pub polls_cost : {D : Type 0} (moves : D → Move → D → Type 0) (t : ℤ) (piece : ℕ) (Q : ℕ → State D → Type 0) → IsPriced moves t piece Q →
+-- what a poll costs for each step of its budget, alongside the fragments
+pub polls_cost : {D : Type 0} (moves : D → Move → D → Type 0) (t : ℤ) (fragment : ℕ) (Q : ℕ → State D → Type 0) → IsPriced moves t fragment Q →
     (budget n : ℕ) (s s' : State D) (changed : Bool)
-    → Q n s → Polls moves t budget s changed s' → Q (n + budget * (1 + (piece + sockets_in s.places))) s' × RunsAt t s'.host.inner ×
-    (shape s'.places ≡ shape s.places)
-polls_cost moves t piece Q kept budget n s s' changed holds polls =
-    let all = counted moves t piece Q kept (shape s.places) budget n s s' changed refl holds polls in
-    (subst (λ (k : ℕ). Q (n + budget * (1 + (piece + k))) s') (sym (sockets_so s.places)) all.0, all.1, all.2)
+    → Q n s → Polls moves t budget s changed s' → Q (n + budget * (1 + (fragment + sockets_in s.slots))) s' × RunsAt t s'.host.inner ×
+    (shape s'.slots ≡ shape s.slots)
+polls_cost moves t fragment Q kept budget n s s' changed holds polls =
+    let all = counted moves t fragment Q kept (shape s.slots) budget n s s' changed refl holds polls in
+    (subst (λ (k : ℕ). Q (n + budget * (1 + (fragment + k))) s') (sym (sockets_so s.slots)) all.0, all.1, all.2)

@@ -1,9 +1,9 @@
 -- A poll leaves the host's settings.
 use Rattle.std.proofs.Common.{◌≡◌, refl, sym, ap, ◌∙◌, subst}
 use Rattle.std.specs.Prelude.{ℤ}
-use Rattle.interface_tables.specs.Inner.{InnerValue, at_moment}
-use Rattle.interface_egress.specs.Departing.{HasSettingsOf}
-use Rattle.interface_ingress.specs.Kept.{HasSameSettings}
+use Rattle.iface_tables.specs.Inner.{InnerValue, at_instant}
+use Rattle.iface_egress.specs.Departing.{HasSettingsOf}
+use Rattle.iface_ingress.specs.FragmentStored.{HasSameSettings}
 use Rattle.interface.specs.SameHost.{IsSameHost}
 use Rattle.interface.specs.State.{KeepsSettings}
 
@@ -30,15 +30,15 @@ keeps_out i i' is = subst (λ (x : InnerValue). KeepsSettings i x) (sym is) refl
 -- what arrives leaves them
 pub keeps_in : (i i' : InnerValue) → HasSameSettings i i' → KeepsSettings i i'
 keeps_in i i' same =
-    ap (λ x. record i' { moment = x }) same.moment
-    ∙ ap (λ x. record i' { moment = i.moment; hardware = x }) same.hardware
-    ∙ ap (λ x. record i' { moment = i.moment; hardware = i.hardware; mtu = x }) same.mtu
-    ∙ ap (λ x. record i' { moment = i.moment; hardware = i.hardware; mtu = i.mtu; checksums = x }) same.checksums
-    ∙ ap (λ x. record i' { moment = i.moment; hardware = i.hardware; mtu = i.mtu; checksums = i.checksums; isn_key = x }) same.isn_key
-    ∙ ap (λ x. record i' { moment = i.moment; hardware = i.hardware; mtu = i.mtu; checksums = i.checksums; isn_key = i.isn_key; addresses = x })
+    ap (λ x. record i' { instant = x }) same.instant
+    ∙ ap (λ x. record i' { instant = i.instant; hardware = x }) same.hardware
+    ∙ ap (λ x. record i' { instant = i.instant; hardware = i.hardware; mtu = x }) same.mtu
+    ∙ ap (λ x. record i' { instant = i.instant; hardware = i.hardware; mtu = i.mtu; checksums = x }) same.checksums
+    ∙ ap (λ x. record i' { instant = i.instant; hardware = i.hardware; mtu = i.mtu; checksums = i.checksums; isn_key = x }) same.isn_key
+    ∙ ap (λ x. record i' { instant = i.instant; hardware = i.hardware; mtu = i.mtu; checksums = i.checksums; isn_key = i.isn_key; addresses = x })
     same.addresses
     ∙ ap (λ x. record i' {
-      moment = i.moment;
+      instant = i.instant;
       hardware = i.hardware;
       mtu = i.mtu;
       checksums = i.checksums;
@@ -47,7 +47,7 @@ keeps_in i i' same =
       any_ip = x;
     }) same.any_ip
     ∙ ap (λ x. record i' {
-      moment = i.moment;
+      instant = i.instant;
       hardware = i.hardware;
       mtu = i.mtu;
       checksums = i.checksums;
@@ -58,7 +58,7 @@ keeps_in i i' same =
           x;
     }) same.routes
     ∙ ap (λ x. record i' {
-      moment = i.moment;
+      instant = i.instant;
       hardware = i.hardware;
       mtu = i.mtu;
       checksums = i.checksums;
@@ -70,7 +70,7 @@ keeps_in i i' same =
       route_room = x;
     }) same.route_room
     ∙ ap (λ x. record i' {
-      moment = i.moment;
+      instant = i.instant;
       hardware = i.hardware;
       mtu = i.mtu;
       checksums = i.checksums;
@@ -80,10 +80,10 @@ keeps_in i i' same =
       routes =
           i.routes;
       route_room = i.route_room;
-      fresh = x;
-    }) same.fresh
+      initial = x;
+    }) same.initial
 
-pub settings_kept : (t : ℤ) (i i' : InnerValue) → KeepsSettings (at_moment t i) i' → HasSettingsOf i i'
+pub settings_kept : (t : ℤ) (i i' : InnerValue) → KeepsSettings (at_instant t i) i' → HasSettingsOf i i'
 settings_kept t i i' keeps = record {
   hardware = ap (λ (x : InnerValue). x.hardware) keeps;
   mtu = ap (λ (x : InnerValue). x.mtu) keeps;

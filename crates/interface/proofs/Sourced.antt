@@ -13,18 +13,18 @@ use Rattle.ip_wire.specs.Ipv4Address.{Ipv4Address}
 use Rattle.ip_wire.specs.Ipv4Repr.{Ipv4Repr}
 use Rattle.ip_wire.specs.Ipv6Address.{Ipv6Address}
 use Rattle.ip_wire.specs.Ipv6Repr.{Ipv6Repr}
-use Rattle.interface_ingress.specs.Packet.{PacketValue, PayloadValue, ControlV4, ControlV6, Bytes, Datagram, Segment, packet_of, PayloadFits, IsSendable}
-use Rattle.interface_tables.specs.Inner.{InnerValue}
-use Rattle.interface_tables.specs.Source.{source_for, source_v4, source_v6, in_v4}
-use Rattle.interface_ingress.specs.Socket.{Socket}
-use Rattle.interface_ingress.specs.Sockets.{settled}
-use Rattle.interface_ingress.specs.WellFormed.{IsWellFormed}
-use Rattle.interface_egress.specs.declared.socket_meta.Meta.{Meta}
-use Rattle.interface_egress.specs.declared.socket_set.Item.{Item}
-use Rattle.interface_egress.specs.declared.way_out.Sent.{Sent}
+use Rattle.iface_ingress.specs.Packet.{PacketValue, PayloadValue, ControlV4, ControlV6, Bytes, Datagram, Segment, packet_of, PayloadFits, IsSendable}
+use Rattle.iface_tables.specs.Inner.{InnerValue}
+use Rattle.iface_tables.specs.Source.{source_for, source_v4, source_v6, in_v4}
+use Rattle.iface_ingress.specs.Socket.{Socket}
+use Rattle.iface_ingress.specs.Sockets.{settled}
+use Rattle.iface_ingress.specs.WellFormed.{IsWellFormed}
+use Rattle.iface_egress.specs.declared.socket_meta.Meta.{Meta}
+use Rattle.iface_egress.specs.declared.socket_set.Item.{Item}
+use Rattle.iface_egress.specs.declared.egress_path.Sent.{Sent}
 use Rattle.interface.specs.Host.{Sender}
-use Rattle.interface.specs.Turn.{keeps_source, with_source, sourced_header, sourced, is_done, turned_by, HasLeft, OfferLeaves, SendsBy}
-use Rattle.interface.specs.declared.turn.Turned.{Turned}
+use Rattle.interface.specs.Serve.{keeps_source, with_source, sourced_header, sourced, is_done, turned_by, HasLeft, OfferLeaves, SendsBy}
+use Rattle.interface.specs.declared.serve.Served.{Served}
 
 fits_v4 : (v : Ipv4Repr) (a : Ipv4Address) (x : PayloadValue) → PayloadFits (Ip.Ipv4 v) x → PayloadFits (Ip.Ipv4 (record v { src_addr = a })) x
 fits_v4 v a (ControlV4 message bytes) fits = fits
@@ -138,7 +138,7 @@ sourced_none i p is = ap (with_header p) (by (keeps_source i p)) where
 
 -- the turn of a socket whose packet left, or stays
 pub sends_from : {D : Type 0} (moves : D → Move → D → Type 0) (turn : Option IpAddress) (s s' : Sender D) (p : PacketValue)
-    (item item' : Item Socket) (changed : Bool) (turned : Turned) (sent : Sent) (mark : Meta)
+    (item item' : Item Socket) (changed : Bool) (turned : Served) (sent : Sent) (mark : Meta)
     → IsWellFormed p → HasLeft moves turn s item.meta p sent s' mark
     → item' ≡ record { meta = mark; socket = settled (is_done sent) item.socket } → turned ≡ turned_by sent changed
     → SendsBy moves turn (Some p) s item changed turned s' item'
@@ -152,7 +152,7 @@ sends_from moves turn s s' p item item' changed turned sent mark formed left is 
 
 -- the same of the packet of an open offer
 pub sends_offer : {D : Type 0} (moves : D → Move → D → Type 0) (turn : Option IpAddress) (s s' : Sender D) (o : Option PacketValue)
-    (item item' : Item Socket) (changed : Bool) (turned : Turned) (sent : Sent) (mark : Meta)
+    (item item' : Item Socket) (changed : Bool) (turned : Served) (sent : Sent) (mark : Meta)
     → OfferLeaves moves turn o s item.meta sent s' mark
     → item' ≡ record { meta = mark; socket = settled (is_done sent) item.socket } → turned ≡ turned_by sent changed
     → SendsBy moves turn o s item changed turned s' item'

@@ -8,32 +8,32 @@ use Rattle.ip_wire.specs.IpAddress.{IpAddress}
 use Rattle.ip_wire.specs.IpRepr.{IpRepr}
 use Rattle.ip_wire.specs.IpRepr.TheVariants as Ip
 use Rattle.ip_wire.specs.declared.arp.repr.ArpRepr.{ArpRepr}
-use Rattle.interface_ingress.specs.Packet.{PacketValue}
-use Rattle.interface_ingress.specs.Offer as Answer
-use Rattle.interface_ingress.specs.Offer.TheVariants as Offer
-use Rattle.interface_ingress.specs.Sockets.{offered_by}
-use Rattle.interface_ingress.specs.Socket.{Socket}
-use Rattle.interface_tables.specs.Inner.{InnerValue, at_moment, with_request, with_next_ident}
-use Rattle.interface_egress.specs.declared.socket_meta.Meta.{Meta}
-use Rattle.interface_egress.specs.declared.socket_set.Item.{Item}
-use Rattle.interface_egress.specs.declared.socket_set.SocketStorage.{SocketStorage}
-use Rattle.interface_egress.specs.Departure as Departures
-use Rattle.interface_egress.specs.Departure.{Departure, frame_from, len_from, target_of}
-use Rattle.interface_egress.specs.Emits.{Emits}
-use Rattle.interface_egress.specs.Fragments.{LeftValue, departure_from}
-use Rattle.interface_egress.specs.GoesOut.{GoesOut, PieceGoesOut, Departs, Asked, Went, WasCut, numbered, cut_of, after_header}
-use Rattle.interface_egress.specs.Plan.{plan_of}
-use Rattle.interface_egress.specs.declared.frame.Question.{Question}
-use Rattle.interface_egress.specs.declared.way_out.Sent.{Sent}
-use Rattle.interface_egress.specs.declared.way_out.Sent.TheVariants as Outcome
-use Rattle.interface_egress.proofs.Planned.{plan_cases, MayAsk}
-use Rattle.interface_ingress.specs.Arrives as Replies
-use Rattle.interface_ingress.specs.Arrives.{ReplyValue}
-use Rattle.interface_ingress.specs.Kept.{HasSameSettings}
+use Rattle.iface_ingress.specs.Packet.{PacketValue}
+use Rattle.iface_ingress.specs.Offer as Answer
+use Rattle.iface_ingress.specs.Offer.TheVariants as Offer
+use Rattle.iface_ingress.specs.Sockets.{offered_by}
+use Rattle.iface_ingress.specs.Socket.{Socket}
+use Rattle.iface_tables.specs.Inner.{InnerValue, at_instant, with_request, with_next_ident}
+use Rattle.iface_egress.specs.declared.socket_meta.Meta.{Meta}
+use Rattle.iface_egress.specs.declared.socket_set.Item.{Item}
+use Rattle.iface_egress.specs.declared.socket_set.SocketStorage.{SocketStorage}
+use Rattle.iface_egress.specs.Departure as Departures
+use Rattle.iface_egress.specs.Departure.{Departure, frame_from, len_from, target_of}
+use Rattle.iface_egress.specs.Emits.{Emits}
+use Rattle.iface_egress.specs.Fragments.{LeftValue, departure_from}
+use Rattle.iface_egress.specs.IsTransmitted.{IsTransmitted, FragmentIsTransmitted, Departs, Asked, WasSent, WasCut, numbered, cut_of, after_header}
+use Rattle.iface_egress.specs.Plan.{plan_of}
+use Rattle.iface_egress.specs.declared.frame.NeighborQuery.{NeighborQuery}
+use Rattle.iface_egress.specs.declared.egress_path.Sent.{Sent}
+use Rattle.iface_egress.specs.declared.egress_path.Sent.TheVariants as Outcome
+use Rattle.iface_egress.proofs.Planned.{plan_cases, MayAsk}
+use Rattle.iface_ingress.specs.Arrives as Replies
+use Rattle.iface_ingress.specs.Arrives.{ReplyValue}
+use Rattle.iface_ingress.specs.FragmentStored.{HasSameSettings}
 use Rattle.interface.specs.Host.{Sender}
-use Rattle.interface.specs.WayOut.{PieceLeaves}
-use Rattle.interface.specs.Turn.{Leaves, SendsBy, Answers, TurnsIf, ItemTurns, PlaceTurns, is_waiting, let_through}
-use Rattle.interface.specs.declared.turn.Turned.{Turned}
+use Rattle.interface.specs.EgressPath.{FragmentLeaves}
+use Rattle.interface.specs.Serve.{Leaves, SendsBy, Answers, TurnsIf, ItemTurns, ServesSlot, is_waiting, let_through}
+use Rattle.interface.specs.declared.serve.Served.{Served}
 use Rattle.interface.specs.State.{State}
 use Rattle.interface.specs.Ingress.{Takes, Replied, is_awaited}
 use Rattle.interface.specs.Polls.{Polls}
@@ -89,7 +89,7 @@ module _ {D : Type 0} (moves : D → Move → D → Type 0) (t : ℤ) (d0 : D) (
             so.checksums;
       }
 
-  so_leave : (given : Bool) (d d' : D) (i : InnerValue) → i.moment ≡ t → moves d (Allowed i.moment given) d' → So d i → So d' i
+  so_leave : (given : Bool) (d d' : D) (i : InnerValue) → i.instant ≡ t → moves d (Allowed i.instant given) d' → So d i → So d' i
   so_leave given d d' i now does so =
       record {
         touches = Leave given ∷ so.touches;
@@ -105,7 +105,7 @@ module _ {D : Type 0} (moves : D → Move → D → Type 0) (t : ℤ) (d0 : D) (
   as_begun : (x : Departure) (taken : Bool) (d d' : D) (i : InnerValue) → i.hardware ≡ i0.hardware → i.checksums ≡ i0.checksums → Departs moves d i x taken d' →
       Does moves t i0.hardware i0.checksums (Sends x taken) d d'
   as_begun x taken d d' i hardware checksums goes =
-      subst (λ (own : HardwareAddress). Emits moves d (frame_from own i0.checksums x) (len_from own x) taken d') hardware
+      subst (λ (local : HardwareAddress). Emits moves d (frame_from local i0.checksums x) (len_from local x) taken d') hardware
       (subst (λ (caps : ChecksumCapabilities). Emits moves d (frame_from i.hardware caps x) (len_from i.hardware x) taken d') checksums goes)
 
   abbrev SilencesBy : List Departure → ℤ → Type 0
@@ -134,11 +134,11 @@ module _ {D : Type 0} (moves : D → Move → D → Type 0) (t : ℤ) (d0 : D) (
   so_told packet true d d' i goes so = so_sends (Departures.Tells packet) true d d' i i goes refl refl (λ ts silence. silence) so
   so_told packet false d d' i goes so = so_refused (Departures.Tells packet) d d' i i goes refl so
 
-  so_piece : (l : LeftValue) (gone : Bool) (d d' : D) (i : InnerValue) (l' : Option LeftValue) → PieceGoesOut moves d i l gone d' l' → So d i → To d' i
-  so_piece l true d d' i l' goes so = so_sends (departure_from i l) true d d' i i goes.0 refl refl (λ ts silence. silence) so
-  so_piece l false d d' i l' goes so = so_refused (departure_from i l) d d' i i goes.0 refl so
+  so_fragment : (l : LeftValue) (gone : Bool) (d d' : D) (i : InnerValue) (l' : Option LeftValue) → FragmentIsTransmitted moves d i l gone d' l' → So d i → To d' i
+  so_fragment l true d d' i l' goes so = so_sends (departure_from i l) true d d' i i goes.0 refl refl (λ ts silence. silence) so
+  so_fragment l false d d' i l' goes so = so_refused (departure_from i l) d d' i i goes.0 refl so
 
-  so_asked : (q : Question) (sent : Sent) (d d' : D) (i i' : InnerValue) → i.moment ≡ t → MayAsk i → Asked moves d i q sent d' i' → So d i → To d' i'
+  so_asked : (q : NeighborQuery) (sent : Sent) (d d' : D) (i i' : InnerValue) → i.instant ≡ t → MayAsk i → Asked moves d i q sent d' i' → So d i → To d' i'
   so_asked q Outcome.Waits d d' i i' now may goes so =
       to_where d' d' (with_request i (target_of q)) i' refl goes.1
       (so_sends (Departures.Asks q) true d d' i (with_request i (target_of q)) goes.0 refl refl
@@ -152,15 +152,15 @@ module _ {D : Type 0} (moves : D → Move → D → Type 0) (t : ℤ) (d0 : D) (
   so_numbered (Ip.Ipv4 v) d i so = so_host (n + 1) d i (with_next_ident i) refl refl refl so
   so_numbered (Ip.Ipv6 v) d i so = so
 
-  so_went : (to : HardwareAddress) (p : PacketValue) (sent : Sent) (d d' : D) (i i' : InnerValue) →
-      Went moves d i p.header (Departures.Whole to (numbered i p)) sent d' i' → So d i → To d' i'
-  so_went to p Outcome.Gone d d' i i' goes so =
+  so_was_sent : (to : HardwareAddress) (p : PacketValue) (sent : Sent) (d d' : D) (i i' : InnerValue) →
+      WasSent moves d i p.header (Departures.Whole to (numbered i p)) sent d' i' → So d i → To d' i'
+  so_was_sent to p Outcome.Gone d d' i i' goes so =
       to_where d' d' (after_header p.header i) i' refl goes.1
       (so_numbered p.header d' i (so_sends (Departures.Whole to (numbered i p)) true d d' i i goes.0 refl refl (λ ts silence. silence) so))
-  so_went to p Outcome.Refused d d' i i' goes so = so_refused (Departures.Whole to (numbered i p)) d d' i i' goes.0 goes.1 so
-  so_went to p Outcome.Waits d d' i i' goes so = absurd goes
-  so_went to p Outcome.Dropped d d' i i' goes so = absurd goes
-  so_went to p Outcome.Busy d d' i i' goes so = absurd goes
+  so_was_sent to p Outcome.Refused d d' i i' goes so = so_refused (Departures.Whole to (numbered i p)) d d' i i' goes.0 goes.1 so
+  so_was_sent to p Outcome.Waits d d' i i' goes so = absurd goes
+  so_was_sent to p Outcome.Dropped d d' i i' goes so = absurd goes
+  so_was_sent to p Outcome.Busy d d' i i' goes so = absurd goes
 
   so_cut : (c : LeftValue) (sent : Sent) (d d' : D) (i i' : InnerValue) (l l' : Option LeftValue) → WasCut moves d i l c sent d' i' l' → So d i → To d' i'
   so_cut c Outcome.Gone d d' i i' l l' goes so =
@@ -171,21 +171,21 @@ module _ {D : Type 0} (moves : D → Move → D → Type 0) (t : ℤ) (d0 : D) (
   so_cut c Outcome.Dropped d d' i i' l l' goes so = absurd goes
   so_cut c Outcome.Busy d d' i i' l l' goes so = absurd goes
 
-  so_out : (d d' : D) (i i' : InnerValue) (l l' : Option LeftValue) (p : PacketValue) (busy : Bool) (sent : Sent) → i.moment ≡ t →
-      GoesOut moves d i l p (plan_of i busy p.header) sent d' i' l' → So d i → To d' i'
+  so_out : (d d' : D) (i i' : InnerValue) (l l' : Option LeftValue) (p : PacketValue) (busy : Bool) (sent : Sent) → i.instant ≡ t →
+      IsTransmitted moves d i l p (plan_of i busy p.header) sent d' i' l' → So d i → To d' i'
   so_out d d' i i' l l' p busy sent now =
-      plan_cases i busy p.header (λ plan. GoesOut moves d i l p plan sent d' i' l' → So d i → To d' i')
+      plan_cases i busy p.header (λ plan. IsTransmitted moves d i l p plan sent d' i' l' → So d i → To d' i')
       (λ goes so. so_where d d' i i' goes.1.0 goes.1.1 so)
       (λ goes so. so_where d d' i i' goes.1.0 goes.1.1 so)
       (λ goes so. so_where d d' i i' goes.1.0 goes.1.1 so)
       (λ goes so. so_where d d' i i' goes.1.0 goes.1.1 so)
       (λ q may from goes so. so_asked q sent d d' i i' now may goes.0 so)
-      (λ to short goes so. so_went to p sent d d' i i' goes.0 so)
+      (λ to short goes so. so_was_sent to p sent d d' i i' goes.0 so)
       (λ to long short bare idle goes so. so_cut (cut_of i to p) sent d d' i i' l l' goes so)
 
   -- ARRIVALS
 
-  so_replied : (awaited : Bool) (reply : Option ReplyValue) (x x' : Sender D) → x.inner.moment ≡ t → Replied moves awaited reply x x' → So x.device x.inner →
+  so_replied : (awaited : Bool) (reply : Option ReplyValue) (x x' : Sender D) → x.inner.instant ≡ t → Replied moves awaited reply x x' → So x.device x.inner →
       To x'.device x'.inner
   so_replied awaited None x x' now is so =
       so_where x.device x'.device x.inner x'.inner (ap (λ (y : Sender D). y.device) is) (ap (λ (y : Sender D). y.inner) is) so
@@ -217,19 +217,19 @@ module _ {D : Type 0} (moves : D → Move → D → Type 0) (t : ℤ) (d0 : D) (
       let took : So takes.1 i = so_looks (Some takes.0) s.device takes.1 i (subst (λ (m : ℤ). moves s.device (Took m takes.0) takes.1) runs.0 takes.2) so in
       so_replied (is_awaited reads.2.0) reads.2.0.reply (record { device = takes.1; inner = j; left = s.host.left })
       (record { device = s'.device; inner = s'.host.inner; left = s'.host.left })
-      (same.moment ∙ runs.0) reads.2.3 (so_host n takes.1 i j same.hardware same.checksums same.silent took)
+      (same.instant ∙ runs.0) reads.2.3 (so_host n takes.1 i j same.hardware same.checksums same.silent took)
 
   -- THE WAY OUT
 
-  so_piece_leaves : (l : LeftValue) (x x' : Sender D) (gone : Bool) → x.inner.moment ≡ t → PieceLeaves moves l x gone x' → x'.inner ≡ x.inner →
+  so_fragment_leaves : (l : LeftValue) (x x' : Sender D) (gone : Bool) → x.inner.instant ≡ t → FragmentLeaves moves l x gone x' → x'.inner ≡ x.inner →
       So x.device x.inner → To x'.device x'.inner
-  so_piece_leaves l x x' gone now (inl stays) is so =
+  so_fragment_leaves l x x' gone now (inl stays) is so =
       so_where x'.device x'.device x.inner x'.inner refl is (so_leave false x.device x'.device x.inner now stays.0 so)
-  so_piece_leaves l x x' gone now (inr goes) is so =
+  so_fragment_leaves l x x' gone now (inr goes) is so =
       to_where x'.device x'.device x.inner x'.inner refl is
-      (so_piece l gone goes.0 x'.device x.inner x'.left goes.2 (so_leave true x.device goes.0 x.inner now goes.1 so))
+      (so_fragment l gone goes.0 x'.device x.inner x'.left goes.2 (so_leave true x.device goes.0 x.inner now goes.1 so))
 
-  module _ (turn : Option IpAddress) (x x' : Sender D) (now : x.inner.moment ≡ t) (so : So x.device x.inner) where
+  module _ (turn : Option IpAddress) (x x' : Sender D) (now : x.inner.instant ≡ t) (so : So x.device x.inner) where
     abbrev Next : Type 0
     Next = To x'.device x'.inner
 
@@ -241,27 +241,27 @@ module _ {D : Type 0} (moves : D → Move → D → Type 0) (t : ℤ) (d0 : D) (
     so_leaves m p sent (inr goes) =
         so_out goes.0 x'.device x.inner x'.inner x.left x'.left p (is_some x.left) sent now goes.2 (so_leave true x.device goes.0 x.inner now goes.1 so)
 
-    so_sent : (o : Option PacketValue) (item item' : Item Socket) (changed : Bool) (turned : Turned) →
+    so_sent : (o : Option PacketValue) (item item' : Item Socket) (changed : Bool) (turned : Served) →
         SendsBy moves turn o x item changed turned x' item' → Next
     so_sent None item item' changed turned sends = absurd sends
     so_sent (Some p) item item' changed turned sends = so_leaves item.meta sends.0 sends.3.0 sends.3.1
 
-    so_answers : (answer : Answer.Offer) (item item' : Item Socket) (turned : Turned) → Answers moves turn answer x item turned x' item' → Next
+    so_answers : (answer : Answer.Offer) (item item' : Item Socket) (turned : Served) → Answers moves turn answer x item turned x' item' → Next
     so_answers (Offer.Silent changed) item item' turned answers = so_same answers.1
     so_answers (Offer.Packet changed) item item' turned answers = so_sent (offered_by item.socket) item item' changed turned answers
 
-    so_turns : (waits : Bool) (item item' : Item Socket) (turned : Turned) → TurnsIf moves turn waits x item turned x' item' → Next
+    so_turns : (waits : Bool) (item item' : Item Socket) (turned : Served) → TurnsIf moves turn waits x item turned x' item' → Next
     so_turns true item item' turned turns = so_same turns.1
     so_turns false item item' turned turns = so_answers turns.0 (record item { socket = turns.1 }) item' turned turns.3
 
-    so_item : (o o' : Option (Item Socket)) (turned : Turned) → ItemTurns moves turn o x turned x' o' → Next
+    so_item : (o o' : Option (Item Socket)) (turned : Served) → ItemTurns moves turn o x turned x' o' → Next
     so_item None None turned turns = so_same turns.1
     so_item (Some item) (Some item') turned turns = so_turns (is_waiting x.inner item.meta) (let_through x.inner item) item' turned turns
     so_item None (Some item') turned turns = absurd turns
     so_item (Some item) None turned turns = absurd turns
 
-    so_place : (p p' : SocketStorage Socket) (turned : Turned) → PlaceTurns moves turn x p turned x' p' → Next
-    so_place p p' turned turns = so_item p.inner p'.inner turned turns
+    so_slot : (p p' : SocketStorage Socket) (turned : Served) → ServesSlot moves turn x p turned x' p' → Next
+    so_slot p p' turned turns = so_item p.inner p'.inner turned turns
 
 module _ {D : Type 0} (moves : D → Move → D → Type 0) (t : ℤ) (d0 : D) (i0 : InnerValue) where
   abbrev Trace : ℕ → State D → Type 0
@@ -270,17 +270,17 @@ module _ {D : Type 0} (moves : D → Move → D → Type 0) (t : ℤ) (d0 : D) (
   traced : IsCounted moves t Trace
   traced = record {
     more = λ n m s up so. so_more moves t d0 i0 n n m s.device s.host.inner up so;
-    maintenance = λ n s so. so_host moves t d0 i0 n n s.device s.host.inner (at_moment t s.host.inner) refl refl refl so;
+    maintenance = λ n s so. so_host moves t d0 i0 n n s.device s.host.inner (at_instant t s.host.inner) refl refl refl so;
     arrivals = λ n s s' answer runs so takes. so_takes moves t d0 i0 n s s' answer runs so takes;
-    pieces = λ n h ps x x' l gone runs is so leaves same. so_piece_leaves moves t d0 i0 n l x x' gone runs.0 leaves same so;
-    turns = λ turn n h before after p p' x x' turned runs so turns. so_place moves t d0 i0 n turn x x' runs.0 so p p' turned turns;
+    fragments = λ n h ps x x' l gone runs is so leaves same. so_fragment_leaves moves t d0 i0 n l x x' gone runs.0 leaves same so;
+    turns = λ turn n h before after p p' x x' turned runs so turns. so_slot moves t d0 i0 n turn x x' runs.0 so p p' turned turns;
   }
 
 pub polls_traced : {D : Type 0} (moves : D → Move → D → Type 0) (t : ℤ) (budget : ℕ) (s s' : State D) (changed : Bool) → Polls moves t budget s changed s'
-    → Traced moves t (budget * (length s.places + 2)) s.device s.host.inner s'.device s'.host.inner
+    → Traced moves t (budget * (length s.slots + 2)) s.device s.host.inner s'.device s'.host.inner
 polls_traced {D} moves t budget s s' changed polls =
     let start : Traced moves t 0 s.device s.host.inner s.device s.host.inner =
     record { touches = []; path = refl; sends = omega arith; silence = refl; hardware = refl; checksums = refl } in
-    let most : ℕ = budget * (length s.places + 2) in
+    let most : ℕ = budget * (length s.slots + 2) in
     so_more moves t s.device s.host.inner 0 (0 + most) most s'.device s'.host.inner (omega arith)
     (polls_count moves t (Trace moves t s.device s.host.inner) (traced moves t s.device s.host.inner) budget 0 s s' changed start polls).0

@@ -1,7 +1,7 @@
 -- A poll that refuses no frame has one end at a device that is otherwise determined.
 use Rattle.std.proofs.Common.{◌≡◌, ◌<◌, ◌≤◌, ℕ, ℤ, Bool, true, false, List, [], ◌∷◌, length, arith}
 use Rattle.net_base.specs.Device.{Move, Took, Empty, Allowed, Emitted, Denied}
-use Rattle.interface_egress.specs.Determined.{IsDetermined}
+use Rattle.iface_egress.specs.Determined.{IsDetermined}
 use Rattle.interface.specs.Polls.{Polls}
 use Rattle.interface.specs.State.{State}
 use Rattle.interface.specs.Steady.{IsSteady}
@@ -59,7 +59,7 @@ module _ {D : Type 0} (moves : D → Move → D → Type 0) (refused : D → ℕ
   steady = record { stays = λ old new m det goes. determined new; clear = λ here one other frame det a b. b }
 
   module _ (n : ℕ) where
-    -- so many were refused before, and no more behind
+    -- so many were refused before, and no more after
     abbrev Before : D → Type 0
     Before d = n ≤ refused d
 

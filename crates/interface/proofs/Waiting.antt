@@ -6,20 +6,20 @@ use Rattle.std.specs.List.{filter_map, list_any}
 use Rattle.std.proofs.lemmas.Bool.{or_parts}
 use Rattle.ip_wire.specs.AddressTests.{is_same_address}
 use Rattle.ip_wire.specs.IpAddress.{IpAddress}
-use Rattle.interface_ingress.specs.Socket.{Socket}
-use Rattle.interface_tables.specs.Best.{first_best, is_unbeaten}
-use Rattle.interface_tables.specs.Inner.{InnerValue}
-use Rattle.interface_egress.specs.Departure.{target_of}
-use Rattle.interface_egress.specs.declared.frame.Question.{Question}
-use Rattle.interface_egress.specs.declared.plan.Plan.TheVariants as Way
-use Rattle.interface_egress.specs.declared.socket_meta.Meta.{Meta}
-use Rattle.interface_egress.specs.declared.socket_meta.Waiting.{Waiting}
-use Rattle.interface_egress.specs.declared.socket_set.Item.{Item}
-use Rattle.interface_egress.specs.declared.socket_set.SocketStorage.{SocketStorage}
-use Rattle.interface_egress.specs.declared.way_out.Sent.{Sent}
-use Rattle.interface_egress.specs.declared.way_out.Sent.TheVariants as Outcome
+use Rattle.iface_ingress.specs.Socket.{Socket}
+use Rattle.iface_tables.specs.Best.{first_best, is_unbeaten}
+use Rattle.iface_tables.specs.Inner.{InnerValue}
+use Rattle.iface_egress.specs.Departure.{target_of}
+use Rattle.iface_egress.specs.declared.frame.NeighborQuery.{NeighborQuery}
+use Rattle.iface_egress.specs.declared.plan.Plan.TheVariants as Way
+use Rattle.iface_egress.specs.declared.socket_meta.Meta.{Meta}
+use Rattle.iface_egress.specs.declared.socket_meta.Waiting.{Waiting}
+use Rattle.iface_egress.specs.declared.socket_set.Item.{Item}
+use Rattle.iface_egress.specs.declared.socket_set.SocketStorage.{SocketStorage}
+use Rattle.iface_egress.specs.declared.egress_path.Sent.{Sent}
+use Rattle.iface_egress.specs.declared.egress_path.Sent.TheVariants as Outcome
 use Rattle.interface.specs.Awaited.{awaited_by, awaited_at, awaited_in, comes_before, is_before, is_marked, is_marked_at, next_awaited, hop_of, turn_of}
-use Rattle.interface.specs.Turn.{held, is_given_up}
+use Rattle.interface.specs.Serve.{held, is_given_up}
 use Rattle.interface.specs.declared.awaited.Awaited.{Awaited}
 
 one_way : (a b : Option ℤ) (s t : ℤ) → is_before a b s t ≡ true → is_before b a t s ≡ false
@@ -71,7 +71,7 @@ in_turn_by true other is = absurd cc
 in_turn_by false true is = absurd cc
 in_turn_by false false is = refl
 
-pub asked_in_turn : (hop : IpAddress) (m : Meta) (i : InnerValue) (to : IpAddress) (q : Question) → held (Some hop) m i to (Way.Ask q) ≡ None →
+pub asked_in_turn : (hop : IpAddress) (m : Meta) (i : InnerValue) (to : IpAddress) (q : NeighborQuery) → held (Some hop) m i to (Way.Ask q) ≡ None →
     is_same_address hop (target_of q) ≡ true
 asked_in_turn hop m i to q is =
     not_not (is_same_address hop (target_of q)) (in_turn_by (is_given_up m i to (Way.Ask q)) (not (is_same_address hop (target_of q))) is) where

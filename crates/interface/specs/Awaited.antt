@@ -2,13 +2,13 @@
 use Rattle.std.specs.Prelude.{ℤ, int_lt, Bool, true, false, List, Option, None, Some, is_some}
 use Rattle.std.specs.List.{filter_map}
 use Rattle.ip_wire.specs.IpAddress.{IpAddress}
-use Rattle.interface_tables.specs.Best.{first_best}
-use Rattle.interface_tables.specs.Inner.{InnerValue, awaited_hop}
-use Rattle.interface_tables.specs.Neighbor.{last_request}
-use Rattle.interface_egress.specs.declared.socket_meta.Waiting.{Waiting}
-use Rattle.interface_egress.specs.declared.socket_set.Item.{Item}
-use Rattle.interface_egress.specs.declared.socket_set.SocketStorage.{SocketStorage}
-use Rattle.interface_ingress.specs.Socket.{Socket}
+use Rattle.iface_tables.specs.Best.{first_best}
+use Rattle.iface_tables.specs.Inner.{InnerValue, awaited_hop}
+use Rattle.iface_tables.specs.Neighbor.{last_request}
+use Rattle.iface_egress.specs.declared.socket_meta.Waiting.{Waiting}
+use Rattle.iface_egress.specs.declared.socket_set.Item.{Item}
+use Rattle.iface_egress.specs.declared.socket_set.SocketStorage.{SocketStorage}
+use Rattle.iface_ingress.specs.Socket.{Socket}
 use Rattle.interface.specs.declared.awaited.Awaited.{Awaited}
 
 -- the neighbour that a marked socket waits for, which isn't known, and may answer yet
@@ -25,7 +25,7 @@ awaited_at i None = None
 awaited_at i (Some item) = awaited_by i item.meta.waiting
 
 abbrev pub awaited_in : InnerValue → SocketStorage Socket → Option Awaited
-awaited_in i place = awaited_at i place.inner
+awaited_in i slot = awaited_at i slot.inner
 
 -- whether a socket waits for a neighbour
 abbrev pub is_marked_at : Option (Item Socket) → Bool
@@ -33,7 +33,7 @@ is_marked_at None = false
 is_marked_at (Some item) = is_some item.meta.waiting
 
 abbrev pub is_marked : SocketStorage Socket → Bool
-is_marked place = is_marked_at place.inner
+is_marked slot = is_marked_at slot.inner
 
 -- One that was never asked for comes first, of two such the one that was waited for first; else the one that was asked for longer ago.
 abbrev pub is_before : Option ℤ → Option ℤ → ℤ → ℤ → Bool

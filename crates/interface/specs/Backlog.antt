@@ -4,5 +4,5 @@ pub mod Entries
 pub mod Oldest
 pub mod Noted
 pub mod GivesWay
-pub mod Kept
+pub mod Keepers
 pub mod Calls

@@ -1,26 +1,26 @@
 -- A host as a value, but for its sockets.
 use Rattle.std.specs.Prelude.{ℕ, ℤ, List, Option}
-use Rattle.interface_tables.specs.declared.key.FragKey.{FragKey}
-use Rattle.interface_tables.specs.Inner.{InnerValue, at_moment}
-use Rattle.interface_tables.specs.Reassembly.{SlotValue}
-use Rattle.interface_tables.specs.Slots.{without_expired}
-use Rattle.interface_egress.specs.Fragments.{LeftValue}
+use Rattle.iface_tables.specs.declared.key.FragKey.{FragKey}
+use Rattle.iface_tables.specs.Inner.{InnerValue, at_instant}
+use Rattle.iface_tables.specs.Reassembly.{AssemblerValue}
+use Rattle.iface_tables.specs.Assemblers.{without_expired}
+use Rattle.iface_egress.specs.Fragments.{LeftValue}
 
--- Its addresses and tables; the datagram that is half sent; what came of datagrams in pieces, and how long such a datagram is
+-- Its addresses and tables; the datagram that is half sent; what came of datagrams in fragments, and how long such a datagram is
 -- waited for.
 pub record HostValue : Type 0 where
   pub inner : InnerValue
   pub left : Option LeftValue
-  pub slots : List (SlotValue FragKey)
+  pub assemblers : List (AssemblerValue FragKey)
   pub timeout : ℕ
 
--- a call that polls begins at a moment
+-- a call that polls begins at an instant
 abbrev pub host_at : ℤ → HostValue → HostValue
-host_at moment h = record h { inner = at_moment moment h.inner }
+host_at instant h = record h { inner = at_instant instant h.inner }
 
--- maintenance: slots whose moment has passed are given up
+-- maintenance: slots whose instant has passed are given up
 abbrev pub maintained : ℤ → HostValue → HostValue
-maintained moment h = record h { inner = at_moment moment h.inner; slots = without_expired h.slots moment }
+maintained instant h = record h { inner = at_instant instant h.inner; assemblers = without_expired h.assemblers instant }
 
 -- What sends: a host at a device, and the datagram that is half sent.
 pub record Sender (D : Type 0) : Type 0 where

@@ -1,6 +1,6 @@
 -- A host that stays on its medium.
 use Rattle.std.specs.List.{AllByRecursion}
-use Rattle.interface_egress.specs.Inner.{InnerValue}
+use Rattle.iface_egress.specs.Inner.{InnerValue}
 use Rattle.interface.specs.Delivered.{IsOfMedium}
 
 -- the hardware addresses of the neighbours that a host knows are of its medium

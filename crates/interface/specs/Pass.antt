@@ -2,27 +2,27 @@
 use Rattle.std.specs.Prelude.{◌≡◌, Bool, ◌||◌, ◌⊎◌, List, [], ◌∷◌, ◌++◌, Option}
 use Rattle.net_base.specs.Device.{Move}
 use Rattle.ip_wire.specs.IpAddress.{IpAddress}
-use Rattle.interface_egress.specs.declared.socket_set.SocketStorage.{SocketStorage}
-use Rattle.interface_ingress.specs.Socket.{Socket}
+use Rattle.iface_egress.specs.declared.socket_set.SocketStorage.{SocketStorage}
+use Rattle.iface_ingress.specs.Socket.{Socket}
 use Rattle.interface.specs.Host.{Sender}
-use Rattle.interface.specs.Turn.{PlaceTurns}
-use Rattle.interface.specs.declared.turn.Turned.TheVariants as Turn
+use Rattle.interface.specs.Serve.{ServesSlot}
+use Rattle.interface.specs.declared.serve.Served.TheVariants as Turn
 
--- how a pass ends: what sends, the places, and whether a socket or a queue changed
+-- how a pass ends: what sends, the slots, and whether a socket or a queue changed
 pub record Passed (D : Type 0) : Type 0 where
   pub sender : Sender D
-  pub places : List (SocketStorage Socket)
+  pub slots : List (SocketStorage Socket)
   pub changed : Bool
 
 abbrev pub passed : {D : Type 0} → Sender D → List (SocketStorage Socket) → Bool → Passed D
-passed s ps changed = record { sender = s; places = ps; changed = changed }
+passed s ps changed = record { sender = s; slots = ps; changed = changed }
 
 module _ {D : Type 0} (moves : D → Move → D → Type 0) (turn : Option IpAddress) where
-  -- the turns that are left, where those before have these places now, and `changed` says whether one of them changed anything
+  -- the turns that are left, where those before have these slots now, and `changed` says whether one of them changed anything
   abbrev pub Pass : Sender D → List (SocketStorage Socket) → Bool → List (SocketStorage Socket) → Passed D → Type 0
   Pass s before changed [] e = e ≡ passed s before changed
   Pass s before changed (p ∷ ps) e =
       ((b : Bool) × (mid : Sender D) × (p' : SocketStorage Socket)
-      × PlaceTurns moves turn s p (Turn.Next b) mid p' × Pass mid (before ++ p' ∷ []) (changed || b) ps e)
+      × ServesSlot moves turn s p (Turn.Next b) mid p' × Pass mid (before ++ p' ∷ []) (changed || b) ps e)
       ⊎ ((b : Bool) × (mid : Sender D) × (p' : SocketStorage Socket)
-      × PlaceTurns moves turn s p (Turn.Stop b) mid p' × (e ≡ passed mid (before ++ p' ∷ ps) (changed || b)))
+      × ServesSlot moves turn s p (Turn.Stop b) mid p' × (e ≡ passed mid (before ++ p' ∷ ps) (changed || b)))

@@ -1,4 +1,4 @@
--- A poll: maintenance, then steps of the way in, and then of the way out.
+-- A poll: maintenance, then steps of the ingress path, and then of the egress path.
 use Rattle.std.specs.Prelude.{◌≡◌, ℕ, zero, suc, ℤ, Bool, true, false, ◌||◌, ◌⊎◌, Option, None, Some}
 use Rattle.net_base.specs.Device.{Move}
 use Rattle.interface.specs.Host.{maintained}
@@ -32,9 +32,9 @@ Repeats {S} step (suc n) s c s' c' =
     (step s None s' × (c' ≡ c)) ⊎ ((b : Bool) × (mid : S) × step s (Some b) mid × Repeats step n mid (c || b) s' c')
 
 abbrev pub begun : {D : Type 0} → ℤ → State D → State D
-begun moment s = state s.device (maintained moment s.host) s.places
+begun instant s = state s.device (maintained instant s.host) s.slots
 
 abbrev pub Polls : {D : Type 0} → (D → Move → D → Type 0) → ℤ → ℕ → State D → Bool → State D → Type 0
-Polls {D} moves moment budget s changed s' =
-    (mid : State D) × (c : Bool) × Repeats (IngressStep moves moment) budget (begun moment s) false mid c
-    × Repeats (EgressStep moves moment) budget mid c s' changed
+Polls {D} moves instant budget s changed s' =
+    (mid : State D) × (c : Bool) × Repeats (IngressStep moves instant) budget (begun instant s) false mid c
+    × Repeats (EgressStep moves instant) budget mid c s' changed

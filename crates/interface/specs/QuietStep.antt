@@ -1,12 +1,12 @@
 -- A host that is asked too early has nothing to send.
 use Rattle.std.specs.Prelude.{◌≡◌, ◌≤ℤ◌, ◌<ℤ◌, ℤ, pos, false, List, [], ◌∷◌, Option, None, Some}
 use Rattle.ip_wire.specs.IpAddress.{IpAddress}
-use Rattle.interface_tables.specs.Inner.{InnerValue, at_moment, next_hop}
-use Rattle.interface_egress.specs.declared.socket_set.Item.{Item}
-use Rattle.interface_egress.specs.declared.socket_set.SocketStorage.{SocketStorage}
-use Rattle.interface_ingress.specs.Sockets.{settled, IsSameButForPlaces}
-use Rattle.interface_ingress.specs.Socket.{Socket}
-use Rattle.interface_egress.specs.Fragments.{LeftValue}
+use Rattle.iface_tables.specs.Inner.{InnerValue, at_instant, next_hop}
+use Rattle.iface_egress.specs.declared.socket_set.Item.{Item}
+use Rattle.iface_egress.specs.declared.socket_set.SocketStorage.{SocketStorage}
+use Rattle.iface_ingress.specs.Sockets.{settled, IsSameButForSlots}
+use Rattle.iface_ingress.specs.Socket.{Socket}
+use Rattle.iface_egress.specs.Fragments.{LeftValue}
 use Rattle.interface.specs.Host.{Sender}
 use Rattle.interface.specs.Instant.{poll_instant}
 use Rattle.interface.specs.Pass.{Passed}
@@ -15,7 +15,7 @@ use Rattle.interface.specs.Pass.{Passed}
 
 -- the same state and queues, whatever padding lies in them, once an open offer is settled as not sent
 abbrev pub IsUnchanged : Socket → Socket → Type 0
-IsUnchanged s s' = IsSameButForPlaces s (settled false s')
+IsUnchanged s s' = IsSameButForSlots s (settled false s')
 
 abbrev pub IsItemUnchanged : Option (Item Socket) → Option (Item Socket) → Type 0
 IsItemUnchanged None None = Unit {0}
@@ -23,7 +23,7 @@ IsItemUnchanged (Some item) (Some item') = IsUnchanged item.socket item'.socket
 IsItemUnchanged None (Some item') = ⊥
 IsItemUnchanged (Some item) None = ⊥
 
--- place by place
+-- slot by slot
 abbrev pub AreUnchanged : List (SocketStorage Socket) → List (SocketStorage Socket) → Type 0
 AreUnchanged [] [] = Unit {0}
 AreUnchanged (p ∷ ps) (p' ∷ ps') = IsItemUnchanged p.inner p'.inner × AreUnchanged ps ps'
@@ -32,19 +32,19 @@ AreUnchanged (p ∷ ps) [] = ⊥
 
 -- QUIET
 
--- there is no such moment, or it is later
+-- there is no such instant, or it is later
 abbrev pub IsEarlier : ℤ → Option ℤ → Type 0
 IsEarlier t None = Unit {0}
-IsEarlier t (Some moment) = t <ℤ moment
+IsEarlier t (Some instant) = t <ℤ instant
 
--- every destination has the same next hop at both moments
+-- every destination has the same next hop at both instants
 abbrev pub RoutesStay : InnerValue → ℤ → Type 0
-RoutesStay asked t = (address : IpAddress) → next_hop (at_moment t asked) address ≡ next_hop asked address
+RoutesStay asked t = (address : IpAddress) → next_hop (at_instant t asked) address ≡ next_hop asked address
 
--- a host that was asked, and is polled later, but before the moment that it answered
+-- a host that was asked, and is polled later, but before the instant that it answered
 pub record IsEarly (asked : InnerValue) (left : Option LeftValue) (ps : List (SocketStorage Socket)) (t : ℤ) : Type 0 where
-  pub moment : pos 0 ≤ℤ t
-  pub since : asked.moment ≤ℤ t
+  pub instant : pos 0 ≤ℤ t
+  pub since : asked.instant ≤ℤ t
   pub before : IsEarlier t (poll_instant asked left ps)
   pub routes : RoutesStay asked t
 
@@ -53,4 +53,4 @@ pub record IsEarly (asked : InnerValue) (left : Option LeftValue) (ps : List (So
 pub record IsQuiet {D : Type 0} (asked : InnerValue) (s : Sender D) (ps : List (SocketStorage Socket)) (e : Passed D) : Type 0 where
   pub sender : e.sender ≡ s
   pub changed : e.changed ≡ false
-  pub instant : poll_instant asked s.left e.places ≡ poll_instant asked s.left ps
+  pub due_instant : poll_instant asked s.left e.slots ≡ poll_instant asked s.left ps

@@ -3,11 +3,11 @@
 use Rattle.std.specs.Prelude.{ℤ, Option, None, Some}
 use Rattle.ip_wire.specs.IpAddress.{IpAddress}
 use Rattle.ip_wire.specs.IpEndpoint.{IpEndpoint}
-use Rattle.interface_ingress.specs.Context.{ContextValue}
-use Rattle.interface_ingress.specs.Socket.{Socket}
-use Rattle.interface_ingress.specs.Socket.TheVariants as Kind
-use Rattle.interface_ingress.specs.TcpSocket.{remote_in}
-use Rattle.interface_tables.specs.Inner.{InnerValue, context_towards, path_end}
+use Rattle.iface_ingress.specs.Context.{ContextValue}
+use Rattle.iface_ingress.specs.Socket.{Socket}
+use Rattle.iface_ingress.specs.Socket.TheVariants as Kind
+use Rattle.iface_ingress.specs.TcpSocket.{remote_in}
+use Rattle.iface_tables.specs.Inner.{InnerValue, context_towards, path_end}
 
 abbrev pub address_in : Option IpEndpoint → Option IpAddress
 address_in None = None
@@ -15,7 +15,7 @@ address_in (Some endpoint) = Some endpoint.addr
 
 -- the one destination of all that a socket sends: a connection's remote; other sockets may send to several
 abbrev pub remote_of : Socket → Option IpAddress
-remote_of (Kind.Tcp v) = address_in (remote_in v.block.names.pair)
+remote_of (Kind.Tcp v) = address_in (remote_in v.tcb.names.pair)
 remote_of s = None
 
 abbrev pub context_for : InnerValue → Socket → ContextValue

@@ -1,6 +1,6 @@
--- What the way out leaves of a host.
+-- What the egress path leaves of a host.
 use Rattle.std.specs.Prelude.{◌≡◌}
-use Rattle.interface_tables.specs.Inner.{InnerValue}
+use Rattle.iface_tables.specs.Inner.{InnerValue}
 
 -- nothing changed but the next identification, until when no neighbour is asked for, and which neighbours are
 abbrev pub IsSameHost : InnerValue → InnerValue → Type 0

@@ -4,30 +4,30 @@ use Rattle.std.specs.Prelude.{◌≡◌, ℕ, ℤ, Bool, true, false, ◌⊎◌,
 use Rattle.std.specs.Prelude.{Err}
 use Rattle.net_base.specs.Device.{Move}
 use Rattle.ip_wire.specs.HardwareAddress.{HardwareAddress}
-use Rattle.interface_ingress.specs.Offers.{IsOnly, IsSameButForPlaces}
-use Rattle.interface_ingress.specs.Packet.{PacketValue}
-use Rattle.interface_ingress.specs.SendError.{SendError}
-use Rattle.interface_ingress.specs.Socket.{Socket}
-use Rattle.interface_ingress.specs.Socket.TheVariants as Kind
-use Rattle.interface_ingress.specs.Udp.{UdpValue, TakesAtOnce, send_answer, send_after}
-use Rattle.interface_ingress.specs.UdpMetadata.{UdpMetadata}
-use Rattle.interface_ingress.specs.WellFormed.{IsWellFormed}
-use Rattle.interface_tables.specs.Inner.{InnerValue}
-use Rattle.interface_egress.specs.Meta.{unmarked}
-use Rattle.interface_egress.specs.Plan.{GoesStraight}
-use Rattle.interface_egress.specs.declared.socket_meta.Meta.{Meta}
-use Rattle.interface_egress.specs.declared.socket_set.Item.{Item}
-use Rattle.interface_egress.specs.declared.socket_set.SocketStorage.{SocketStorage}
-use Rattle.interface_egress.specs.declared.way_out.Sent.{Sent}
-use Rattle.interface_egress.specs.declared.way_out.Sent.TheVariants as Outcome
+use Rattle.iface_ingress.specs.Offers.{IsOnly, IsSameButForSlots}
+use Rattle.iface_ingress.specs.Packet.{PacketValue}
+use Rattle.iface_ingress.specs.SendError.{SendError}
+use Rattle.iface_ingress.specs.Socket.{Socket}
+use Rattle.iface_ingress.specs.Socket.TheVariants as Kind
+use Rattle.iface_ingress.specs.Udp.{UdpValue, TakesAtOnce, send_answer, send_after}
+use Rattle.iface_ingress.specs.UdpMetadata.{UdpMetadata}
+use Rattle.iface_ingress.specs.WellFormed.{IsWellFormed}
+use Rattle.iface_tables.specs.Inner.{InnerValue}
+use Rattle.iface_egress.specs.Meta.{unmarked}
+use Rattle.iface_egress.specs.Plan.{GoesDirect}
+use Rattle.iface_egress.specs.declared.socket_meta.Meta.{Meta}
+use Rattle.iface_egress.specs.declared.socket_set.Item.{Item}
+use Rattle.iface_egress.specs.declared.socket_set.SocketStorage.{SocketStorage}
+use Rattle.iface_egress.specs.declared.egress_path.Sent.{Sent}
+use Rattle.iface_egress.specs.declared.egress_path.Sent.TheVariants as Outcome
 use Rattle.interface.specs.Egress.{sending}
 use Rattle.interface.specs.Host.{Sender}
 use Rattle.interface.specs.Remote.{context_for}
 use Rattle.interface.specs.State.{State}
-use Rattle.interface.specs.Turn.{is_waiting, is_done, turned_by, LeavesStraight}
+use Rattle.interface.specs.Serve.{is_waiting, is_done, turned_by, LeavesDirect}
 use Rattle.interface.specs.declared.send_to.Sending.{Sending}
 use Rattle.interface.specs.declared.send_to.Sending.TheVariants as Way
-use Rattle.interface.specs.declared.turn.Turned.{Turned}
+use Rattle.interface.specs.declared.serve.Served.{Served}
 use Rattle.interface.specs.declared.send_to.SendToError.{SendToError}
 use Rattle.interface.specs.declared.send_to.SendToError.TheVariants as Refusal
 
@@ -44,7 +44,7 @@ queued_answer (Ok done) = Ok Way.Queued
 queued_answer (Err e) = Err (Refusal.Refused e)
 
 -- The packet is that of a datagram which would be the first in its socket's queue, as the socket sees its host; the socket waits for no
--- neighbour, and no piece of another datagram waits to go before it.
+-- neighbour, and no fragment of another datagram waits to go before it.
 pub record MayLeave {D : Type 0} (s : Sender D) (m : Meta) (v : UdpValue) (q : DatagramToSend) (p : PacketValue) : Type 0 where
   pub packet : IsOnly (TakesAtOnce (context_for s.inner (Kind.Udp v)) v q) p
   pub awake : is_waiting s.inner m ≡ false
@@ -54,7 +54,7 @@ module _ {D : Type 0} (moves : D → Move → D → Type 0) where
   -- a packet leaves straight to its hardware address, which is known
   abbrev pub LeavesDirectly : PacketValue → D → InnerValue → Meta → Sent → D → InnerValue → Meta → Type 0
   LeavesDirectly p old i m sent new i' m' =
-      (to : HardwareAddress) × GoesStraight i p.header to × LeavesStraight moves to p old i m sent new i' m' × IsWellFormed p
+      (to : HardwareAddress) × GoesDirect i p.header to × LeavesDirect moves to p old i m sent new i' m' × IsWellFormed p
 
   -- it left; or the device wasn't asked, gave no leave or refused the frame, and all else is as it was
   abbrev pub LeavesIfKnown : PacketValue → D → InnerValue → Meta → Bool → D → InnerValue → Meta → Type 0
@@ -97,35 +97,35 @@ module _ {D : Type 0} (moves : D → Move → D → Type 0) where
   ItemSendsIfAny None s q answer new i' (Some item') = ⊥
   ItemSendsIfAny (Some item) s q answer new i' None = ⊥
 
-  abbrev pub PlaceSends : Sender D → SocketStorage Socket → DatagramToSend → Result Sending SendToError → D → InnerValue → SocketStorage Socket → Type 0
-  PlaceSends s place q answer new i' place' = ItemSendsIfAny place.inner s q answer new i' place'.inner
+  abbrev pub SlotSends : Sender D → SocketStorage Socket → DatagramToSend → Result Sending SendToError → D → InnerValue → SocketStorage Socket → Type 0
+  SlotSends s slot q answer new i' slot' = ItemSendsIfAny slot.inner s q answer new i' slot'.inner
 
   abbrev pub SendsBy : Option (SocketStorage Socket) → Sender D → List (SocketStorage Socket) → ℕ → DatagramToSend → Result Sending SendToError → D →
       InnerValue → List (SocketStorage Socket) → Type 0
   SendsBy None s ps n q answer new i' ps' = IsNotUdp s answer new i' × (ps' ≡ ps)
-  SendsBy (Some place) s ps n q answer new i' ps' =
-      (place' : SocketStorage Socket) × PlaceSends s place q answer new i' place' × (ps' ≡ slice_set ps n place')
+  SendsBy (Some slot) s ps n q answer new i' ps' =
+      (slot' : SocketStorage Socket) × SlotSends s slot q answer new i' slot' × (ps' ≡ slice_set ps n slot')
 
-  -- from the socket at a place; the others stay
+  -- from the socket at a slot; the others stay
   abbrev pub SendsFrom : Sender D → List (SocketStorage Socket) → ℕ → DatagramToSend → Result Sending SendToError → D → InnerValue →
       List (SocketStorage Socket) → Type 0
   SendsFrom s ps n q answer new i' ps' = SendsBy (slice_get ps n) s ps n q answer new i' ps'
 
-  -- A datagram is sent at a moment: what is half sent, what came in pieces, and how long that is waited for stay.
+  -- A datagram is sent at an instant: what is half sent, what came in fragments, and how long that is waited for stay.
   abbrev pub SendsTo : ℤ → State D → ℕ → DatagramToSend → Result Sending SendToError → State D → Type 0
-  SendsTo moment s n q answer s' =
-      SendsFrom (sending moment s) s.places n q answer s'.device s'.host.inner s'.places
+  SendsTo instant s n q answer s' =
+      SendsFrom (sending instant s) s.slots n q answer s'.device s'.host.inner s'.slots
       × (s'.host ≡ record s.host { inner = s'.host.inner })
 
   -- A turn of a socket with this datagram alone in its queue, and what it leaves of the socket: the packet leaves straight to this
   -- address, and the queue is empty again; or the device gives no leave or refuses the frame, and the datagram stays. Where they lie in
   -- their queue isn't said.
-  pub record LeavesInTurn (s : Sender D) (m : Meta) (v : UdpValue) (q : DatagramToSend) (p : PacketValue) (to : HardwareAddress) (turned : Turned)
+  pub record LeavesInTurn (s : Sender D) (m : Meta) (v : UdpValue) (q : DatagramToSend) (p : PacketValue) (to : HardwareAddress) (turned : Served)
       (s' : Sender D) (item' : Item Socket) : Type 0 where
     pub sent : Sent
-    pub leaves : LeavesStraight moves to p s.device s.inner m sent s'.device s'.inner (if is_done sent then unmarked else m)
+    pub leaves : LeavesDirect moves to p s.device s.inner m sent s'.device s'.inner (if is_done sent then unmarked else m)
     pub left : s'.left ≡ s.left
     pub answer : turned ≡ turned_by sent false
     pub socket : UdpValue
     pub is_of_udp : item'.socket ≡ Kind.Udp socket
-    pub same : IsSameButForPlaces (if is_done sent then v else send_after v q.0 q.1) socket
+    pub same : IsSameButForSlots (if is_done sent then v else send_after v q.0 q.1) socket

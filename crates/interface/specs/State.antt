@@ -1,27 +1,27 @@
 -- A device, the host at it, and its sockets.
 use Rattle.std.specs.Prelude.{◌≡◌, ℕ, List, Option}
-use Rattle.interface_tables.specs.declared.key.FragKey.{FragKey}
-use Rattle.interface_tables.specs.Inner.{InnerValue}
-use Rattle.interface_tables.specs.Reassembly.{SlotValue}
-use Rattle.interface_egress.specs.declared.socket_set.SocketStorage.{SocketStorage}
-use Rattle.interface_ingress.specs.Socket.{Socket}
-use Rattle.interface_egress.specs.Fragments.{LeftValue}
+use Rattle.iface_tables.specs.declared.key.FragKey.{FragKey}
+use Rattle.iface_tables.specs.Inner.{InnerValue}
+use Rattle.iface_tables.specs.Reassembly.{AssemblerValue}
+use Rattle.iface_egress.specs.declared.socket_set.SocketStorage.{SocketStorage}
+use Rattle.iface_ingress.specs.Socket.{Socket}
+use Rattle.iface_egress.specs.Fragments.{LeftValue}
 use Rattle.interface.specs.Host.{HostValue, Sender}
 
 pub record State (D : Type 0) : Type 0 where
   pub device : D
   pub host : HostValue
-  pub places : List (SocketStorage Socket)
+  pub slots : List (SocketStorage Socket)
 
 abbrev pub state : {D : Type 0} → D → HostValue → List (SocketStorage Socket) → State D
-state device host places = record { device = device; host = host; places = places }
+state device host slots = record { device = device; host = host; slots = slots }
 
-abbrev pub host : InnerValue → Option LeftValue → List (SlotValue FragKey) → ℕ → HostValue
-host inner left slots timeout = record { inner = inner; left = left; slots = slots; timeout = timeout }
+abbrev pub host : InnerValue → Option LeftValue → List (AssemblerValue FragKey) → ℕ → HostValue
+host inner left assemblers timeout = record { inner = inner; left = left; assemblers = assemblers; timeout = timeout }
 
--- the same host and sockets behind a move of the device
+-- the same host and sockets after a move of the device
 abbrev pub at_device : {D : Type 0} → State D → D → State D
-at_device s device = state device s.host s.places
+at_device s device = state device s.host s.slots
 
 -- this host as it sends, with these sockets
 abbrev pub sending_as : {D : Type 0} → HostValue → Sender D → List (SocketStorage Socket) → State D

@@ -1,7 +1,7 @@
 -- A device that stays determined while a host polls.
 use Rattle.std.specs.Prelude.{ℕ, List, length}
 use Rattle.net_base.specs.Device.{Move, Emitted, Denied}
-use Rattle.interface_egress.specs.Determined.{IsDetermined}
+use Rattle.iface_egress.specs.Determined.{IsDetermined}
 
 -- A move leads from a device whose next move is determined to such a one; and there no frame may be taken and refused as well, whatever its
 -- length. Of a device with few buffers these are the moves for which one lies ready before and after.

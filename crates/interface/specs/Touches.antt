@@ -3,10 +3,10 @@ use Rattle.std.specs.Prelude.{◌≡◌, ℕ, ◌+◌, ◌≤◌, ℤ, pos, ◌+
 use Rattle.net_base.specs.ChecksumCapabilities.{ChecksumCapabilities}
 use Rattle.net_base.specs.Device.{Move, Took, Empty, Allowed}
 use Rattle.ip_wire.specs.HardwareAddress.{HardwareAddress}
-use Rattle.interface_tables.specs.Inner.{InnerValue}
-use Rattle.interface_tables.specs.Neighbor.{silent_time}
-use Rattle.interface_egress.specs.Departure.{Departure, Asks, Tells, Whole, Part, frame_from, len_from}
-use Rattle.interface_egress.specs.Emits.{Emits}
+use Rattle.iface_tables.specs.Inner.{InnerValue}
+use Rattle.iface_tables.specs.Neighbor.{silent_time}
+use Rattle.iface_egress.specs.Departure.{Departure, Asks, Tells, Whole, Part, frame_from, len_from}
+use Rattle.iface_egress.specs.Emits.{Emits}
 
 -- a look for a frame, and what it found; leave to send, given or not; and a frame that the device took or refused
 pub data Touch : Type 0 where
@@ -34,32 +34,32 @@ sends_in (Sends d taken ∷ ts) = sends_in ts + 1
 abbrev pub second_after : ℤ → ℤ
 second_after t = t +ℤ pos silent_time
 
--- A request leaves at a moment that is not before the end of the silence, and begins a silence of a second. Nothing else begins
+-- A request leaves at an instant that is not before the end of the silence, and begins a silence of a second. Nothing else begins
 -- or ends one (RFC 1122, section 2.3.2.1; RFC 4861, section 7.2.2).
 abbrev pub Silences : ℤ → List Departure → ℤ → ℤ → Type 0
 Silences t [] before after = after ≡ before
-Silences t (Asks question ∷ ds) before after =
+Silences t (Asks neighbor_query ∷ ds) before after =
     (mid : ℤ) × Silences t ds before mid × (int_lt t mid ≡ false) × (after ≡ second_after t)
 Silences t (Tells packet ∷ ds) before after = Silences t ds before after
 Silences t (Whole to p ∷ ds) before after = Silences t ds before after
-Silences t (Part to header piece ∷ ds) before after = Silences t ds before after
+Silences t (Part to header fragment ∷ ds) before after = Silences t ds before after
 
 -- AT THE DEVICE
 
-module _ {D : Type 0} (moves : D → Move → D → Type 0) (t : ℤ) (own : HardwareAddress) (caps : ChecksumCapabilities) where
-  -- one move in a call at this moment, of a host with this hardware address and these checksums
+module _ {D : Type 0} (moves : D → Move → D → Type 0) (t : ℤ) (local : HardwareAddress) (caps : ChecksumCapabilities) where
+  -- one move in a call at this instant, of a host with this hardware address and these checksums
   abbrev pub Does : Touch → D → D → Type 0
   Does (Looks None) old new = moves old (Empty t) new
   Does (Looks (Some frame)) old new = moves old (Took t frame) new
   Does (Leave given) old new = moves old (Allowed t given) new
-  Does (Sends d taken) old new = Emits moves old (frame_from own caps d) (len_from own d) taken new
+  Does (Sends d taken) old new = Emits moves old (frame_from local caps d) (len_from local d) taken new
 
   -- one after the other, the newest first
   abbrev pub DoesAll : List Touch → D → D → Type 0
   DoesAll [] old new = new ≡ old
   DoesAll (x ∷ ts) old new = (mid : D) × DoesAll ts old mid × Does x mid new
 
--- Between two hosts at a device, in a call at this moment: all that was asked of the device, with so many sends at most, and what
+-- Between two hosts at a device, in a call at this instant: all that was asked of the device, with so many sends at most, and what
 -- became of the silence.
 pub record Traced {D : Type 0} (moves : D → Move → D → Type 0) (t : ℤ) (most : ℕ) (d : D) (i : InnerValue) (d' : D) (i' : InnerValue) : Type 0 where
   pub touches : List Touch

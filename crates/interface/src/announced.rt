@@ -3,19 +3,19 @@ ghost use Rattle.std.specs.Prelude.{◌≡◌, ◌≤◌, length};
 ghost use Rattle.std.specs.List.{filter_map};
 ghost use Rattle.ip_wire.specs.AddressTests.{is_loopback};
 ghost use Rattle.ip_wire.specs.HardwareAddress.TheVariants as Hardware;
-ghost use Rattle.interface_egress.specs.Announcement.{announcement};
-ghost use Rattle.interface_egress.specs.Settings.{hardware_refusal, with_hardware};
+ghost use Rattle.iface_egress.specs.Announcement.{announcement};
+ghost use Rattle.iface_egress.specs.Settings.{hardware_refusal, with_hardware};
 ghost use Rattle.interface.specs.Announced.{is_announced, announcement_of, announcements, GoesIf, GoInTurn, TellsUnless};
 ghost use Rattle.interface.specs.Made.{with_inner};
 
 use crate::host::Interface;
-use interface_egress::{HardwareAddrError, InterfaceInner, announce};
-use interface_ingress::Context;
+use iface_egress::{HardwareAddrError, InterfaceInner, announce};
+use iface_ingress::Context;
 use ip_wire::{EthernetAddress, HardwareAddress, IpAddress, IpCidr};
 use net_base::{Device, Instant};
 
 impl Interface {
-    /// Sets the hardware address, as `set_hardware_addr` does, and tells all neighbours of it, for one own address after the other, until
+    /// Sets the hardware address, as `set_hardware_addr` does, and tells all neighbours of it, for one local address after the other, until
     /// the device gives no leave or refuses a frame. Says for how many they were told. What is known of neighbours stays.
     pub fn update_hardware_addr<D: Device>(
         &mut self,
@@ -33,14 +33,20 @@ impl Interface {
     }
 }
 
-/// Tells of all own addresses, until the device takes no more.
+/// Tells of all local addresses, until the device takes no more.
 fn tell_all<D: Device>(timestamp: Instant, device: &mut D, inner: &InterfaceInner) -> usize
     ensures told { GoInTurn D.moves timestamp inner.now (announcements inner.now.hardware inner.now.addresses) device.old result device.new }
     ensures capabilities { D.described device.new ≡ D.described device.old }
 {
     match inner.hardware_addr() {
         HardwareAddress::Ip => 0,
-        HardwareAddress::Ethernet(own) => tell(timestamp, device, inner, &own, inner.ip_addrs()),
+        HardwareAddress::Ethernet(local) => tell(
+            timestamp,
+            device,
+            inner,
+            &local,
+            inner.ip_addrs(),
+        ),
     }
 }
 
@@ -49,25 +55,25 @@ fn tell<D: Device>(
     timestamp: Instant,
     device: &mut D,
     inner: &InterfaceInner,
-    own: &EthernetAddress,
+    local: &EthernetAddress,
     blocks: &[IpCidr],
 ) -> usize
-    requires { inner.now.hardware ≡ Hardware.Ethernet own.now }
-    ensures told { GoInTurn D.moves timestamp inner.now (filter_map (announcement_of own.now) blocks.now) device.old result device.new }
+    requires { inner.now.hardware ≡ Hardware.Ethernet local.now }
+    ensures told { GoInTurn D.moves timestamp inner.now (filter_map (announcement_of local.now) blocks.now) device.old result device.new }
     ensures few { result ≤ length blocks.now }
     ensures capabilities { D.described device.new ≡ D.described device.old }
 {
-    let Some((block, rest)) = blocks.split_first() else {
+    let Some((tcb, rest)) = blocks.split_first() else {
         return 0;
     };
-    let address = block.address();
+    let address = tcb.address();
     if !is_announced(&address) {
-        return tell(timestamp, device, inner, own, rest);
+        return tell(timestamp, device, inner, local, rest);
     }
-    if !tell_of(timestamp, device, inner, own, &address) {
+    if !tell_of(timestamp, device, inner, local, &address) {
         return 0;
     }
-    1 + tell(timestamp, device, inner, own, rest)
+    1 + tell(timestamp, device, inner, local, rest)
 }
 
 /// Tells of this address. Says whether the device took it.
@@ -75,17 +81,17 @@ fn tell_of<D: Device>(
     timestamp: Instant,
     device: &mut D,
     inner: &InterfaceInner,
-    own: &EthernetAddress,
+    local: &EthernetAddress,
     address: &IpAddress,
 ) -> bool
-    requires { inner.now.hardware ≡ Hardware.Ethernet own.now }
-    ensures told { GoesIf D.moves timestamp inner.now device.old (announcement own.now address.now) result device.new }
+    requires { inner.now.hardware ≡ Hardware.Ethernet local.now }
+    ensures told { GoesIf D.moves timestamp inner.now device.old (announcement local.now address.now) result device.new }
     ensures capabilities { D.described device.new ≡ D.described device.old }
 {
     let Some(token) = device.transmit(timestamp) else {
         return false;
     };
-    announce(device, token, own, address, &inner.checksum_caps())
+    announce(device, token, local, address, &inner.checksum_caps())
 }
 
 /// Whether neighbours may know this address: it is one host's, and no loopback one.

@@ -1,23 +1,24 @@
-//! One step of the way in.
+//! One step of the ingress path.
 ghost use Rattle.std.specs.Prelude.{◌≡◌, ◌&&◌, ◌+◌, ◌<◌, ◌^◌, false, is_some, None, Some};
-ghost use Rattle.interface_ingress.specs.Incoming.{AreMeasured, content_of};
-ghost use Rattle.interface_ingress.specs.Arrives.{Answers, IfCanGo, reply_of};
-ghost use Rattle.interface_ingress.specs.Packet.{packet_value, IsSendable};
-ghost use Rattle.interface_ingress.specs.WellFormed.{IsWellFormed};
+ghost use Rattle.iface_ingress.specs.Incoming.{AreMeasured, content_of};
+ghost use Rattle.iface_ingress.specs.Arrives.{Answers, IfCanGo, reply_of};
+ghost use Rattle.iface_ingress.specs.Packet.{packet_value, IsSendable};
+ghost use Rattle.iface_ingress.specs.WellFormed.{IsWellFormed};
 ghost use Rattle.interface.specs.Awaited.{turn_of};
 ghost use Rattle.interface.specs.Host.{sender};
 ghost use Rattle.interface.specs.State.{state, host, KeepsSettings};
-ghost use Rattle.interface.specs.Ingress.{is_read, is_question, Replied, Receives, Reads, Takes};
+ghost use Rattle.interface.specs.Ingress.{is_read, is_solicitation, Replied, Receives, Reads, Takes};
 
 use crate::awaited::turn_of;
-use interface_egress::{
-    ArpFrame, Fragmenter, InterfaceInner, PacketAssemblerSet, Places, Plan, dispatch_by, plan_for,
-    send, send_straight, straight_to,
+use iface_egress::{
+    ArpFrame, Fragmenter, InterfaceInner, PacketAssemblerSet, Plan, Slots, direct_route,
+    dispatch_by, plan_for, send, transmit_direct,
 };
-use interface_ingress::laws::same_settings;
-use interface_ingress::widths::fields_have_widths;
-use interface_ingress::{
-    Context, Incoming, Packet, Reply, Socket, bring, keep, read_into, release, take_in, take_short,
+use iface_ingress::laws::same_settings;
+use iface_ingress::widths::fields_have_widths;
+use iface_ingress::{
+    Context, Incoming, Packet, Reply, Socket, bring, keep, process_frame_fast, read_into, release,
+    take_in,
 };
 use net_base::{Device, Duration, RxToken};
 
@@ -28,13 +29,13 @@ const LONGEST_FRAME: usize = 65_549;
 pub fn ingress<D: Device>(
     inner: &mut InterfaceInner,
     fragmenter: &mut Fragmenter,
-    slots: &mut PacketAssemblerSet,
+    assemblers: &mut PacketAssemblerSet,
     timeout: Duration,
     device: &mut D,
-    places: &mut Places<Socket>,
+    slots: &mut Slots<Socket>,
 ) -> Option<bool>
-    ensures takes { Takes D.moves (state device.old (host inner.old fragmenter.old slots.old timeout) places.old) result
-        (state device.new (host inner.new fragmenter.new slots.new timeout) places.new) }
+    ensures takes { Takes D.moves (state device.old (host inner.old fragmenter.old assemblers.old timeout) slots.old) result
+        (state device.new (host inner.new fragmenter.new assemblers.new timeout) slots.new) }
     ensures settings { KeepsSettings inner.old inner.new }
     ensures capabilities { D.described device.new ≡ D.described device.old }
 {
@@ -44,14 +45,14 @@ pub fn ingress<D: Device>(
     if !is_read(frame.bytes()) {
         return Some(false);
     }
-    read_frame(
+    process_frame(
         inner,
         fragmenter,
-        slots,
+        assemblers,
         timeout,
         device,
         token,
-        places,
+        slots,
         frame.bytes(),
     );
     Some(true)
@@ -65,29 +66,29 @@ fn is_read(frame: &[u8]) -> bool
 }
 
 /// Takes in what a frame carries, and answers it.
-fn read_frame<D: Device>(
+fn process_frame<D: Device>(
     inner: &mut InterfaceInner,
     fragmenter: &mut Fragmenter,
-    slots: &mut PacketAssemblerSet,
+    assemblers: &mut PacketAssemblerSet,
     timeout: Duration,
     device: &mut D,
     token: D::TxToken,
-    places: &mut Places<Socket>,
+    slots: &mut Slots<Socket>,
     frame: &[u8],
 )
     requires room { D.refused device.old + 1 < 2 ^ 64 }
-    ensures reads { Reads D.moves frame.now (state device.old (host inner.old fragmenter.old slots.old timeout) places.old)
-        (state device.new (host inner.new fragmenter.new slots.new timeout) places.new) }
+    ensures reads { Reads D.moves frame.now (state device.old (host inner.old fragmenter.old assemblers.old timeout) slots.old)
+        (state device.new (host inner.new fragmenter.new assemblers.new timeout) slots.new) }
     ensures settings { KeepsSettings inner.old inner.new }
     ensures capabilities { D.described device.new ≡ D.described device.old }
 {
     same_settings();
     let mut reply = None;
-    if take_short(inner, places, frame, &mut reply) {
-        answer_if_any(inner, fragmenter, device, token, places, &reply);
+    if process_frame_fast(inner, slots, frame, &mut reply) {
+        answer_if_any(inner, fragmenter, device, token, slots, &reply);
     } else {
-        read_any(
-            inner, fragmenter, slots, timeout, device, token, places, frame,
+        process_any_frame(
+            inner, fragmenter, assemblers, timeout, device, token, slots, frame,
         );
     }
 }
@@ -95,19 +96,19 @@ fn read_frame<D: Device>(
 /// Takes in what any frame carries, and answers it. It stands apart, so that its content isn't made ready for a frame that goes the short
 /// way.
 #[inline(never)]
-fn read_any<D: Device>(
+fn process_any_frame<D: Device>(
     inner: &mut InterfaceInner,
     fragmenter: &mut Fragmenter,
-    slots: &mut PacketAssemblerSet,
+    assemblers: &mut PacketAssemblerSet,
     timeout: Duration,
     device: &mut D,
     token: D::TxToken,
-    places: &mut Places<Socket>,
+    slots: &mut Slots<Socket>,
     frame: &[u8],
 )
     requires room { D.refused device.old + 1 < 2 ^ 64 }
-    ensures reads { Reads D.moves frame.now (state device.old (host inner.old fragmenter.old slots.old timeout) places.old)
-        (state device.new (host inner.new fragmenter.new slots.new timeout) places.new) }
+    ensures reads { Reads D.moves frame.now (state device.old (host inner.old fragmenter.old assemblers.old timeout) slots.old)
+        (state device.new (host inner.new fragmenter.new assemblers.new timeout) slots.new) }
     ensures settings { KeepsSettings inner.old inner.new }
     ensures capabilities { D.described device.new ≡ D.described device.old }
 {
@@ -119,7 +120,7 @@ fn read_any<D: Device>(
         &mut content,
     );
     receive(
-        inner, fragmenter, slots, timeout, device, token, places, &content,
+        inner, fragmenter, assemblers, timeout, device, token, slots, &content,
     );
 }
 
@@ -127,27 +128,27 @@ fn read_any<D: Device>(
 fn receive<D: Device>(
     inner: &mut InterfaceInner,
     fragmenter: &mut Fragmenter,
-    slots: &mut PacketAssemblerSet,
+    assemblers: &mut PacketAssemblerSet,
     timeout: Duration,
     device: &mut D,
     token: D::TxToken,
-    places: &mut Places<Socket>,
+    slots: &mut Slots<Socket>,
     content: &Option<Incoming<'_>>,
 )
     requires room { D.refused device.old + 1 < 2 ^ 64 }
     requires measured { AreMeasured (content_of content.now) }
-    ensures receives { Receives D.moves (content_of content.now) (state device.old (host inner.old fragmenter.old slots.old timeout) places.old)
-        (state device.new (host inner.new fragmenter.new slots.new timeout) places.new) }
+    ensures receives { Receives D.moves (content_of content.now) (state device.old (host inner.old fragmenter.old assemblers.old timeout) slots.old)
+        (state device.new (host inner.new fragmenter.new assemblers.new timeout) slots.new) }
     ensures settings { KeepsSettings inner.old inner.new }
     ensures capabilities { D.described device.new ≡ D.described device.old }
 {
     same_settings();
     let taken = take_in(inner, content);
-    let place = keep(inner, slots, timeout, taken);
+    let slot = keep(inner, assemblers, timeout, taken);
     let mut reply = None;
-    bring(inner, places, slots, place, taken, &mut reply);
-    answer(inner, fragmenter, device, token, places, &reply);
-    release(slots, place);
+    bring(inner, slots, assemblers, slot, taken, &mut reply);
+    answer(inner, fragmenter, device, token, slots, &reply);
+    release(assemblers, slot);
 }
 
 /// Sends an answer, if it can go now.
@@ -156,12 +157,12 @@ fn answer<D: Device>(
     fragmenter: &mut Fragmenter,
     device: &mut D,
     token: D::TxToken,
-    places: &Places<Socket>,
+    slots: &Slots<Socket>,
     reply: &Option<Reply<'_>>,
 )
     requires room { D.refused device.old + 1 < 2 ^ 64 }
     requires fits { IfCanGo (reply_of reply.now) }
-    ensures replied { Replied D.moves (is_some (turn_of inner.old places.now)) (reply_of reply.now) (sender device.old inner.old fragmenter.old)
+    ensures replied { Replied D.moves (is_some (turn_of inner.old slots.now)) (reply_of reply.now) (sender device.old inner.old fragmenter.old)
         (sender device.new inner.new fragmenter.new) }
     ensures settings { KeepsSettings inner.old inner.new }
     ensures capabilities { D.described device.new ≡ D.described device.old }
@@ -171,7 +172,7 @@ fn answer<D: Device>(
             let _ = send(device, token, &ArpFrame { packet: *packet });
         }
         Some(Reply::Packet(packet)) => {
-            answer_with(inner, fragmenter, device, token, places, packet);
+            answer_with(inner, fragmenter, device, token, slots, packet);
         }
         None => {}
     }
@@ -183,18 +184,18 @@ fn answer_if_any<D: Device>(
     fragmenter: &mut Fragmenter,
     device: &mut D,
     token: D::TxToken,
-    places: &Places<Socket>,
+    slots: &Slots<Socket>,
     reply: &Option<Reply<'_>>,
 )
     requires room { D.refused device.old + 1 < 2 ^ 64 }
     requires fits { IfCanGo (reply_of reply.now) }
-    ensures replied { Replied D.moves (is_some (turn_of inner.old places.now)) (reply_of reply.now) (sender device.old inner.old fragmenter.old)
+    ensures replied { Replied D.moves (is_some (turn_of inner.old slots.now)) (reply_of reply.now) (sender device.old inner.old fragmenter.old)
         (sender device.new inner.new fragmenter.new) }
     ensures settings { KeepsSettings inner.old inner.new }
     ensures capabilities { D.described device.new ≡ D.described device.old }
 {
     match reply {
-        Some(_) => answer(inner, fragmenter, device, token, places, reply),
+        Some(_) => answer(inner, fragmenter, device, token, slots, reply),
         None => {}
     }
 }
@@ -205,22 +206,22 @@ fn answer_with<D: Device>(
     fragmenter: &mut Fragmenter,
     device: &mut D,
     token: D::TxToken,
-    places: &Places<Socket>,
+    slots: &Slots<Socket>,
     packet: &Packet<'_>,
 )
     requires room { D.refused device.old + 1 < 2 ^ 64 }
     requires fits { IsSendable (packet_value packet.now) }
-    ensures replied { Replied D.moves (is_some (turn_of inner.old places.now)) (Some (Answers (packet_value packet.now)))
+    ensures replied { Replied D.moves (is_some (turn_of inner.old slots.now)) (Some (Answers (packet_value packet.now)))
         (sender device.old inner.old fragmenter.old) (sender device.new inner.new fragmenter.new) }
     ensures settings { KeepsSettings inner.old inner.new }
     ensures capabilities { D.described device.new ≡ D.described device.old }
 {
     fields_have_widths(packet);
-    match straight_to(inner, &packet.ip_repr(), packet.payload()) {
-        Some(straight) => {
-            let _ = send_straight(inner, device, token, &straight);
+    match direct_route(inner, &packet.ip_repr(), packet.payload()) {
+        Some(direct) => {
+            let _ = transmit_direct(inner, device, token, &direct);
         }
-        None => answer_planned(inner, fragmenter, device, token, places, packet),
+        None => answer_planned(inner, fragmenter, device, token, slots, packet),
     }
 }
 
@@ -232,34 +233,34 @@ fn answer_planned<D: Device>(
     fragmenter: &mut Fragmenter,
     device: &mut D,
     token: D::TxToken,
-    places: &Places<Socket>,
+    slots: &Slots<Socket>,
     packet: &Packet<'_>,
 )
     requires room { D.refused device.old + 1 < 2 ^ 64 }
     requires fits { IsSendable (packet_value packet.now) }
     requires formed { IsWellFormed (packet_value packet.now) }
-    ensures replied { Replied D.moves (is_some (turn_of inner.old places.now)) (Some (Answers (packet_value packet.now)))
+    ensures replied { Replied D.moves (is_some (turn_of inner.old slots.now)) (Some (Answers (packet_value packet.now)))
         (sender device.old inner.old fragmenter.old) (sender device.new inner.new fragmenter.new) }
     ensures settings { KeepsSettings inner.old inner.new }
     ensures capabilities { D.described device.new ≡ D.described device.old }
 {
     let plan = plan_for(inner, fragmenter.is_waiting(), &packet.ip_repr());
-    if is_kept_back(inner, places, &plan) {
+    if is_kept_back(inner, slots, &plan) {
         return;
     }
     let _ = dispatch_by(inner, fragmenter, device, token, packet, plan);
 }
 
 /// Whether a packet's next hop has to be asked for, and a socket waits for a neighbour, which goes first.
-fn is_kept_back(inner: &InterfaceInner, places: &Places<Socket>, plan: &Plan) -> bool
-    ensures { result ≡ (is_question plan.now && is_some (turn_of inner.now places.now)) }
+fn is_kept_back(inner: &InterfaceInner, slots: &Slots<Socket>, plan: &Plan) -> bool
+    ensures { result ≡ (is_solicitation plan.now && is_some (turn_of inner.now slots.now)) }
 {
-    is_question(plan) && turn_of(inner, places).is_some()
+    is_solicitation(plan) && turn_of(inner, slots).is_some()
 }
 
 /// Whether a packet's next hop has to be asked for.
-fn is_question(plan: &Plan) -> bool
-    ensures { result ≡ is_question plan.now }
+fn is_solicitation(plan: &Plan) -> bool
+    ensures { result ≡ is_solicitation plan.now }
 {
     matches!(plan, Plan::Ask(_))
 }

@@ -1,15 +1,15 @@
 //! Which neighbour is asked for next, of those that sockets wait for.
 ghost use Rattle.std.specs.Prelude.{◌≡◌, None};
 ghost use Rattle.std.specs.List.{fold, list_any};
-ghost use Rattle.interface_tables.specs.Best.{better_of};
+ghost use Rattle.iface_tables.specs.Best.{better_of};
 ghost use Rattle.interface.specs.Awaited.{awaited_by, awaited_in, comes_before, is_marked, next_awaited, turn_of};
 
-use interface_egress::{InterfaceInner, Places, SocketStorage, Waiting};
-use interface_ingress::Socket;
+use iface_egress::{InterfaceInner, Slots, SocketStorage, Waiting};
+use iface_ingress::Socket;
 use ip_wire::IpAddress;
 use net_base::Instant;
 
-/// Up to so many places a look at each of them costs less than to find those that are busy.
+/// Up to so many slots a look at each of them costs less than to find those that are busy.
 const FEW: usize = 4;
 
 /// A neighbour that a socket waits for.
@@ -23,61 +23,58 @@ pub struct Awaited {
 
 /// Whose turn it is to be asked for, where a socket waits: an address that was never asked for, else the one that was asked for longest
 /// ago.
-pub fn turn_of(inner: &InterfaceInner, places: &Places<Socket>) -> Option<IpAddress>
-    ensures { result ≡ turn_of inner.now places.now }
+pub fn turn_of(inner: &InterfaceInner, slots: &Slots<Socket>) -> Option<IpAddress>
+    ensures { result ≡ turn_of inner.now slots.now }
 {
-    match next_awaited(inner, places.as_slice()) {
+    match next_awaited(inner, slots.as_slice()) {
         Some(awaited) => Some(awaited.hop),
         None => None,
     }
 }
 
-/// The same where mostly no socket waits, which is seen before the places are gone through for the one that comes first.
-pub fn turn_if_any(inner: &InterfaceInner, places: &Places<Socket>) -> Option<IpAddress>
-    ensures { result ≡ turn_of inner.now places.now }
+/// The same where mostly no socket waits, which is seen before the slots are gone through for the one that comes first.
+pub fn turn_if_any(inner: &InterfaceInner, slots: &Slots<Socket>) -> Option<IpAddress>
+    ensures { result ≡ turn_of inner.now slots.now }
 {
-    if some_wait(places) {
-        turn_of(inner, places)
+    if some_wait(slots) {
+        turn_of(inner, slots)
     } else {
         None
     }
 }
 
 /// The neighbour that is asked for next.
-fn next_awaited(inner: &InterfaceInner, places: &[SocketStorage<Socket>]) -> Option<Awaited>
-    ensures { result ≡ next_awaited inner.now places.now }
+fn next_awaited(inner: &InterfaceInner, slots: &[SocketStorage<Socket>]) -> Option<Awaited>
+    ensures { result ≡ next_awaited inner.now slots.now }
 {
-    first_in_turn(inner, places)
+    first_in_turn(inner, slots)
 }
 
-/// The one that comes first, place by place.
-fn first_in_turn(inner: &InterfaceInner, places: &[SocketStorage<Socket>]) -> Option<Awaited>
-    ensures { result ≡ fold (λ best place. better_of comes_before best (awaited_in inner.now place)) None places.now }
+/// The one that comes first, slot by slot.
+fn first_in_turn(inner: &InterfaceInner, slots: &[SocketStorage<Socket>]) -> Option<Awaited>
+    ensures { result ≡ fold (λ best slot. better_of comes_before best (awaited_in inner.now slot)) None slots.now }
 {
-    places.iter().fold(
-        None,
-        |best, place| better_of(best, awaited_in(inner, place)),
-    )
+    slots.iter().fold(None, |best, slot| better_of(best, awaited_in(inner, slot)))
 }
 
-/// Whether a socket waits for a neighbour, which few do. Each of few places is looked at.
-fn some_wait(places: &Places<Socket>) -> bool
-    ensures { result ≡ list_any is_marked places.now }
+/// Whether a socket waits for a neighbour, which few do. Each of few slots is looked at.
+fn some_wait(slots: &Slots<Socket>) -> bool
+    ensures { result ≡ list_any is_marked slots.now }
 {
-    if places.len() <= FEW {
-        places.as_slice().iter().any(|place| is_marked(place))
+    if slots.len() <= FEW {
+        slots.as_slice().iter().any(|slot| is_marked(slot))
     } else {
-        some_busy_wait(places)
+        some_busy_wait(slots)
     }
 }
 
-/// The same of many places. None waits that is at rest.
-fn some_busy_wait(places: &Places<Socket>) -> bool
-    ensures { result ≡ list_any is_marked places.now }
+/// The same of many slots. None waits that is idle.
+fn some_busy_wait(slots: &Slots<Socket>) -> bool
+    ensures { result ≡ list_any is_marked slots.now }
 {
     let mut from = 0;
-    while let Some(at) = places.next_busy(from) {
-        if is_marked(places.place(at)) {
+    while let Some(at) = slots.next_busy(from) {
+        if is_marked(slots.slot(at)) {
             return true;
         }
         from = at + 1;
@@ -85,21 +82,21 @@ fn some_busy_wait(places: &Places<Socket>) -> bool
     false
 }
 
-/// Whether the socket at a place waits for a neighbour.
-fn is_marked(place: &SocketStorage<Socket>) -> bool
-    ensures { result ≡ is_marked place.now }
+/// Whether the socket at a slot waits for a neighbour.
+fn is_marked(slot: &SocketStorage<Socket>) -> bool
+    ensures { result ≡ is_marked slot.now }
 {
-    match &place.inner {
+    match &slot.inner {
         Some(item) => item.meta.waiting.is_some(),
         None => false,
     }
 }
 
-/// The neighbour that the socket at a place waits for.
-fn awaited_in(inner: &InterfaceInner, place: &SocketStorage<Socket>) -> Option<Awaited>
-    ensures { result ≡ awaited_in inner.now place.now }
+/// The neighbour that the socket at a slot waits for.
+fn awaited_in(inner: &InterfaceInner, slot: &SocketStorage<Socket>) -> Option<Awaited>
+    ensures { result ≡ awaited_in inner.now slot.now }
 {
-    match &place.inner {
+    match &slot.inner {
         Some(item) => awaited_by(inner, &item.meta.waiting),
         None => None,
     }

@@ -1,31 +1,31 @@
 //! What another host of the same medium reads in the frames that a host sends.
 ghost use Rattle.std.specs.Prelude.{◌≡◌, ℕ, Bool, true, List, ◌++◌, Option, Some, IfSome};
 ghost use Rattle.net_base.specs.ChecksumCapabilities.{ChecksumCapabilities};
-ghost use Rattle.interface_ingress.specs.Address.{IsIpAddress};
-ghost use Rattle.interface_ingress.specs.HardwareAddress.{HardwareAddress};
-ghost use Rattle.ip_packet.specs.Ip.{destination_of};
-ghost use Rattle.socket_base.specs.Packet.{PacketValue};
-ghost use Rattle.interface_egress.specs.Inner.{InnerValue};
-ghost use Rattle.interface_ingress.specs.Incoming.{IncomingValue, IsContent};
-ghost use Rattle.interface_ingress.specs.Sent.{AreSealed, CanBeRead};
-ghost use Rattle.interface_egress.specs.Departure.{Departure, Asks, Tells, Whole};
-ghost use Rattle.interface_egress.specs.Fragments.{LeftValue, departure_from, left_after};
-ghost use Rattle.interface_egress.specs.Plan.{plan_of};
-ghost use Rattle.interface_egress.specs.GoesOut.{GoesOut, PieceGoesOut, Departs, frame_of, numbered, cut_of};
-ghost use Rattle.interface_egress.specs.declared.frame.Question.{Question};
-ghost use Rattle.interface_egress.specs.declared.way_out.Sent.TheVariants as Outcome;
-ghost use Rattle.interface_egress.specs.declared.plan.Plan.TheVariants as Way;
-ghost use Rattle.interface_ingress.specs.ArpRepr.{ArpRepr};
-ghost use Rattle.interface_egress.specs.Arp as Arps;
-ghost use Rattle.interface.specs.Delivered.{IsOfMedium, AreOfOneMedium, CanArrive, IsOnEthernet, IsQuestion, read_of, protocol_read, protocol_sent};
+ghost use Rattle.iface_ingress.specs.Address.{IsIpAddress};
+ghost use Rattle.iface_ingress.specs.HardwareAddress.{HardwareAddress};
+ghost use Rattle.wire_ip.specs.Ip.{destination_of};
+ghost use Rattle.socket_context.specs.Packet.{PacketValue};
+ghost use Rattle.iface_egress.specs.Inner.{InnerValue};
+ghost use Rattle.iface_ingress.specs.Incoming.{IncomingValue, IsContent};
+ghost use Rattle.iface_ingress.specs.Sent.{AreSealed, CanBeRead};
+ghost use Rattle.iface_egress.specs.Departure.{Departure, Asks, Tells, Whole};
+ghost use Rattle.iface_egress.specs.Fragments.{LeftValue, departure_from, left_after};
+ghost use Rattle.iface_egress.specs.Plan.{plan_of};
+ghost use Rattle.iface_egress.specs.IsTransmitted.{IsTransmitted, FragmentIsTransmitted, Departs, frame_of, numbered, cut_of};
+ghost use Rattle.iface_egress.specs.declared.frame.NeighborQuery.{NeighborQuery};
+ghost use Rattle.iface_egress.specs.declared.egress_path.Sent.TheVariants as Outcome;
+ghost use Rattle.iface_egress.specs.declared.plan.Plan.TheVariants as Way;
+ghost use Rattle.iface_ingress.specs.ArpRepr.{ArpRepr};
+ghost use Rattle.iface_egress.specs.Arp as Arps;
+ghost use Rattle.interface.specs.Delivered.{IsOfMedium, AreOfOneMedium, CanArrive, IsOnEthernet, IsNeighborQuery, read_of, protocol_read, protocol_sent};
 ghost use Rattle.interface.specs.Delivered.{HasNoPorts, SendsNoPorts};
 ghost use Rattle.interface.specs.Medium.{KnowsItsMedium};
-ghost use Rattle.interface.specs.Taken.{Reader, CanRead, Arrives, IsCarriedTo, HasWidths, IsOffered, IsHalfSent};
+ghost use Rattle.interface.specs.TransmittedFrame.{Reader, CanRead, Arrives, IsCarriedTo, HasWidths, IsOffered, IsHalfSent};
 
 use net_base::Device;
 
 /// Law: what left in a frame is read in it by another host of the same medium, whatever padding follows: a packet in its normal
-/// form, a piece at its place, a question, or an ARP packet. No byte of the padding is in what is read. A checksum that the
+/// form, a fragment at its slot, a question, or an ARP packet. No byte of the padding is in what is read. A checksum that the
 /// receiver tests has to be written.
 pub fn departures_arrive()
     ensures { (i : InnerValue) (other : HardwareAddress) (receiver : ChecksumCapabilities) (d : Departure) (padding : List ℕ)
@@ -51,14 +51,14 @@ pub fn protocols_are_those_sent()
 {}
 
 /// Law: an offered packet arrives. Where it went, the device took its frame, which another host of the same medium reads, whatever
-/// padding follows, as the packet with the host's next identification, in its normal form; and behind its header what was sent
+/// padding follows, as the packet with the host's next identification, in its canonical form; and after its header what was sent
 /// there.
 pub fn offered_packets_arrive<D: Device>()
     ensures whole { (old new : D) (i i' : InnerValue) (l l' : Option LeftValue) (busy : Bool) (p : PacketValue) (to : HardwareAddress) (reader : Reader)
         → HasWidths i
         → IsOffered p
         → plan_of i busy p.header ≡ Way.Go to
-        → GoesOut D.moves old i l p (plan_of i busy p.header) Outcome.Gone new i' l'
+        → IsTransmitted D.moves old i l p (plan_of i busy p.header) Outcome.Gone new i' l'
         → CanRead i to reader
         → Arrives D.moves old i (Whole to (numbered i p)) reader new }
     ensures carried { (i : InnerValue) (busy : Bool) (p : PacketValue) (to : HardwareAddress) (reader : Reader)
@@ -70,20 +70,20 @@ pub fn offered_packets_arrive<D: Device>()
         → IsCarriedTo i (numbered i p) reader }
 {}
 
-/// Law: the pieces of an offered packet that is too long arrive, the first one as it is cut and the others in turn, each at its
-/// place in the payload, with the datagram's identification, and whether more follow.
-pub fn pieces_arrive<D: Device>()
+/// Law: the fragments of an offered packet that is too long arrive, the first one as it is cut and the others in turn, each at its
+/// slot in the payload, with the datagram's identification, and whether more follow.
+pub fn fragments_arrive<D: Device>()
     ensures first { (old new : D) (i i' : InnerValue) (l l' : Option LeftValue) (busy : Bool) (p : PacketValue) (to : HardwareAddress)
         (reader : Reader)
         → HasWidths i
         → IsOffered p
         → plan_of i busy p.header ≡ Way.Cut to
-        → GoesOut D.moves old i l p (plan_of i busy p.header) Outcome.Gone new i' l'
+        → IsTransmitted D.moves old i l p (plan_of i busy p.header) Outcome.Gone new i' l'
         → CanRead i to reader
         → Arrives D.moves old i (departure_from i (cut_of i to p)) reader new }
     ensures later { (old new : D) (i : InnerValue) (l : LeftValue) (l' : Option LeftValue) (reader : Reader)
         → IsHalfSent l
-        → PieceGoesOut D.moves old i l true new l'
+        → FragmentIsTransmitted D.moves old i l true new l'
         → CanRead i l.to reader
         → Arrives D.moves old i (departure_from i l) reader new }
     ensures begun { (i : InnerValue) (busy : Bool) (p : PacketValue) (to : HardwareAddress)
@@ -95,14 +95,14 @@ pub fn pieces_arrive<D: Device>()
 {}
 
 /// Law: a question that went arrives, and so does an answer.
-pub fn questions_arrive<D: Device>()
-    ensures question { (old new : D) (i i' : InnerValue) (l l' : Option LeftValue) (busy : Bool) (p : PacketValue) (question : Question) (reader : Reader)
-        → plan_of i busy p.header ≡ Way.Ask question
-        → GoesOut D.moves old i l p (plan_of i busy p.header) Outcome.Waits new i' l'
-        → IsQuestion question
+pub fn neighbor_queries_arrive<D: Device>()
+    ensures neighbor_query { (old new : D) (i i' : InnerValue) (l l' : Option LeftValue) (busy : Bool) (p : PacketValue) (neighbor_query : NeighborQuery) (reader : Reader)
+        → plan_of i busy p.header ≡ Way.Ask neighbor_query
+        → IsTransmitted D.moves old i l p (plan_of i busy p.header) Outcome.Waits new i' l'
+        → IsNeighborQuery neighbor_query
         → IsOnEthernet reader.hardware
         → AreSealed i.checksums reader.checksums
-        → Arrives D.moves old i (Asks question) reader new }
+        → Arrives D.moves old i (Asks neighbor_query) reader new }
     ensures answer { (old new : D) (i : InnerValue) (packet : ArpRepr) (reader : Reader)
         → Departs D.moves old i (Tells packet) true new
         → Arps.IsValue packet
@@ -124,5 +124,5 @@ pub fn frames_stay_on_the_medium()
         → IsIpAddress (destination_of p.header)
         → plan_of i busy p.header ≡ Way.Cut to
         → IsOfMedium i.hardware to }
-    ensures readers { (own to other : HardwareAddress) → IsOfMedium other own → IsOfMedium own to → AreOfOneMedium own to other }
+    ensures readers { (local to other : HardwareAddress) → IsOfMedium other local → IsOfMedium local to → AreOfOneMedium local to other }
 {}

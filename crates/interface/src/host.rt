@@ -5,52 +5,52 @@ ghost use Rattle.std.specs.List.{list_any};
 ghost use Rattle.net_base.specs.Time.{IsMoment};
 ghost use Rattle.arrayvec.specs.ArrayVec.{ArrayVec as Items};
 ghost use Rattle.ip_wire.specs.IpCidr.{IpCidr};
-ghost use Rattle.interface_tables.specs.Route.{RoutesValue};
-ghost use Rattle.interface_egress.specs.Inner.{is_own, is_member_of};
-ghost use Rattle.interface_egress.specs.Settings.{unless, hardware_refusal, with_hardware, is_stranger, with_addresses, with_any_ip, routes_of, with_route_table};
-ghost use Rattle.interface_egress.specs.Source.{first_v4, first_v6, source_for, source_v4, source_v6};
+ghost use Rattle.iface_tables.specs.Route.{RoutesValue};
+ghost use Rattle.iface_egress.specs.Inner.{is_local, is_member_of};
+ghost use Rattle.iface_egress.specs.Settings.{unless, hardware_refusal, with_hardware, is_stranger, with_addresses, with_any_ip, routes_of, with_route_table};
+ghost use Rattle.iface_egress.specs.Source.{first_v4, first_v6, source_for, source_v4, source_v6};
 ghost use Rattle.interface.specs.Host.{host_at, maintained};
-ghost use Rattle.interface.specs.Made.{IsIdle, Makes, with_inner, with_slots, with_timeout};
+ghost use Rattle.interface.specs.Made.{IsIdle, Makes, with_inner, with_assemblers, with_timeout};
 
 use arrayvec::ArrayVec;
-use interface_egress::{
+use iface_egress::{
     Config, Fragmenter, HardwareAddrError, InterfaceInner, NewError, NotUnicast,
     PacketAssemblerSet, Routes, TABLE_ROOM,
 };
-use interface_ingress::Context;
+use iface_ingress::Context;
 use ip_wire::{HardwareAddress, IpAddress, IpCidr, Ipv4Address, Ipv6Address};
 use net_base::{ChecksumCapabilities, Device, Duration, Instant};
 use std::alloc::{AllocError, Global};
 use std::marker::Model;
 
-/// How many datagrams can come in pieces at a time at first.
+/// How many datagrams can come in fragments at a time at first.
 const REASSEMBLY_COUNT: usize = 2;
 
-/// How long the pieces of a datagram are waited for at first, in seconds.
+/// How long the fragments of a datagram are waited for at first, in seconds.
 const REASSEMBLY_SECS: u64 = 60;
 
-/// A host at a device: its addresses and tables, the datagram that it sends in pieces, and those that come in pieces.
+/// A host at a device: its addresses and tables, the datagram that it sends in fragments, and those that come in fragments.
 #[derive(Drop)]
 pub struct Interface {
     pub(crate) inner: InterfaceInner,
     pub(crate) fragmenter: Fragmenter,
-    pub(crate) slots: PacketAssemblerSet,
+    pub(crate) assemblers: PacketAssemblerSet,
     pub(crate) timeout: Duration,
 }
 
 impl Model for Interface {
     ghost use Rattle.interface.specs.Host.{HostValue};
-    ghost use Rattle.interface.specs.Made.{IsIdleIfFresh};
+    ghost use Rattle.interface.specs.Made.{IsIdleIfInitial};
 
     ghost Value = { HostValue };
 
-    ghost view = { λ f. record { inner = f.inner; left = f.fragmenter; slots = f.slots; timeout = f.timeout } };
+    ghost view = { λ f. record { inner = f.inner; left = f.fragmenter; assemblers = f.assemblers; timeout = f.timeout } };
 
-    ghost invariant = { λ f. IsIdleIfFresh f.inner f.fragmenter f.slots };
+    ghost invariant = { λ f. IsIdleIfInitial f.inner f.fragmenter f.assemblers };
 }
 
 impl Interface {
-    /// An interface of this configuration at the device, from this moment on.
+    /// An interface of this configuration at the device, from this instant on.
     pub fn new<D: Device>(
         alloc: Global,
         config: &Config,
@@ -63,13 +63,13 @@ impl Interface {
         let Ok(fragmenter) = Fragmenter::new(alloc) else {
             return Err(NewError::Memory);
         };
-        let Ok(slots) = PacketAssemblerSet::new(alloc, REASSEMBLY_COUNT) else {
+        let Ok(assemblers) = PacketAssemblerSet::new(alloc, REASSEMBLY_COUNT) else {
             return Err(NewError::Memory);
         };
         Ok(Interface {
             inner,
             fragmenter,
-            slots,
+            assemblers,
             timeout: Duration::from_secs(REASSEMBLY_SECS),
         })
     }
@@ -88,7 +88,7 @@ impl Interface {
         self.inner.hardware_addr()
     }
 
-    /// The own addresses with their networks.
+    /// The local addresses with their networks.
     pub fn ip_addrs(&self) -> &[IpCidr]
         ensures { result.now ≡ self.now.inner.addresses }
     {
@@ -144,24 +144,24 @@ impl Interface {
         self.inner.routes()
     }
 
-    /// Whether nothing ran yet: no call that polls, and no setting of `any_ip` or of the time of reassembly. Then nothing came in pieces,
+    /// Whether nothing ran yet: no call that polls, and no setting of `any_ip` or of the time of reassembly. Then nothing came in fragments,
     /// nothing is half sent, and no neighbour is known.
     pub fn is_fresh(&self) -> bool
-        ensures value { result ≡ self.now.inner.fresh }
-        ensures idle { IsTrue result → IsIdle self.now.left self.now.slots }
+        ensures value { result ≡ self.now.inner.initial }
+        ensures idle { IsTrue result → IsIdle self.now.left self.now.assemblers }
         ensures unknown { IsTrue result → self.now.inner.neighbors.entries ≡ [] }
     {
         self.inner.is_fresh()
     }
 
-    /// How many datagrams can come in pieces at a time.
+    /// How many datagrams can come in fragments at a time.
     pub fn reassembly_slots(&self) -> usize
-        ensures { result ≡ length self.now.slots }
+        ensures { result ≡ length self.now.assemblers }
     {
-        self.slots.capacity()
+        self.assemblers.capacity()
     }
 
-    /// How long the pieces of a datagram are waited for.
+    /// How long the fragments of a datagram are waited for.
     pub fn reassembly_timeout(&self) -> Duration
         ensures { result ≡ self.now.timeout }
     {
@@ -171,7 +171,7 @@ impl Interface {
 
 /// Settings.
 impl Interface {
-    /// Sets the hardware address, if the medium has such addresses and it is one station's.
+    /// Sets the hardware address, if the medium has such addresses and it is one hardware address's.
     pub fn set_hardware_addr(&mut self, addr: HardwareAddress) -> Result<(), HardwareAddrError>
         ensures answer { result ≡ unless (hardware_refusal self.old.inner.hardware addr) tt }
         ensures after { self.new ≡ with_inner self.old (with_hardware self.old.inner addr) }
@@ -179,7 +179,7 @@ impl Interface {
         self.inner.set_hardware_addr(addr)
     }
 
-    /// Sets the own addresses to what `f` makes of a copy of them, and forgets every neighbour, if each is one host's or
+    /// Sets the local addresses to what `f` makes of a copy of them, and forgets every neighbour, if each is one host's or
     /// unspecified.
     pub fn update_ip_addrs<F: FnOnce(&mut ArrayVec<IpCidr, TABLE_ROOM>)>(
         &mut self,
@@ -211,22 +211,22 @@ impl Interface {
         self.inner.update_routes(f)
     }
 
-    /// Sets how many datagrams can come in pieces at a time, if there is memory for so many slots of 4096 bytes. What came in pieces so
+    /// Sets how many datagrams can come in fragments at a time, if there is memory for so many slots of 4096 bytes. What came in fragments so
     /// far is given up.
-    #[tactic(auto, using(crate::proofs::FreeSlots::all_free))]
+    #[tactic(auto, using(crate::proofs::FreeAssemblers::all_free))]
     pub fn set_reassembly_slots(&mut self, alloc: Global, count: usize) -> Result<(), AllocError>
-        ensures ok { OnOk result (self.new ≡ with_slots self.old count) }
+        ensures ok { OnOk result (self.new ≡ with_assemblers self.old count) }
         ensures err { OnErr result (self.new ≡ self.old) }
     {
-        self.slots = PacketAssemblerSet::new(alloc, count)?;
+        self.assemblers = PacketAssemblerSet::new(alloc, count)?;
         Ok(())
     }
 
-    /// Sets how long the pieces of a datagram are waited for, from its first piece on.
+    /// Sets how long the fragments of a datagram are waited for, from its first fragment on.
     pub fn set_reassembly_timeout(&mut self, timeout: Duration)
         ensures { self.new ≡ with_timeout self.old timeout }
     {
-        self.inner.end_fresh();
+        self.inner.end_initial();
         self.timeout = timeout;
     }
 }
@@ -234,7 +234,7 @@ impl Interface {
 /// What sockets see, as `connect` asks for it.
 impl Context for Interface {
     ghost use Rattle.std.specs.Prelude.{refl};
-    ghost use Rattle.interface_egress.specs.Inner.{context_of, drawn};
+    ghost use Rattle.iface_egress.specs.Inner.{context_of, drawn};
     ghost use Rattle.interface.specs.Made.{with_inner};
 
     ghost context = { λ h. context_of h.inner };

@@ -1,6 +1,6 @@
 //! An interface: a host at a device, whose sockets take turns to send, and receive. A listener with a backlog, over the sockets of one.
 //!
-//! It passes on what is set at it and lies in it: `interface_tables` and `interface_egress`.
+//! It passes on what is set at it and lies in it: `iface_tables` and `iface_egress`.
 #![tactic(auto)]
 
 pub mod announce_laws;
@@ -9,29 +9,29 @@ mod arrival;
 mod awaited;
 mod by_kind;
 pub mod delivery_laws;
+mod due_instant;
 mod host;
-mod instant;
 pub mod listener;
-mod passes;
 mod poll;
 pub mod poll_laws;
 mod remote;
+mod round;
 mod send_to;
+mod serve;
 mod step;
-mod turn;
 mod widths;
 
 pub use by_kind::SocketsByKind;
+pub use due_instant::{earlier, poll_instant, slot_instant};
 pub use host::Interface;
-pub use instant::{earlier, place_instant, poll_instant};
-pub use interface_egress::{
+pub use iface_egress::{
     AddError, Config, Handles, HardwareAddrError, Idle, InterfaceInner, Item, Iter, IterMut, Meta,
-    NewError, NotUnicast, Places, Route, RouteTableFull, Routes, SocketHandle, SocketSet,
+    NewError, NotUnicast, Route, RouteTableFull, Routes, Slots, SocketHandle, SocketSet,
     SocketStorage, TABLE_ROOM, Wanted,
 };
 pub use listener::Listener;
-pub use passes::pass;
 pub use poll::{PollIngressSingleResult, PollResult};
+pub use round::pass;
 pub use send_to::{SendToError, Sending};
+pub use serve::{Served, serve_socket};
 pub use step::egress;
-pub use turn::{Turned, take_turn};

@@ -1,6 +1,6 @@
 //! A listener with a backlog: sockets of a set that listen on one endpoint, and wait to be accepted once they have a connection.
 //!
-//! Each socket of the backlog is at a stage. `refresh`, to be called behind each poll, sees how far each came. A socket that took a
+//! Each socket of the backlog is at a stage. `refresh`, to be called after each poll, sees how far each came. A socket that took a
 //! SYN is half open; one whose connection is open waits for `accept`, and is its user's from then on, until `give_back`. Where none is
 //! free to take a SYN, one gives way: the one that has been in TIME-WAIT for longest, else the one that has been half open for
 //! longest, if that is long. A SYN for which there is none falls to a keeper, which takes it and says nothing: so it is dropped, not
@@ -14,22 +14,22 @@ mod stage;
 mod way;
 
 ghost use Rattle.std.specs.Prelude.{◌≡◌, ◌∷◌, ◌++◌, [], map, IfOk, OnErr};
-ghost use Rattle.interface_egress.specs.Set.{places, is_fixed};
-ghost use Rattle.interface.specs.Backlog.Calls.{fresh_entry, micros_of, Refreshes, Accepts, accepted, given_back};
+ghost use Rattle.iface_egress.specs.Set.{slots, is_fixed};
+ghost use Rattle.interface.specs.Backlog.Calls.{initial_entry, micros_of, Refreshes, Accepts, accepted, given_back};
 
 use crate::listener::keepers::keep_all;
 use crate::listener::longest::oldest;
 use crate::listener::noting::note_all;
 use crate::listener::way::give_way;
 pub use entry::Entry;
-use interface_egress::{Places, SocketHandle, SocketSet};
-use interface_ingress::Socket;
+use iface_egress::{Slots, SocketHandle, SocketSet};
+use iface_ingress::Socket;
 use ip_wire::IpListenEndpoint;
 use net_base::Instant;
 pub use stage::Stage;
 use std::alloc::{AllocError, Global};
 
-/// An endpoint, a backlog of sockets that listen on it, and keepers for what is beyond it. The keepers' places in the set lie behind
+/// An endpoint, a backlog of sockets that listen on it, and keepers for what is beyond it. The keepers' slots in the set lie after
 /// those of the backlog.
 #[derive(Debug, Drop)]
 pub struct Listener {
@@ -38,26 +38,26 @@ pub struct Listener {
     pub keepers: Vec<SocketHandle>,
 }
 
-/// The moment in microseconds, 0 for one before the start.
-fn micros_of(moment: Instant) -> u64
-    ensures { result ≡ micros_of moment }
+/// The instant in microseconds, 0 for one before the start.
+fn micros_of(instant: Instant) -> u64
+    ensures { result ≡ micros_of instant }
 {
-    u64::try_from(moment.total_micros()).unwrap_or(0)
+    u64::try_from(instant.total_micros()).unwrap_or(0)
 }
 
 /// What a refresh makes of the sockets of a set.
-fn refresh_places(
-    places: &mut Places<Socket>,
+fn refresh_slots(
+    slots: &mut Slots<Socket>,
     entries: &mut Vec<Entry>,
     keepers: &[SocketHandle],
     endpoint: IpListenEndpoint,
     now: u64,
 )
-    ensures { Refreshes endpoint now keepers.now places.old entries.old.items places.new entries.new.items }
+    ensures { Refreshes endpoint now keepers.now slots.old entries.old.items slots.new entries.new.items }
 {
-    note_all(places, entries, endpoint, now);
-    give_way(places, entries, endpoint, now);
-    keep_all(places, keepers, endpoint);
+    note_all(slots, entries, endpoint, now);
+    give_way(slots, entries, endpoint, now);
+    keep_all(slots, keepers, endpoint);
 }
 
 impl Listener {
@@ -76,7 +76,7 @@ impl Listener {
 
     /// Takes a closed socket of the set into the backlog. It listens from the next refresh on.
     pub fn add(&mut self, handle: SocketHandle) -> Result<(), AllocError>
-        ensures added { IfOk result (λ u. self.new.entries.items ≡ self.old.entries.items ++ fresh_entry handle ∷ []) }
+        ensures added { IfOk result (λ u. self.new.entries.items ≡ self.old.entries.items ++ initial_entry handle ∷ []) }
         ensures refused { OnErr result (self.new.entries.items ≡ self.old.entries.items) }
         ensures keepers { self.new.keepers.items ≡ self.old.keepers.items }
         ensures endpoint { self.new.endpoint ≡ self.old.endpoint }
@@ -89,7 +89,7 @@ impl Listener {
         Ok(())
     }
 
-    /// Takes a closed socket of the set, behind those of the backlog, for a keeper. It needs no room for bytes.
+    /// Takes a closed socket of the set, after those of the backlog, for a keeper. It needs no room for bytes.
     pub fn add_keeper(&mut self, handle: SocketHandle) -> Result<(), AllocError>
         ensures added { IfOk result (λ u. self.new.keepers.items ≡ self.old.keepers.items ++ handle ∷ []) }
         ensures refused { OnErr result (self.new.keepers.items ≡ self.old.keepers.items) }
@@ -100,9 +100,9 @@ impl Listener {
         Ok(())
     }
 
-    /// Sees how far each socket came, to be called behind each poll, at its moment.
+    /// Sees how far each socket came, to be called after each poll, at its instant.
     pub fn refresh(&mut self, set: &mut SocketSet<Socket>, now: Instant)
-        ensures refreshed { Refreshes self.old.endpoint (micros_of now) self.old.keepers.items (places set.old) self.old.entries.items (places set.new)
+        ensures refreshed { Refreshes self.old.endpoint (micros_of now) self.old.keepers.items (slots set.old) self.old.entries.items (slots set.new)
             self.new.entries.items }
         ensures endpoint { self.new.endpoint ≡ self.old.endpoint }
         ensures keepers { self.new.keepers.items ≡ self.old.keepers.items }
@@ -110,8 +110,8 @@ impl Listener {
     {
         let now = micros_of(now);
         let keepers = self.keepers.as_slice();
-        refresh_places(
-            &mut set.places,
+        refresh_slots(
+            &mut set.slots,
             &mut self.entries,
             keepers,
             self.endpoint,

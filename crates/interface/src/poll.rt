@@ -1,11 +1,11 @@
 //! Polling.
 ghost use Rattle.std.specs.Prelude.{◌≡◌, false};
 ghost use Rattle.net_base.specs.Time.{IsMoment};
-ghost use Rattle.interface_egress.specs.Inner.{InnerValue, at_moment};
-ghost use Rattle.interface_egress.specs.Set.{places, is_fixed};
+ghost use Rattle.iface_egress.specs.Inner.{InnerValue, at_instant};
+ghost use Rattle.iface_egress.specs.Set.{slots, is_fixed};
 ghost use Rattle.interface.specs.Host.{sender, host_at, maintained};
-ghost use Rattle.interface_egress.specs.Departing.{HasSettingsOf};
-ghost use Rattle.interface.specs.WayOut.{Egress};
+ghost use Rattle.iface_egress.specs.Departing.{HasSettingsOf};
+ghost use Rattle.interface.specs.EgressPath.{Egress};
 ghost use Rattle.interface.specs.Pass.{passed};
 ghost use Rattle.interface.specs.Instant.{poll_instant};
 ghost use Rattle.interface.specs.QuietStep.{AreUnchanged, IsEarly, IsQuiet};
@@ -18,13 +18,13 @@ ghost use Rattle.interface.specs.Polls.{Repeats, Polls, answer_of, single_answer
 ghost use Rattle.interface.specs.QuietPoll.{HasNoFrame, IsQuietPoll};
 
 use crate::arrival::ingress;
+use crate::due_instant::poll_instant;
 use crate::host::Interface;
-use crate::instant::poll_instant;
-use crate::passes::either;
+use crate::round::either;
 use crate::step::egress;
-use interface_egress::SocketSet;
-use interface_ingress::Socket;
-use interface_ingress::socket_laws::due_as_before;
+use iface_egress::SocketSet;
+use iface_ingress::Socket;
+use iface_ingress::socket_laws::due_as_before;
 use net_base::{Device, Duration, Instant};
 
 /// What a poll did to the sockets.
@@ -36,7 +36,7 @@ pub enum PollResult {
     SocketStateChanged,
 }
 
-/// What one step of the way in did to the sockets.
+/// What one step of the ingress path did to the sockets.
 #[derive(Clone, Copy, Debug, PartialEq, Eq)]
 pub enum PollIngressSingleResult {
     /// No frame came.
@@ -58,13 +58,13 @@ impl Interface {
         budget: u16,
     ) -> PollResult
         requires { IsMoment timestamp }
-        ensures steps { Polls D.moves timestamp budget (state device.old self.old (places sockets.old)) (is_change result)
-            (state device.new self.new (places sockets.new)) }
-        ensures unchanged { result ≡ PollResult.None → AreUnchanged (places sockets.old) (places sockets.new) }
-        ensures quiet { (asked : InnerValue) → self.old.inner ≡ at_moment self.old.inner.moment asked
-            → IsEarly asked self.old.left (places sockets.old) timestamp → HasNoFrame D.moves timestamp device.old
-            → IsQuietPoll D.moves asked timestamp (state device.old self.old (places sockets.old)) (is_change result)
-            (state device.new self.new (places sockets.new)) }
+        ensures steps { Polls D.moves timestamp budget (state device.old self.old (slots sockets.old)) (is_change result)
+            (state device.new self.new (slots sockets.new)) }
+        ensures unchanged { result ≡ PollResult.None → AreUnchanged (slots sockets.old) (slots sockets.new) }
+        ensures quiet { (asked : InnerValue) → self.old.inner ≡ at_instant self.old.inner.instant asked
+            → IsEarly asked self.old.left (slots sockets.old) timestamp → HasNoFrame D.moves timestamp device.old
+            → IsQuietPoll D.moves asked timestamp (state device.old self.old (slots sockets.old)) (is_change result)
+            (state device.new self.new (slots sockets.new)) }
         ensures settings { HasSettingsOf self.old.inner self.new.inner }
         ensures kind { is_fixed sockets.new ≡ is_fixed sockets.old }
         ensures capabilities { D.described device.new ≡ D.described device.old }
@@ -85,10 +85,10 @@ impl Interface {
         sockets: &mut SocketSet<Socket>,
     ) -> PollIngressSingleResult
         requires { IsMoment timestamp }
-        ensures step { IngressStep D.moves timestamp (state device.old self.old (places sockets.old)) (single_answer result)
-            (state device.new self.new (places sockets.new)) }
-        ensures none { result ≡ PollIngressSingleResult.None → places sockets.new ≡ places sockets.old }
-        ensures processed { result ≡ PollIngressSingleResult.PacketProcessed → places sockets.new ≡ places sockets.old }
+        ensures step { IngressStep D.moves timestamp (state device.old self.old (slots sockets.old)) (single_answer result)
+            (state device.new self.new (slots sockets.new)) }
+        ensures none { result ≡ PollIngressSingleResult.None → slots sockets.new ≡ slots sockets.old }
+        ensures processed { result ≡ PollIngressSingleResult.PacketProcessed → slots sockets.new ≡ slots sockets.old }
         ensures settings { HasSettingsOf self.old.inner self.new.inner }
         ensures kind { is_fixed sockets.new ≡ is_fixed sockets.old }
         ensures capabilities { D.described device.new ≡ D.described device.old }
@@ -100,7 +100,7 @@ impl Interface {
         }
     }
 
-    /// Sends at most one piece of the datagram that is half sent, and then at most one packet of each socket.
+    /// Sends at most one fragment of the datagram that is half sent, and then at most one packet of each socket.
     pub fn poll_egress<D: Device>(
         &mut self,
         timestamp: Instant,
@@ -108,10 +108,10 @@ impl Interface {
         sockets: &mut SocketSet<Socket>,
     ) -> PollResult
         requires { IsMoment timestamp }
-        ensures step { EgressStep D.moves timestamp (state device.old self.old (places sockets.old)) (answer_of result)
-            (state device.new self.new (places sockets.new)) }
-        ensures unchanged { result ≡ PollResult.None → AreUnchanged (places sockets.old) (places sockets.new) }
-        ensures host { IsSameHost (at_moment timestamp self.old.inner) self.new.inner }
+        ensures step { EgressStep D.moves timestamp (state device.old self.old (slots sockets.old)) (answer_of result)
+            (state device.new self.new (slots sockets.new)) }
+        ensures unchanged { result ≡ PollResult.None → AreUnchanged (slots sockets.old) (slots sockets.new) }
+        ensures host { IsSameHost (at_instant timestamp self.old.inner) self.new.inner }
         ensures kind { is_fixed sockets.new ≡ is_fixed sockets.old }
         ensures capabilities { D.described device.new ≡ D.described device.old }
     {
@@ -122,23 +122,23 @@ impl Interface {
         }
     }
 
-    /// Gives up the datagrams in pieces whose time has passed.
+    /// Gives up the datagrams in fragments whose time has passed.
     pub fn poll_maintenance(&mut self, timestamp: Instant)
         requires { IsMoment timestamp }
         ensures { self.new ≡ maintained timestamp self.old }
     {
         self.inner.set_now(timestamp);
-        self.slots.remove_expired(timestamp);
+        self.assemblers.remove_expired(timestamp);
     }
 
     /// When the interface wants to be polled; nothing has to be done before, unless a frame comes or a socket is called.
     pub fn poll_at(&mut self, timestamp: Instant, sockets: &SocketSet<Socket>) -> Option<Instant>
         requires { IsMoment timestamp }
-        ensures value { result ≡ poll_instant (at_moment timestamp self.old.inner) self.old.left (places sockets.now) }
+        ensures value { result ≡ poll_instant (at_instant timestamp self.old.inner) self.old.left (slots sockets.now) }
         ensures after { self.new ≡ host_at timestamp self.old }
     {
         self.inner.set_now(timestamp);
-        poll_instant(&self.inner, &self.fragmenter, &sockets.places)
+        poll_instant(&self.inner, &self.fragmenter, &sockets.slots)
     }
 
     /// How long it is until the interface wants to be polled.
@@ -148,11 +148,11 @@ impl Interface {
         sockets: &SocketSet<Socket>,
     ) -> Option<Duration>
         requires { IsMoment timestamp }
-        ensures value { result ≡ delay_by timestamp (poll_instant (at_moment timestamp self.old.inner) self.old.left (places sockets.now)) }
+        ensures value { result ≡ delay_by timestamp (poll_instant (at_instant timestamp self.old.inner) self.old.left (slots sockets.now)) }
         ensures after { self.new ≡ host_at timestamp self.old }
     {
         match self.poll_at(timestamp, sockets) {
-            Some(moment) => Some(time_until(timestamp, moment)),
+            Some(instant) => Some(time_until(timestamp, instant)),
             None => None,
         }
     }
@@ -169,19 +169,19 @@ impl Interface {
         budget: u16,
     ) -> bool
         requires { IsMoment timestamp }
-        ensures steps { Polls D.moves timestamp budget (state device.old self.old (places sockets.old)) result
-            (state device.new self.new (places sockets.new)) }
+        ensures steps { Polls D.moves timestamp budget (state device.old self.old (slots sockets.old)) result
+            (state device.new self.new (slots sockets.new)) }
         ensures settings { HasSettingsOf self.old.inner self.new.inner }
         ensures kind { is_fixed sockets.new ≡ is_fixed sockets.old }
         ensures capabilities { D.described device.new ≡ D.described device.old }
     {
         self.poll_maintenance(timestamp);
-        let changed = self.receive_all(timestamp, device, sockets, budget);
-        self.send_all(timestamp, device, sockets, budget, changed)
+        let changed = self.ingress_all(timestamp, device, sockets, budget);
+        self.egress_all(timestamp, device, sockets, budget, changed)
     }
 
-    /// Steps of the way in, until no frame comes.
-    fn receive_all<D: Device>(
+    /// Steps of the ingress path, until no frame comes.
+    fn ingress_all<D: Device>(
         &mut self,
         timestamp: Instant,
         device: &mut D,
@@ -189,8 +189,8 @@ impl Interface {
         budget: u16,
     ) -> bool
         requires { IsMoment timestamp }
-        ensures steps { Repeats (IngressStep D.moves timestamp) budget (state device.old self.old (places sockets.old)) false
-            (state device.new self.new (places sockets.new)) result }
+        ensures steps { Repeats (IngressStep D.moves timestamp) budget (state device.old self.old (slots sockets.old)) false
+            (state device.new self.new (slots sockets.new)) result }
         ensures settings { HasSettingsOf self.old.inner self.new.inner }
         ensures kind { is_fixed sockets.new ≡ is_fixed sockets.old }
         ensures capabilities { D.described device.new ≡ D.described device.old }
@@ -207,8 +207,8 @@ impl Interface {
         changed
     }
 
-    /// Steps of the way out, until one changes nothing. `changed` says whether anything changed before.
-    fn send_all<D: Device>(
+    /// Steps of the egress path, until one changes nothing. `changed` says whether anything changed before.
+    fn egress_all<D: Device>(
         &mut self,
         timestamp: Instant,
         device: &mut D,
@@ -217,8 +217,8 @@ impl Interface {
         changed: bool,
     ) -> bool
         requires { IsMoment timestamp }
-        ensures steps { Repeats (EgressStep D.moves timestamp) budget (state device.old self.old (places sockets.old)) changed
-            (state device.new self.new (places sockets.new)) result }
+        ensures steps { Repeats (EgressStep D.moves timestamp) budget (state device.old self.old (slots sockets.old)) changed
+            (state device.new self.new (slots sockets.new)) result }
         ensures settings { HasSettingsOf self.old.inner self.new.inner }
         ensures kind { is_fixed sockets.new ≡ is_fixed sockets.old }
         ensures capabilities { D.described device.new ≡ D.described device.old }
@@ -235,7 +235,7 @@ impl Interface {
         any
     }
 
-    /// One step of the way in. Answers nothing where no frame came, else whether it was read.
+    /// One step of the ingress path. Answers nothing where no frame came, else whether it was read.
     fn receive<D: Device>(
         &mut self,
         timestamp: Instant,
@@ -243,24 +243,24 @@ impl Interface {
         sockets: &mut SocketSet<Socket>,
     ) -> Option<bool>
         requires { IsMoment timestamp }
-        ensures step { IngressStep D.moves timestamp (state device.old self.old (places sockets.old)) result (state device.new self.new (places sockets.new)) }
-        ensures settings { KeepsSettings (at_moment timestamp self.old.inner) self.new.inner }
+        ensures step { IngressStep D.moves timestamp (state device.old self.old (slots sockets.old)) result (state device.new self.new (slots sockets.new)) }
+        ensures settings { KeepsSettings (at_instant timestamp self.old.inner) self.new.inner }
         ensures kind { is_fixed sockets.new ≡ is_fixed sockets.old }
         ensures capabilities { D.described device.new ≡ D.described device.old }
     {
         self.inner.set_now(timestamp);
-        self.slots.remove_expired(timestamp);
+        self.assemblers.remove_expired(timestamp);
         ingress(
             &mut self.inner,
             &mut self.fragmenter,
-            &mut self.slots,
+            &mut self.assemblers,
             self.timeout,
             device,
-            &mut sockets.places,
+            &mut sockets.slots,
         )
     }
 
-    /// One step of the way out. Says whether a socket's state or a queue changed.
+    /// One step of the egress path. Says whether a socket's state or a queue changed.
     fn send<D: Device>(
         &mut self,
         timestamp: Instant,
@@ -268,10 +268,10 @@ impl Interface {
         sockets: &mut SocketSet<Socket>,
     ) -> bool
         requires { IsMoment timestamp }
-        ensures step { EgressStep D.moves timestamp (state device.old self.old (places sockets.old)) (if_changed result)
-            (state device.new self.new (places sockets.new)) }
-        ensures unchanged { result ≡ false → AreUnchanged (places sockets.old) (places sockets.new) }
-        ensures host { IsSameHost (at_moment timestamp self.old.inner) self.new.inner }
+        ensures step { EgressStep D.moves timestamp (state device.old self.old (slots sockets.old)) (if_changed result)
+            (state device.new self.new (slots sockets.new)) }
+        ensures unchanged { result ≡ false → AreUnchanged (slots sockets.old) (slots sockets.new) }
+        ensures host { IsSameHost (at_instant timestamp self.old.inner) self.new.inner }
         ensures kind { is_fixed sockets.new ≡ is_fixed sockets.old }
         ensures capabilities { D.described device.new ≡ D.described device.old }
     {
@@ -280,17 +280,17 @@ impl Interface {
             &mut self.inner,
             &mut self.fragmenter,
             device,
-            &mut sockets.places,
+            &mut sockets.slots,
         )
     }
 }
 
-/// How long it is until a moment, nothing where that has come.
-fn time_until(now: Instant, moment: Instant) -> Duration
-    ensures { result ≡ time_until now moment }
+/// How long it is until an instant, nothing where that has come.
+fn time_until(now: Instant, instant: Instant) -> Duration
+    ensures { result ≡ time_until now instant }
 {
-    if now < moment {
-        moment - now
+    if now < instant {
+        instant - now
     } else {
         Duration::ZERO
     }

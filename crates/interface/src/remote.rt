@@ -2,8 +2,8 @@
 ghost use Rattle.std.specs.Prelude.{◌≡◌};
 ghost use Rattle.interface.specs.Remote.{address_in, remote_of, end_by};
 
-use interface_egress::InterfaceInner;
-use interface_ingress::Socket;
+use iface_egress::InterfaceInner;
+use iface_ingress::Socket;
 use ip_wire::{IpAddress, IpEndpoint};
 use net_base::Instant;
 

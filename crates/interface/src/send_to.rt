@@ -1,26 +1,26 @@
 //! Datagrams that are sent where the interface is at hand: without their socket's queue, if nothing stands before them.
 ghost use Rattle.std.specs.Prelude.{◌≡◌, ◌||◌, is_some, length};
 ghost use Rattle.net_base.specs.Time.{IsMoment};
-ghost use Rattle.interface_ingress.specs.Packet.{packet_value, IsSendable};
-ghost use Rattle.interface_ingress.specs.Udp.{send_answer, send_after};
-ghost use Rattle.interface_ingress.specs.UdpMetadata.{UdpMetadata};
-ghost use Rattle.interface_egress.specs.Set.{places, is_fixed};
+ghost use Rattle.iface_ingress.specs.Packet.{packet_value, IsSendable};
+ghost use Rattle.iface_ingress.specs.Udp.{send_answer, send_after};
+ghost use Rattle.iface_ingress.specs.UdpMetadata.{UdpMetadata};
+ghost use Rattle.iface_egress.specs.Set.{slots, is_fixed};
 ghost use Rattle.interface.specs.Host.{sender};
 ghost use Rattle.interface.specs.SameHost.{IsSameHost};
-ghost use Rattle.interface.specs.SendTo.{queued_answer, LeavesIfKnown, LeavesIfItMay, UdpSends, ItemSends, PlaceSends, SendsFrom, SendsTo};
+ghost use Rattle.interface.specs.SendTo.{queued_answer, LeavesIfKnown, LeavesIfItMay, UdpSends, ItemSends, SlotSends, SendsFrom, SendsTo};
 ghost use Rattle.interface.specs.State.{state};
-ghost use Rattle.interface.specs.Turn.{is_waiting};
+ghost use Rattle.interface.specs.Serve.{is_waiting};
 
 use crate::host::Interface;
-use crate::turn::{is_done, is_waiting, leave_straight};
-use interface_egress::{
-    Fragmenter, InterfaceInner, Item, LentDatagram, Meta, Places, SocketHandle, SocketSet,
-    SocketStorage, straight_to,
+use crate::serve::{is_done, is_waiting, transmit_direct_segment};
+use iface_egress::{
+    Fragmenter, InterfaceInner, Item, LentDatagram, Meta, Slots, SocketHandle, SocketSet,
+    SocketStorage, direct_route,
 };
-use interface_ingress::udp::{SendError, UdpMetadata};
-use interface_ingress::widths::fields_have_widths;
-use interface_ingress::{IpPayload, Packet, Socket, udp};
-use interface_tables::Look;
+use iface_ingress::udp::{SendError, UdpMetadata};
+use iface_ingress::widths::fields_have_widths;
+use iface_ingress::{IpPayload, Packet, Socket, udp};
+use iface_tables::Look;
 use net_base::{Device, Instant};
 use thiserror::Error;
 
@@ -59,8 +59,8 @@ impl Interface {
     ) -> Result<Sending, SendToError>
         requires { IsMoment timestamp }
         ensures sends { (to : UdpMetadata) × T.converts meta to
-            × SendsTo D.moves timestamp (state device.old self.old (places sockets.old)) handle.0 (to, bytes.now) result
-            (state device.new self.new (places sockets.new)) }
+            × SendsTo D.moves timestamp (state device.old self.old (slots sockets.old)) handle.0 (to, bytes.now) result
+            (state device.new self.new (slots sockets.new)) }
         ensures kind { is_fixed sockets.new ≡ is_fixed sockets.old }
         ensures capabilities { D.described device.new ≡ D.described device.old }
     {
@@ -78,18 +78,18 @@ impl Interface {
         to: &UdpMetadata,
     ) -> Result<Sending, SendToError>
         requires { IsMoment timestamp }
-        ensures sends { SendsTo D.moves timestamp (state device.old self.old (places sockets.old)) handle.0 (to.now, bytes.now) result
-            (state device.new self.new (places sockets.new)) }
+        ensures sends { SendsTo D.moves timestamp (state device.old self.old (slots sockets.old)) handle.0 (to.now, bytes.now) result
+            (state device.new self.new (slots sockets.new)) }
         ensures kind { is_fixed sockets.new ≡ is_fixed sockets.old }
         ensures capabilities { D.described device.new ≡ D.described device.old }
     {
         self.inner.set_now(timestamp);
-        let at = handle.place();
+        let at = handle.slot();
         send_in(
             &mut self.inner,
             &self.fragmenter,
             device,
-            &mut sockets.places,
+            &mut sockets.slots,
             at,
             bytes,
             to,
@@ -102,37 +102,37 @@ fn send_in<D: Device>(
     inner: &mut InterfaceInner,
     fragmenter: &Fragmenter,
     device: &mut D,
-    places: &mut Places<Socket>,
+    slots: &mut Slots<Socket>,
     at: usize,
     bytes: &[u8],
     to: &UdpMetadata,
 ) -> Result<Sending, SendToError>
-    ensures sends { SendsFrom D.moves (sender device.old inner.old fragmenter.now) places.old at (to.now, bytes.now) result
-        device.new inner.new places.new }
+    ensures sends { SendsFrom D.moves (sender device.old inner.old fragmenter.now) slots.old at (to.now, bytes.now) result
+        device.new inner.new slots.new }
     ensures host { IsSameHost inner.old inner.new }
     ensures capabilities { D.described device.new ≡ D.described device.old }
 {
-    if at >= places.len() {
+    if at >= slots.len() {
         return Err(SendToError::NotUdp);
     }
-    send_at(inner, fragmenter, device, places.place_mut(at), bytes, to)
+    send_at(inner, fragmenter, device, slots.slot_mut(at), bytes, to)
 }
 
-/// Sends a datagram from the socket at a place, if there is one.
+/// Sends a datagram from the socket at a slot, if there is one.
 fn send_at<D: Device>(
     inner: &mut InterfaceInner,
     fragmenter: &Fragmenter,
     device: &mut D,
-    place: &mut SocketStorage<Socket>,
+    slot: &mut SocketStorage<Socket>,
     bytes: &[u8],
     to: &UdpMetadata,
 ) -> Result<Sending, SendToError>
-    ensures sends { PlaceSends D.moves (sender device.old inner.old fragmenter.now) place.old (to.now, bytes.now) result
-        device.new inner.new place.new }
+    ensures sends { SlotSends D.moves (sender device.old inner.old fragmenter.now) slot.old (to.now, bytes.now) result
+        device.new inner.new slot.new }
     ensures host { IsSameHost inner.old inner.new }
     ensures capabilities { D.described device.new ≡ D.described device.old }
 {
-    match &mut place.inner {
+    match &mut slot.inner {
         Some(item) => send_item(inner, fragmenter, device, item, bytes, to),
         None => Err(SendToError::NotUdp),
     }
@@ -175,7 +175,7 @@ fn send_from<D: Device>(
     ensures host { IsSameHost inner.old inner.new }
     ensures capabilities { D.described device.new ≡ D.described device.old }
 {
-    if leave_at_once(inner, fragmenter, device, meta, socket, bytes, to) {
+    if transmit_now(inner, fragmenter, device, meta, socket, bytes, to) {
         return Ok(Sending::Left);
     }
     queue(socket, bytes, to)
@@ -194,7 +194,7 @@ fn queue(socket: &mut udp::Socket, bytes: &[u8], to: &UdpMetadata) -> Result<Sen
 
 /// Lets the packet of a datagram leave, where none stands before it, its socket waits for nobody, and its hardware address is known. Says
 /// whether it left.
-fn leave_at_once<D: Device>(
+fn transmit_now<D: Device>(
     inner: &mut InterfaceInner,
     fragmenter: &Fragmenter,
     device: &mut D,
@@ -212,12 +212,12 @@ fn leave_at_once<D: Device>(
         return false;
     }
     match socket.packet_at_once(&Look::towards(inner, &None), bytes, to) {
-        Some(packet) => leave_if_known(inner, device, meta, &packet),
+        Some(packet) => transmit_if_known(inner, device, meta, &packet),
         None => false,
     }
 }
 
-/// Whether pieces of another datagram wait to go, or the socket waits for its neighbour.
+/// Whether fragments of another datagram wait to go, or the socket waits for its neighbour.
 fn is_held(inner: &InterfaceInner, fragmenter: &Fragmenter, meta: &Meta) -> bool
     ensures { result ≡ (is_some fragmenter.now || is_waiting inner.now meta.now) }
 {
@@ -225,7 +225,7 @@ fn is_held(inner: &InterfaceInner, fragmenter: &Fragmenter, meta: &Meta) -> bool
 }
 
 /// Lets a packet leave straight to its hardware address, where that is known. Says whether it left.
-fn leave_if_known<D: Device>(
+fn transmit_if_known<D: Device>(
     inner: &mut InterfaceInner,
     device: &mut D,
     meta: &mut Meta,
@@ -244,8 +244,8 @@ fn leave_if_known<D: Device>(
         header: *header,
         bytes,
     };
-    match straight_to(inner, &packet.ip_repr(), datagram) {
-        Some(straight) => is_done(leave_straight(inner, device, meta, &straight)),
+    match direct_route(inner, &packet.ip_repr(), datagram) {
+        Some(direct) => is_done(transmit_direct_segment(inner, device, meta, &direct)),
         None => false,
     }
 }

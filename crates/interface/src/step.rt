@@ -1,58 +1,58 @@
-//! One step of the way out.
+//! One step of the egress path.
 ghost use Rattle.std.specs.Prelude.{◌≡◌, false};
-ghost use Rattle.interface_egress.specs.Inner.{InnerValue, at_moment};
+ghost use Rattle.iface_egress.specs.Inner.{InnerValue, at_instant};
 ghost use Rattle.interface.specs.Host.{sender};
 ghost use Rattle.interface.specs.Pass.{passed};
-ghost use Rattle.interface.specs.WayOut.{Clears, Egress};
+ghost use Rattle.interface.specs.EgressPath.{Clears, Egress};
 ghost use Rattle.interface.specs.QuietStep.{AreUnchanged, IsEarly, IsQuiet};
 ghost use Rattle.interface.specs.SameHost.{IsSameHost};
 
 use crate::awaited::turn_if_any;
-use crate::passes::pass;
-use interface_egress::{Fragmenter, InterfaceInner, Places, send_next};
-use interface_ingress::socket_laws::due_as_before;
-use interface_ingress::{Context, Socket};
+use crate::round::pass;
+use iface_egress::{Fragmenter, InterfaceInner, Slots, send_next};
+use iface_ingress::socket_laws::due_as_before;
+use iface_ingress::{Context, Socket};
 use net_base::Device;
 
-/// Sends the piece that waits, if there is one, and then what the sockets have. Says whether a socket or a queue changed.
+/// Sends the fragment that waits, if there is one, and then what the sockets have. Says whether a socket or a queue changed.
 pub fn egress<D: Device>(
     inner: &mut InterfaceInner,
     fragmenter: &mut Fragmenter,
     device: &mut D,
-    places: &mut Places<Socket>,
+    slots: &mut Slots<Socket>,
 ) -> bool
-    ensures egress { Egress D.moves (sender device.old inner.old fragmenter.old) places.old
-        (passed (sender device.new inner.new fragmenter.new) places.new result) }
+    ensures egress { Egress D.moves (sender device.old inner.old fragmenter.old) slots.old
+        (passed (sender device.new inner.new fragmenter.new) slots.new result) }
     ensures host { IsSameHost inner.old inner.new }
-    ensures unchanged { result ≡ false → AreUnchanged places.old places.new }
-    ensures quiet { (asked : InnerValue) → inner.old ≡ at_moment inner.old.moment asked
-        → IsEarly asked fragmenter.old places.old inner.old.moment
-        → IsQuiet asked (sender device.old inner.old fragmenter.old) places.old (passed (sender device.new inner.new fragmenter.new) places.new result) }
+    ensures unchanged { result ≡ false → AreUnchanged slots.old slots.new }
+    ensures quiet { (asked : InnerValue) → inner.old ≡ at_instant inner.old.instant asked
+        → IsEarly asked fragmenter.old slots.old inner.old.instant
+        → IsQuiet asked (sender device.old inner.old fragmenter.old) slots.old (passed (sender device.new inner.new fragmenter.new) slots.new result) }
     ensures capabilities { D.described device.new ≡ D.described device.old }
 {
     due_as_before();
-    send_turns(inner, fragmenter, device, places)
+    send_turns(inner, fragmenter, device, slots)
 }
 
-/// Sends the piece that waits, and then what the sockets have.
+/// Sends the fragment that waits, and then what the sockets have.
 fn send_turns<D: Device>(
     inner: &mut InterfaceInner,
     fragmenter: &mut Fragmenter,
     device: &mut D,
-    places: &mut Places<Socket>,
+    slots: &mut Slots<Socket>,
 ) -> bool
-    ensures egress { Egress D.moves (sender device.old inner.old fragmenter.old) places.old
-        (passed (sender device.new inner.new fragmenter.new) places.new result) }
+    ensures egress { Egress D.moves (sender device.old inner.old fragmenter.old) slots.old
+        (passed (sender device.new inner.new fragmenter.new) slots.new result) }
     ensures capabilities { D.described device.new ≡ D.described device.old }
 {
     if !send_waiting(inner, fragmenter, device) {
         return false;
     }
-    let turn = turn_if_any(inner, places);
-    pass(&turn, inner, fragmenter, device, places)
+    let turn = turn_if_any(inner, slots);
+    pass(&turn, inner, fragmenter, device, slots)
 }
 
-/// Sends the piece that waits. Says whether none waits to go before the sockets' packets any more.
+/// Sends the fragment that waits. Says whether none waits to go before the sockets' packets any more.
 fn send_waiting<D: Device>(
     inner: &InterfaceInner,
     fragmenter: &mut Fragmenter,

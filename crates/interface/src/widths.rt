@@ -7,10 +7,10 @@ ghost use Rattle.ip_wire.specs.Ipv4 as Ipv4;
 ghost use Rattle.ip_wire.specs.Options.{AreOptions, AreRanges, IsRange, IsStamp};
 ghost use Rattle.ip_wire.specs.Protocol.{protocol_number};
 ghost use Rattle.ip_wire.specs.Tcp.{IsAck};
-ghost use Rattle.interface_egress.specs.Straight.{segment_in, datagram_in, straight_packet};
-ghost use Rattle.interface_ingress.specs.WellFormed.{AreFields, ArePorts, HasWidths};
+ghost use Rattle.iface_egress.specs.FastPath.{segment_in, datagram_in, direct_packet};
+ghost use Rattle.iface_ingress.specs.WellFormed.{AreFields, ArePorts, HasWidths};
 
-use interface_egress::{LentDatagram, LentSegment, Straight};
+use iface_egress::{Direct, LentDatagram, LentSegment};
 use ip_wire::{
     IpProtocol, Ipv4Address, Ipv4Repr, SeqNumber, TcpHeader, TcpOptions, TcpTimestampRepr, UdpRepr,
     laws as wire_laws,
@@ -18,18 +18,18 @@ use ip_wire::{
 
 /// Law: each field of a lent segment is a number of its width, since it is of that type. A caller that holds the segment calls this,
 /// which does nothing.
-pub(crate) fn segment_has_widths(segment: &Straight<'_, LentSegment<'_>>)
-    ensures header { Ips.IsValue (straight_packet segment_in segment.now).header }
-    ensures payload { HasWidths (straight_packet segment_in segment.now).payload }
+pub(crate) fn segment_has_widths(segment: &Direct<'_, LentSegment<'_>>)
+    ensures header { Ips.IsValue (direct_packet segment_in segment.now).header }
+    ensures payload { HasWidths (direct_packet segment_in segment.now).payload }
 {
     ipv4_widths(*segment.header);
     tcp_widths(*segment.carried.header);
 }
 
 /// Law: the same of a lent datagram.
-pub(crate) fn datagram_has_widths(datagram: &Straight<'_, LentDatagram<'_>>)
-    ensures header { Ips.IsValue (straight_packet datagram_in datagram.now).header }
-    ensures payload { HasWidths (straight_packet datagram_in datagram.now).payload }
+pub(crate) fn datagram_has_widths(datagram: &Direct<'_, LentDatagram<'_>>)
+    ensures header { Ips.IsValue (direct_packet datagram_in datagram.now).header }
+    ensures payload { HasWidths (direct_packet datagram_in datagram.now).payload }
 {
     ipv4_widths(*datagram.header);
     ports_widths(datagram.carried.header);

@@ -2,15 +2,15 @@
 use Rattle.std.proofs.Common.{◌≡◌, ℕ, ◌+◌, ◌*◌, ◌/◌, ◌%◌, ◌<◌, ◌≤◌, ◌^◌, List, ◌++◌, length, get_or, take, drop, refl, sym, ◌∙◌, ap, arith, length-append}
 use Rattle.std.proofs.Common.{append_assoc}
 use Rattle.std.proofs.lemmas.List.{take_at, drop_at, drop-drop}
-use Rattle.ip_address.specs.Fields.{be16, IsBytes}
+use Rattle.wire_address.specs.Fields.{be16, IsBytes}
 use Rattle.ip_wire.specs.Arp.{IsArp, IsValue, written, normal, operation_number, operation_of}
 use Rattle.ip_wire.specs.declared.arp.repr.ArpRepr.{ArpRepr}
 use Rattle.ip_wire.specs.declared.arp.repr.ArpRepr.TheVariants as Arp
-use Rattle.ip_address.proofs.Peel.{peel8, peel16, peel_to}
-use Rattle.ip_packet.proofs.Runs.{part, named-again}
+use Rattle.wire_address.proofs.Peel.{peel8, peel16, peel_to}
+use Rattle.wire_ip.proofs.Runs.{part, named-again}
 use Rattle.ip_wire.proofs.Numbers.{operation_number-operation_of}
 
--- four runs of bytes, and what is behind them, joined one way or the other
+-- four runs of bytes, and what is after them, joined one way or the other
 joined : (a b c d rest : List ℕ) → (a ++ (b ++ (c ++ d))) ++ rest ≡ a ++ (b ++ (c ++ (d ++ rest)))
 joined a b c d rest =
     append_assoc a (b ++ (c ++ d)) rest
@@ -47,11 +47,11 @@ bytes-written bytes (Arp.EthernetIpv4 operation sha spa tha tpa) small is =
     )
     )
 
--- a run behind another
-behind : (a rest bytes : List ℕ) (n : ℕ) → length a ≡ n → bytes ≡ a ++ rest → drop n bytes ≡ rest
-behind a rest bytes n len is = ap (drop n) is ∙ drop_at a rest n len
+-- a run after another
+following : (a rest bytes : List ℕ) (n : ℕ) → length a ≡ n → bytes ≡ a ++ rest → drop n bytes ≡ rest
+following a rest bytes n len is = ap (drop n) is ∙ drop_at a rest n len
 
--- a packet that was emitted is read back in its normal form, whatever follows
+-- a packet that was emitted is read back in its canonical form, whatever follows
 pub IsArp-written : (v : ArpRepr) (rest : List ℕ) → IsValue v → IsArp (written v ++ rest) (normal v)
 IsArp-written (Arp.EthernetIpv4 operation sha spa tha tpa) rest value =
     let a : List ℕ = sha.0 in
@@ -65,9 +65,9 @@ IsArp-written (Arp.EthernetIpv4 operation sha spa tha tpa) rest value =
     let ld : length d ≡ 4 = value.4.0 in
     let tail : List ℕ = (a ++ (b ++ (c ++ d))) ++ rest in
     let is : tail ≡ a ++ (b ++ (c ++ (d ++ rest))) = joined a b c d rest in
-    let after6 : drop 6 tail ≡ b ++ (c ++ (d ++ rest)) = behind a _ tail 6 la is in
-    let after10 : drop 10 tail ≡ c ++ (d ++ rest) = sym (drop-drop 4 6 tail) ∙ behind b _ (drop 6 tail) 4 lb after6 in
-    let after16 : drop 16 tail ≡ d ++ rest = sym (drop-drop 6 10 tail) ∙ behind c _ (drop 10 tail) 6 lc after10 in
+    let after6 : drop 6 tail ≡ b ++ (c ++ (d ++ rest)) = following a _ tail 6 la is in
+    let after10 : drop 10 tail ≡ c ++ (d ++ rest) = sym (drop-drop 4 6 tail) ∙ following b _ (drop 6 tail) 4 lb after6 in
+    let after16 : drop 16 tail ≡ d ++ rest = sym (drop-drop 6 10 tail) ∙ following c _ (drop 10 tail) 6 lc after10 in
     let all : length tail ≡ 20 + length rest =
     ap length is
     ∙ omega (
@@ -112,13 +112,13 @@ fits bytes (Arp.EthernetIpv4 operation sha spa tha tpa) small is =
       part bytes tpa.0 24 28 4 small refl is.room is.target_protocol_is,
     )
 
--- a packet that was read is in its normal form
+-- a packet that was read is in its canonical form
 pub read : (bytes : List ℕ) (v : ArpRepr) → IsArp bytes v → normal v ≡ v
 read bytes (Arp.EthernetIpv4 operation sha spa tha tpa) is =
     ap (λ p. Arp.EthernetIpv4 p sha spa tha tpa)
     (named-again operation_number operation_of operation_number-operation_of operation (be16 bytes 6) is.operation_is)
 
--- the normal form of a normal form is itself
+-- the canonical form of a canonical form is itself
 pub normal-again : (v : ArpRepr) → normal (normal v) ≡ normal v
 normal-again (Arp.EthernetIpv4 operation sha spa tha tpa) =
     ap (λ p. Arp.EthernetIpv4 p sha spa tha tpa) (ap operation_of (operation_number-operation_of (operation_number operation)))

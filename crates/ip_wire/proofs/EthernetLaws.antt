@@ -3,13 +3,13 @@ use Rattle.std.proofs.Common.{◌≡◌, ℕ, ◌+◌, ◌/◌, ◌%◌, ◌<◌
 use Rattle.std.proofs.Common.{append_assoc}
 use Rattle.std.proofs.lemmas.List.{take_at, drop_at, get_or-drop}
 use Rattle.std.specs.Int.{w16, to_be_bytes}
-use Rattle.ip_address.specs.Fields.{be16, IsBytes}
-use Rattle.ip_address.specs.Protocol.{ether_number, ether_of}
+use Rattle.wire_address.specs.Fields.{be16, IsBytes}
+use Rattle.wire_address.specs.Protocol.{ether_number, ether_of}
 use Rattle.ip_wire.specs.Ethernet.{IsEthernet, IsWhole, IsValue, written, normal}
 use Rattle.ip_wire.specs.declared.ethernet.repr.EthernetRepr.{EthernetRepr}
-use Rattle.ip_address.proofs.Peel.{peel16, peel_to}
-use Rattle.ip_address.proofs.Numbers.{ether_number-ether_of}
-use Rattle.ip_packet.proofs.Runs.{part, named-again}
+use Rattle.wire_address.proofs.Peel.{peel16, peel_to}
+use Rattle.wire_address.proofs.Numbers.{ether_number-ether_of}
+use Rattle.wire_ip.proofs.Runs.{part, named-again}
 
 -- a frame is spelled by its header, and then come payload and padding
 pub bytes-written : (bytes : List ℕ) (v : EthernetRepr) → IsBytes bytes → IsEthernet bytes v → bytes ≡ written v ++ drop 14 bytes
@@ -36,22 +36,22 @@ parts destination source rest n first second small =
     let joined : frame ≡ destination ++ (source ++ (to_be_bytes w16 n ++ rest)) =
     append_assoc destination (source ++ to_be_bytes w16 n) rest ∙ ap (λ xs. destination ++ xs) (append_assoc source (to_be_bytes w16 n) rest)
     in
-    let behind6 : drop 6 frame ≡ source ++ (to_be_bytes w16 n ++ rest) =
+    let following6 : drop 6 frame ≡ source ++ (to_be_bytes w16 n ++ rest) =
     ap (drop 6) joined ∙ drop_at destination (source ++ (to_be_bytes w16 n ++ rest)) 6 first in
     let six : length (destination ++ source) ≡ 12 = omega (arith, length-append destination source) in
     let joined12 : frame ≡ (destination ++ source) ++ (to_be_bytes w16 n ++ rest) =
     joined ∙ sym (append_assoc destination source (to_be_bytes w16 n ++ rest)) in
-    let behind12 : drop 12 frame ≡ to_be_bytes w16 n ++ rest = ap (drop 12) joined12 ∙ drop_at (destination ++ source) (to_be_bytes w16 n ++ rest) 12 six in
-    let high : get_or frame 12 0 ≡ n / 256 % 256 = sym (get_or-drop 12 frame 0 0) ∙ ap (λ xs. get_or xs 0 0) behind12 in
-    let low : get_or frame 13 0 ≡ n % 256 = sym (get_or-drop 12 frame 1 0) ∙ ap (λ xs. get_or xs 1 0) behind12 in
+    let following12 : drop 12 frame ≡ to_be_bytes w16 n ++ rest = ap (drop 12) joined12 ∙ drop_at (destination ++ source) (to_be_bytes w16 n ++ rest) 12 six in
+    let high : get_or frame 12 0 ≡ n / 256 % 256 = sym (get_or-drop 12 frame 0 0) ∙ ap (λ xs. get_or xs 0 0) following12 in
+    let low : get_or frame 13 0 ≡ n % 256 = sym (get_or-drop 12 frame 1 0) ∙ ap (λ xs. get_or xs 1 0) following12 in
     let all : length frame ≡ 14 + length rest = ap length joined12 ∙ omega (arith, six, length-append (destination ++ source) (to_be_bytes w16 n ++ rest)) in (
       sym (ap (take 6) joined ∙ take_at destination (source ++ (to_be_bytes w16 n ++ rest)) 6 first),
-      sym (ap (take 6) behind6 ∙ take_at source (to_be_bytes w16 n ++ rest) 6 second),
+      sym (ap (take 6) following6 ∙ take_at source (to_be_bytes w16 n ++ rest) 6 second),
       omega (arith, high, low),
       omega (arith, all),
     )
 
--- a frame whose header was emitted is read back in its normal form, whatever follows
+-- a frame whose header was emitted is read back in its canonical form, whatever follows
 pub IsEthernet-written : (v : EthernetRepr) (rest : List ℕ) → IsValue v → IsEthernet (written v ++ rest) (normal v)
 IsEthernet-written v rest value =
     let all = parts v.dst_addr.0 v.src_addr.0 rest (ether_number v.ethertype) value.destination.0 value.source.0 value.carried in
@@ -69,12 +69,12 @@ fits bytes v small is =
       carried = omega (arith, ap ether_number is.carried, ether_number-ether_of (be16 bytes 12));
     }
 
--- a header that was read is in its normal form
+-- a header that was read is in its canonical form
 pub read : (bytes : List ℕ) (v : EthernetRepr) → IsEthernet bytes v → normal v ≡ v
 read bytes v is =
     ap (λ p. record v { ethertype = p }) (named-again ether_number ether_of ether_number-ether_of v.ethertype (be16 bytes 12) is.carried)
 
--- the normal form of a normal form is itself
+-- the canonical form of a canonical form is itself
 pub normal-again : (v : EthernetRepr) → normal (normal v) ≡ normal v
 normal-again v =
     ap (λ p. record v { ethertype = p }) (ap ether_of (ether_number-ether_of (ether_number v.ethertype)))

@@ -3,10 +3,10 @@ use Rattle.std.proofs.Common.{◌≡◌, ℕ, ◌+◌, ◌*◌, ◌%◌, ◌<◌
 use Rattle.std.specs.Prelude.{◌==◌, ◌⊎◌, if◌then◌else◌}
 use Rattle.std.proofs.lemmas.Bool.{eq-eqb, ne_eqb}
 use Rattle.std.proofs.lemmas.Bool.Decides.{eqb_tells}
-use Rattle.ip_address.specs.Fields.{be16, IsBytes}
+use Rattle.wire_address.specs.Fields.{be16, IsBytes}
 use Rattle.ip_wire.specs.Fragment.{IsFragment, IsWhole, IsValue, spelling, written, normal, reserved_of}
 use Rattle.ip_wire.specs.declared.ipv6_fragment.repr.Ipv6FragmentRepr.{Ipv6FragmentRepr}
-use Rattle.ip_address.proofs.Peel.{peel16, peel32}
+use Rattle.wire_address.proofs.Peel.{peel16, peel32}
 
 -- a flag as a number is the bit that it was read from
 bit : (b : ℕ) (flag : Bool) → flag ≡ (b % 2 == 1) → (if flag then 1 else 0) ≡ b % 2
@@ -33,7 +33,7 @@ flag_cases : (b : Bool) → (b ≡ true) ⊎ (b ≡ false)
 flag_cases true = inl refl
 flag_cases false = inr refl
 
--- a header that was emitted is read back in its normal form, whatever follows
+-- a header that was emitted is read back in its canonical form, whatever follows
 pub IsFragment-written : (v : Ipv6FragmentRepr) (rest : List ℕ) → IsValue v → IsFragment (written v ++ rest) (normal v)
 IsFragment-written v rest value =
     elim (flag_cases v.more_frags) [
@@ -62,7 +62,7 @@ fits bytes v small is =
     let b5 : get_or bytes 5 0 < 256 = small 5 in
     record { offset = omega (arith, is.offset); identification = omega (arith, is.identification) }
 
--- a header that was read is in its normal form
+-- a header that was read is in its canonical form
 pub read : (bytes : List ℕ) (v : Ipv6FragmentRepr) → IsBytes bytes → IsFragment bytes v → normal v ≡ v
 read bytes v small is =
     let b0 : get_or bytes 0 0 < 256 = small 0 in
@@ -70,7 +70,7 @@ read bytes v small is =
     let cut : v.frag_offset % 2 ^ 13 ≡ v.frag_offset = omega (arith, is.offset) in
     ap (λ n. record v { frag_offset = n }) cut
 
--- the normal form of a normal form is itself
+-- the canonical form of a canonical form is itself
 pub normal-again : (v : Ipv6FragmentRepr) → normal (normal v) ≡ normal v
 normal-again v =
     let cut : v.frag_offset % 2 ^ 13 % 2 ^ 13 ≡ v.frag_offset % 2 ^ 13 = omega arith in

@@ -1,6 +1,6 @@
 -- Numbers that name operations of ARP.
 use Rattle.std.proofs.Common.{◌≡◌, ℕ, refl}
-use Rattle.ip_address.proofs.Numbers.{step}
+use Rattle.wire_address.proofs.Numbers.{step}
 use Rattle.ip_wire.specs.Arp.{operation_number, operation_of}
 use Rattle.ip_wire.specs.declared.arp.kinds.ArpOperation.TheVariants as Operation
 

@@ -3,10 +3,10 @@
 use Rattle.std.specs.Prelude.{◌≡◌, ℕ, ◌+◌, ◌<◌, ◌≤◌, ◌^◌, ◌==◌, if◌then◌else◌, List, ◌∷◌, ◌++◌, length, slice_index, slice_range}
 use Rattle.std.specs.Int.{w16, to_be_bytes}
 use Rattle.std.specs.Borrow.{GName}
-use Rattle.ip_address.specs.Address.{IsEthernetAddress, IsIpv4Address}
-use Rattle.ip_address.specs.Fields.{be16}
-use Rattle.ip_address.specs.declared.ethernet.EthernetAddress.{EthernetAddress}
-use Rattle.ip_address.specs.declared.ipv4.Ipv4Address.{Ipv4Address}
+use Rattle.wire_address.specs.Address.{IsEthernetAddress, IsIpv4Address}
+use Rattle.wire_address.specs.Fields.{be16}
+use Rattle.wire_address.specs.declared.ethernet.EthernetAddress.{EthernetAddress}
+use Rattle.wire_address.specs.declared.ipv4.Ipv4Address.{Ipv4Address}
 use Rattle.ip_wire.specs.declared.arp.kinds.ArpHardware.{ArpHardware}
 use Rattle.ip_wire.specs.declared.arp.kinds.ArpHardware.TheVariants as Hardware
 use Rattle.ip_wire.specs.declared.arp.kinds.ArpOperation.{ArpOperation}

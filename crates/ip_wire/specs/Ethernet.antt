@@ -3,9 +3,9 @@
 use Rattle.std.specs.Prelude.{◌≡◌, ℕ, ◌<◌, ◌≤◌, ◌^◌, List, ◌++◌, length, drop, slice_range}
 use Rattle.std.specs.Int.{w16, to_be_bytes}
 use Rattle.std.specs.Borrow.{GName}
-use Rattle.ip_address.specs.Address.{IsEthernetAddress}
-use Rattle.ip_address.specs.Fields.{be16}
-use Rattle.ip_address.specs.Protocol.{ether_number, ether_of}
+use Rattle.wire_address.specs.Address.{IsEthernetAddress}
+use Rattle.wire_address.specs.Fields.{be16}
+use Rattle.wire_address.specs.Protocol.{ether_number, ether_of}
 use Rattle.ip_wire.specs.declared.ethernet.packet.EthernetFrame.{EthernetFrame}
 use Rattle.ip_wire.specs.declared.ethernet.packet_mut.EthernetFrameMut.{EthernetFrameMut}
 use Rattle.ip_wire.specs.declared.ethernet.repr.EthernetRepr.{EthernetRepr}

@@ -1,9 +1,9 @@
--- The fragment header (RFC 8200, section 4.5) behind its first two bytes: the offset in units of eight
+-- The fragment header (RFC 8200, section 4.5) after its first two bytes: the offset in units of eight
 -- bytes, of 13 bits, two reserved bits, more-fragments, and the identification.
 use Rattle.std.specs.Prelude.{◌≡◌, ℕ, ◌+◌, ◌*◌, ◌/◌, ◌%◌, ◌<◌, ◌≤◌, ◌^◌, ◌==◌, if◌then◌else◌, List, ◌++◌, length, slice_index}
 use Rattle.std.specs.Int.{w16, w32, to_be_bytes}
 use Rattle.std.specs.Borrow.{GName}
-use Rattle.ip_address.specs.Fields.{be16, be32}
+use Rattle.wire_address.specs.Fields.{be16, be32}
 use Rattle.ip_wire.specs.declared.ipv6_fragment.packet.Ipv6FragmentHeader.{Ipv6FragmentHeader}
 use Rattle.ip_wire.specs.declared.ipv6_fragment.packet_mut.Ipv6FragmentHeaderMut.{Ipv6FragmentHeaderMut}
 use Rattle.ip_wire.specs.declared.ipv6_fragment.repr.Ipv6FragmentRepr.{Ipv6FragmentRepr}

@@ -1,6 +1,6 @@
-//! What this crate passes on stands under the name of its own format; a protocol has a number of eight bits.
+//! What this crate re-exports stands under the name of its own format; a protocol has a number of eight bits.
 ghost use Rattle.std.specs.Prelude.{◌≡◌, ◌<◌};
-ghost use Rattle.ip_address.specs.Protocol.{protocol_number};
+ghost use Rattle.wire_address.specs.Protocol.{protocol_number};
 
 use crate::arp_field::OPER;
 use crate::ethernet_field::ETHERTYPE;
@@ -14,7 +14,7 @@ use crate::{
     TCP_HEADER_LEN, UDP_HEADER_LEN,
 };
 
-/// Law: of each module of fields, a field that has this name and place in no other format.
+/// Law: of each module of fields, a field that has this name and offset in no other format.
 pub fn fields_are_passed_on()
     ensures ethernet { ETHERTYPE ≡ record { start = 12; end = 14 } }
     ensures arp { OPER ≡ record { start = 6; end = 8 } }

@@ -1,6 +1,6 @@
-//! Runs of bytes written at a place.
+//! Runs of bytes written at an offset.
 ghost use Rattle.std.specs.Prelude.{◌≡◌, ◌+◌, ◌≤◌, length};
-ghost use Rattle.ip_packet.specs.Parts.{put_run};
+ghost use Rattle.wire_ip.specs.Parts.{put_run};
 
 /// Writes six bytes at `at`.
 pub fn put6(bytes: &mut [u8], at: usize, from: &[u8; 6])

@@ -2,9 +2,9 @@
 use Rattle.std.proofs.Common.{◌≡◌, List, []}
 use Rattle.lan.specs.Worlds.AtLink.History.{Entry}
 use Rattle.lan.specs.Worlds.AtLink.Runs.{Starts, WorldValue}
-use Rattle.lan.specs.Worlds.AtLink.Station.{StationValue, Stations}
-use Rattle.lan.specs.Worlds.Come.{both, starts_of}
+use Rattle.lan.specs.Worlds.AtLink.Node.{NodeValue, Nodes}
+use Rattle.lan.specs.Worlds.Provenance.{both, starts_of}
 use Rattle.lan.specs.Hosts.{first_world}
 
-pub begins : (world : WorldValue) (a b : StationValue) → world.hosts ≡ both a b → world.starts ≡ starts_of a b → world.history ≡ [] → world ≡ first_world a b
+pub begins : (world : WorldValue) (a b : NodeValue) → world.hosts ≡ both a b → world.starts ≡ starts_of a b → world.history ≡ [] → world ≡ first_world a b
 begins world a b hosts starts history = λ k. record { hosts = hosts k; starts = starts k; history = history k }

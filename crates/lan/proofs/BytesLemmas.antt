@@ -3,9 +3,9 @@ use Rattle.std.proofs.Common.{◌≡◌, ℕ, Bool, true, Option, Some, None, Re
 use Rattle.std.specs.Prelude.{◌≢◌, option_map}
 use Rattle.lan.specs.declared.at_link.history.answer.Refused.{Refused}
 use Rattle.lan.specs.declared.at_link.history.event.Event.{Event}
-use Rattle.lan_base.specs.declared.line.Line.{Line}
-use Rattle.lan_base.specs.declared.line.Line.TheVariants.{World, Socket, Start, Listen, Connect, Send, Recv, Close, Abort, State, Bind, Ident, SendTo}
-use Rattle.lan_base.specs.declared.line.Line.TheVariants.{SendIcmp, SendRaw, RecvFrom, Addrs, Hw, Route, Poll, PollAt, Deliver, Damage, Noise, Room, Cut}
+use Rattle.sim_link.specs.declared.line.Line.{Line}
+use Rattle.sim_link.specs.declared.line.Line.TheVariants.{World, Socket, Start, Listen, Connect, Send, Recv, Close, Abort, State, Bind, Ident, SendTo}
+use Rattle.sim_link.specs.declared.line.Line.TheVariants.{SendIcmp, SendRaw, RecvFrom, Addrs, Hw, Route, Poll, PollAt, Deliver, Damage, Noise, Room, Cut}
 use Rattle.lan.specs.Worlds.AtLink.Runs.{WorldValue, refusal_in}
 use Rattle.lan.specs.declared.end.End.{End}
 use Rattle.lan.specs.declared.end.End.TheVariants.{BadEvent, Refusal}

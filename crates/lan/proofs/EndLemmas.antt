@@ -7,9 +7,9 @@ use Rattle.lan.specs.Worlds.AtLink.NewError.TheVariants as New
 use Rattle.lan.specs.declared.at_link.history.answer.Refused.TheVariants.{Memory}
 use Rattle.lan.specs.declared.at_link.history.event.Side.{Side}
 use Rattle.lan.specs.declared.at_link.history.event.Side.TheVariants.{A, B}
-use Rattle.lan_base.specs.declared.line.Line.{Line}
-use Rattle.lan_base.specs.declared.line.Line.TheVariants.{Start}
-use Rattle.lan.specs.Worlds.AtLink.Station.{StationValue}
+use Rattle.sim_link.specs.declared.line.Line.{Line}
+use Rattle.sim_link.specs.declared.line.Line.TheVariants.{Start}
+use Rattle.lan.specs.Worlds.AtLink.Node.{NodeValue}
 use Rattle.lan.specs.Worlds.New.{new_error}
 use Rattle.lan.specs.declared.error.WorldError.{WorldError}
 use Rattle.lan.specs.declared.error.WorldError.TheVariants as Since
@@ -64,7 +64,7 @@ no_bad_five a b c d e ha hb hc hd he =
 no_bad_new : (medium : Medium) (mtu : ℕ) (side : Side) → no_interface medium mtu side ≢ Some BadEvent
 no_bad_new medium mtu side = no_bad_interface (refusal (config_of medium side) (device_of medium mtu) (pos 0))
 
-no_bad_both : (a b : StationValue) → no_world a b ≢ Some BadEvent
+no_bad_both : (a b : NodeValue) → no_world a b ≢ Some BadEvent
 no_bad_both a b = no_bad_world (new_error a b)
 
 no_bad_start : (h : HeaderValue) → no_start h ≢ Some BadEvent

@@ -3,7 +3,7 @@ pub mod TextsOnce
 mod LinesOnce
 pub mod BytesLemmas
 pub mod RunLemmas
-pub mod PieceLemmas
+pub mod FragmentLemmas
 pub mod Outcomes
 pub mod Beginnings
 pub mod SocketLemmas

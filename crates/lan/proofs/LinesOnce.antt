@@ -1,30 +1,30 @@
 -- A line of a script says one thing.
 use Rattle.std.proofs.Common.{◌≡◌, ℕ, List, [], ◌∷◌, Option, Some, None, refl, sym, ◌∙◌, ap, ap₂, subst}
 use Rattle.std.specs.Prelude.{drop}
-use Rattle.ip_address.specs.declared.ip.IpCidr.{IpCidr}
-use Rattle.ip_address.specs.Text.{IsEndpointText, IsIpText, IsEthernetText}
-use Rattle.ip_address.proofs.OneReading.{IsIpText-unique}
-use Rattle.lan_base.specs.Lines.{IsLine, IsSocket, IsStream, IsDatagram, IsHost, IsLink, Host, Size, Short, Hex, AreQueueSizes, Queues, SaysWords, SaysLine}
-use Rattle.lan_base.specs.Verbs.{verb_of}
-use Rattle.lan_base.specs.Words.{words_of, first_as, First, FirstIs, AreBlockTexts, AreBlocks, Reads, ReadsAll, Ends, side_of, medium_of, kind_of, version_of}
-use Rattle.lan_base.specs.Words.{protocol_of, size_of, short_of, four_digits_of, micros_of, hex_bytes_of}
-use Rattle.lan_base.specs.declared.kinds.Side.{Side}
-use Rattle.lan_base.specs.declared.kinds.SocketKind.{SocketKind}
-use Rattle.lan_base.specs.declared.kinds.SocketKind.TheVariants as kind
-use Rattle.lan_base.specs.declared.kinds.QueueSizes.{QueueSizes}
-use Rattle.lan_base.specs.declared.kinds.SocketSpec.TheVariants as spec
-use Rattle.lan_base.specs.declared.line.Line.{Line}
-use Rattle.lan_base.specs.declared.line.Line.TheVariants as line
-use Rattle.lan_base.specs.declared.verb.Verb.{Verb}
-use Rattle.lan_base.specs.declared.verb.Verb.TheVariants as verb
-use Rattle.lan_base.specs.declared.verb.StreamVerb.{StreamVerb}
-use Rattle.lan_base.specs.declared.verb.StreamVerb.TheVariants as stream
-use Rattle.lan_base.specs.declared.verb.DatagramVerb.{DatagramVerb}
-use Rattle.lan_base.specs.declared.verb.DatagramVerb.TheVariants as datagram
-use Rattle.lan_base.specs.declared.verb.HostVerb.{HostVerb}
-use Rattle.lan_base.specs.declared.verb.HostVerb.TheVariants as host
-use Rattle.lan_base.specs.declared.verb.LinkVerb.{LinkVerb}
-use Rattle.lan_base.specs.declared.verb.LinkVerb.TheVariants as link
+use Rattle.wire_address.specs.declared.ip.IpCidr.{IpCidr}
+use Rattle.wire_address.specs.Text.{IsEndpointText, IsIpText, IsEthernetText}
+use Rattle.wire_address.proofs.OneReading.{IsIpText-unique}
+use Rattle.sim_link.specs.Lines.{IsLine, IsSocket, IsStream, IsDatagram, IsHost, IsLink, Host, Size, Short, Hex, AreQueueSizes, Queues, SaysWords, SaysLine}
+use Rattle.sim_link.specs.Verbs.{verb_of}
+use Rattle.sim_link.specs.Words.{words_of, first_as, First, FirstIs, AreCidrTexts, AreBlocks, Reads, ReadsAll, Ends, side_of, medium_of, kind_of, version_of}
+use Rattle.sim_link.specs.Words.{protocol_of, size_of, short_of, four_digits_of, micros_of, hex_bytes_of}
+use Rattle.sim_link.specs.declared.kinds.Side.{Side}
+use Rattle.sim_link.specs.declared.kinds.SocketKind.{SocketKind}
+use Rattle.sim_link.specs.declared.kinds.SocketKind.TheVariants as kind
+use Rattle.sim_link.specs.declared.kinds.QueueSizes.{QueueSizes}
+use Rattle.sim_link.specs.declared.kinds.SocketSpec.TheVariants as spec
+use Rattle.sim_link.specs.declared.line.Line.{Line}
+use Rattle.sim_link.specs.declared.line.Line.TheVariants as line
+use Rattle.sim_link.specs.declared.verb.Verb.{Verb}
+use Rattle.sim_link.specs.declared.verb.Verb.TheVariants as verb
+use Rattle.sim_link.specs.declared.verb.StreamVerb.{StreamVerb}
+use Rattle.sim_link.specs.declared.verb.StreamVerb.TheVariants as stream
+use Rattle.sim_link.specs.declared.verb.DatagramVerb.{DatagramVerb}
+use Rattle.sim_link.specs.declared.verb.DatagramVerb.TheVariants as datagram
+use Rattle.sim_link.specs.declared.verb.HostVerb.{HostVerb}
+use Rattle.sim_link.specs.declared.verb.HostVerb.TheVariants as host
+use Rattle.sim_link.specs.declared.verb.LinkVerb.{LinkVerb}
+use Rattle.sim_link.specs.declared.verb.LinkVerb.TheVariants as link
 use Rattle.lan.proofs.TextsOnce.{endpoint_once, ethernet_once, block_once}
 
 -- CHAINS
@@ -43,16 +43,16 @@ first_is : {X : Type 0} (IsTextOf : List ℕ → X → Type 0) → ((text : List
 first_is IsTextOf once [] x y h k = absurd h
 first_is IsTextOf once (word ∷ words) x y h k = once word x y h k
 
-behind : {X Y : Type 0} (Class : List (List ℕ) → X → Type 0) (next : X → List (List ℕ) → Y → Type 0) (rest : List (List ℕ) → List (List ℕ))
+following : {X Y : Type 0} (Class : List (List ℕ) → X → Type 0) (next : X → List (List ℕ) → Y → Type 0) (rest : List (List ℕ) → List (List ℕ))
     → Once Class → ((x : X) → Once (next x)) → Once (λ words y. (x : X) × Class words x × next x (rest words) y)
-behind {X} {Y} Class next rest class_once next_once words y z h k =
+following {X} {Y} Class next rest class_once next_once words y z h k =
     let same : h.0 ≡ k.0 = class_once words h.0 k.0 h.1 k.1 in
     let there : next h.0 (rest words) z = subst (λ (x : X). next x (rest words) z) (sym same) k.2 in
     next_once h.0 (rest words) y z h.2 there
 
 reads : {X Y : Type 0} (Class : List (List ℕ) → X → Type 0) (next : X → List (List ℕ) → Y → Type 0) → Once Class → ((x : X) → Once (next x)) →
     Once (Reads Class next)
-reads Class next class_once next_once = behind Class next (λ words. drop 1 words) class_once next_once
+reads Class next class_once next_once = following Class next (λ words. drop 1 words) class_once next_once
 
 reads_all : {X Y : Type 0} (Class : List (List ℕ) → X → Type 0) (make : X → Y) → Once Class → Once (ReadsAll Class make)
 reads_all Class make class_once words y z h k = h.2 ∙ ap make (class_once words h.0 k.0 h.1 k.1) ∙ sym k.2
@@ -89,9 +89,9 @@ sizes_once words x y h k = λ i. record {
 }
 
 queues : (next : Next QueueSizes) → AllOnce next → Once (Queues next)
-queues next once = behind AreQueueSizes next (λ words. drop 1 (drop 1 (drop 1 (drop 1 words)))) sizes_once once
+queues next once = following AreQueueSizes next (λ words. drop 1 (drop 1 (drop 1 (drop 1 words)))) sizes_once once
 
-blocks_once : (words : List (List ℕ)) (xs ys : List IpCidr) → AreBlockTexts words xs → AreBlockTexts words ys → xs ≡ ys
+blocks_once : (words : List (List ℕ)) (xs ys : List IpCidr) → AreCidrTexts words xs → AreCidrTexts words ys → xs ≡ ys
 blocks_once [] [] [] h k = refl
 blocks_once [] [] (y ∷ ys) h k = absurd k
 blocks_once [] (x ∷ xs) ys h k = absurd h

@@ -4,11 +4,11 @@ use Rattle.std.proofs.Common.{ap, ap₂, arith}
 use Rattle.std.specs.Prelude.{◌||◌, ◌&&◌, if◌then◌else◌}
 use Rattle.std.specs.List.{position_or_len}
 use Rattle.std.proofs.lemmas.Bool.Decides.{nat_tests}
-use Rattle.lan.specs.Worlds.Set.{unmarked, is_free, free_place}
+use Rattle.lan.specs.Worlds.Set.{unmarked, is_free, free_slot}
 use Rattle.lan.specs.Worlds.SocketStorage.{SocketStorage}
 use Rattle.lan.specs.Worlds.AtLink.Kinds.{same_side}
 use Rattle.lan.specs.declared.at_link.history.event.Side.{Side}
-use Rattle.lan_base.specs.declared.kinds.SocketSpec.{SocketSpec}
+use Rattle.sim_link.specs.declared.kinds.SocketSpec.{SocketSpec}
 use Rattle.sockets.specs.declared.socket.Socket.{Socket}
 use Rattle.lan.specs.Hosts.{socket_of, with_sockets, is_large, has_large}
 
@@ -36,8 +36,8 @@ more_used : (ps : List (SocketStorage Socket)) (s : Socket) → length ps ≤ po
 more_used [] s h = omega arith
 more_used (p ∷ ps) s h = more_at p ps s (is_free p) refl h (more_used ps s)
 
--- with one socket more no place is free, where none was
-pub still_used : (ps : List (SocketStorage Socket)) (s : Socket) → free_place ps ≡ None → free_place (ps ++ unmarked s ∷ []) ≡ None
+-- with one socket more no slot is free, where none was
+pub still_used : (ps : List (SocketStorage Socket)) (s : Socket) → free_slot ps ≡ None → free_slot (ps ++ unmarked s ∷ []) ≡ None
 still_used ps s h = none_free _ _ (more_used ps s (all_used _ _ h))
 
 -- SOCKETS

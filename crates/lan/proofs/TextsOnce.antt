@@ -3,22 +3,22 @@ use Rattle.std.proofs.Common.{◌≡◌, ◌≤◌, ◌⊎◌, ℕ, suc, List, [
 use mathlib.Core.HLevel.{is_prop→PathP}
 use native.Mathlib.Bridge.{le_prop}
 use Rattle.std.specs.Char.{digit_value}
-use Rattle.ip_address.specs.Text.{Lacks, IsDecimal, IsIpv4Text, IsIpv6Text, IsIpText, IsIpv4EndpointText, IsIpv6EndpointText, IsAddressAndPort, IsEndpointText}
-use Rattle.ip_address.specs.Text.{IsHexPair, IsHexPairBefore, IsSixPairs, IsEthernetText, IsIpBlockText}
-use Rattle.ip_address.specs.Block.{block_address, block_prefix_len, width_of}
-use Rattle.ip_address.specs.declared.ethernet.EthernetAddress.{EthernetAddress}
-use Rattle.ip_address.specs.declared.ip.IpAddress.{IpAddress}
-use Rattle.ip_address.specs.declared.ip.IpAddress.TheVariants as Ip
-use Rattle.ip_address.specs.declared.ip.IpCidr.{IpCidr}
-use Rattle.ip_address.specs.declared.ip.IpCidr.TheVariants as Block
-use Rattle.ip_address.specs.declared.ip.IpEndpoint.{IpEndpoint}
-use Rattle.ip_address.specs.declared.ipv4.Ipv4Address.{Ipv4Address}
-use Rattle.ip_address.specs.declared.ipv4.Ipv4Cidr.{Ipv4Cidr}
-use Rattle.ip_address.specs.declared.ipv6.Ipv6Address.{Ipv6Address}
-use Rattle.ip_address.specs.declared.ipv6.Ipv6Cidr.{Ipv6Cidr}
-use Rattle.ip_address.proofs.Texts.{Lacks-digits, Lacks-cons, IsCutAtLast-unique}
-use Rattle.ip_address.proofs.Families.{IsEndpointText-apart}
-use Rattle.ip_address.proofs.OneReading.{IsIpv4Text-unique, IsIpv6Text-unique, IsIpText-unique}
+use Rattle.wire_address.specs.Text.{Lacks, IsDecimal, IsIpv4Text, IsIpv6Text, IsIpText, IsIpv4EndpointText, IsIpv6EndpointText, IsAddressAndPort, IsEndpointText}
+use Rattle.wire_address.specs.Text.{IsHexPair, IsHexPairBefore, IsSixPairs, IsEthernetText, IsIpCidrText}
+use Rattle.wire_address.specs.Cidr.{cidr_address, cidr_prefix_len, width_of}
+use Rattle.wire_address.specs.declared.ethernet.EthernetAddress.{EthernetAddress}
+use Rattle.wire_address.specs.declared.ip.IpAddress.{IpAddress}
+use Rattle.wire_address.specs.declared.ip.IpAddress.TheVariants as Ip
+use Rattle.wire_address.specs.declared.ip.IpCidr.{IpCidr}
+use Rattle.wire_address.specs.declared.ip.IpCidr.TheVariants as Tcb
+use Rattle.wire_address.specs.declared.ip.IpEndpoint.{IpEndpoint}
+use Rattle.wire_address.specs.declared.ipv4.Ipv4Address.{Ipv4Address}
+use Rattle.wire_address.specs.declared.ipv4.Ipv4Cidr.{Ipv4Cidr}
+use Rattle.wire_address.specs.declared.ipv6.Ipv6Address.{Ipv6Address}
+use Rattle.wire_address.specs.declared.ipv6.Ipv6Cidr.{Ipv6Cidr}
+use Rattle.wire_address.proofs.Texts.{Lacks-digits, Lacks-cons, IsCutAtLast-unique}
+use Rattle.wire_address.proofs.Families.{IsEndpointText-apart}
+use Rattle.wire_address.proofs.OneReading.{IsIpv4Text-unique, IsIpv6Text-unique, IsIpText-unique}
 
 -- ENDPOINTS
 
@@ -146,21 +146,21 @@ same_v6 a b e f = λ i. record {
 }
 
 -- a block is its address and its prefix length
-pub same_block : (a b : IpCidr) → block_address a ≡ block_address b → block_prefix_len a ≡ block_prefix_len b → a ≡ b
-same_block (Block.Ipv4 a) (Block.Ipv4 b) addresses lens = let same : a.address ≡ b.address = cc in ap Block.Ipv4 (same_v4 a b same lens)
-same_block (Block.Ipv4 a) (Block.Ipv6 b) addresses lens = absurd cc
-same_block (Block.Ipv6 a) (Block.Ipv4 b) addresses lens = absurd cc
-same_block (Block.Ipv6 a) (Block.Ipv6 b) addresses lens = let same : a.address ≡ b.address = cc in ap Block.Ipv6 (same_v6 a b same lens)
+pub same_tcb : (a b : IpCidr) → cidr_address a ≡ cidr_address b → cidr_prefix_len a ≡ cidr_prefix_len b → a ≡ b
+same_tcb (Tcb.Ipv4 a) (Tcb.Ipv4 b) addresses lens = let same : a.address ≡ b.address = cc in ap Tcb.Ipv4 (same_v4 a b same lens)
+same_tcb (Tcb.Ipv4 a) (Tcb.Ipv6 b) addresses lens = absurd cc
+same_tcb (Tcb.Ipv6 a) (Tcb.Ipv4 b) addresses lens = absurd cc
+same_tcb (Tcb.Ipv6 a) (Tcb.Ipv6 b) addresses lens = let same : a.address ≡ b.address = cc in ap Tcb.Ipv6 (same_v6 a b same lens)
 
-block_parts_once : (text : List ℕ) (a b : IpAddress) (m n : ℕ) → IsIpBlockText text a m → IsIpBlockText text b n → (a ≡ b) × (m ≡ n)
+block_parts_once : (text : List ℕ) (a b : IpAddress) (m n : ℕ) → IsIpCidrText text a m → IsIpCidrText text b n → (a ≡ b) × (m ≡ n)
 block_parts_once text a b m n h k =
     let parts = IsCutAtLast-unique 47 h.address h.digits k.address k.digits (sym h.spelled ∙ k.spelled)
     (Lacks-digits 10 47 h.digits h.of_len.0.0.1 (omega arith)) (Lacks-digits 10 47 k.digits k.of_len.0.0.1 (omega arith)) in
     let address : IsIpText h.address b = subst (λ (t : List ℕ). IsIpText t b) (sym parts.0) k.of_address in
     (IsIpText-unique h.address a b h.of_address address, number_once (width_of a) (width_of b) h.digits k.digits m n h.of_len k.of_len parts.1)
 
-pub block_once : (text : List ℕ) (a b : IpCidr) → IsIpBlockText text (block_address a) (block_prefix_len a) →
-    IsIpBlockText text (block_address b) (block_prefix_len b) → a ≡ b
+pub block_once : (text : List ℕ) (a b : IpCidr) → IsIpCidrText text (cidr_address a) (cidr_prefix_len a) →
+    IsIpCidrText text (cidr_address b) (cidr_prefix_len b) → a ≡ b
 block_once text a b h k =
-    let both = block_parts_once text (block_address a) (block_address b) (block_prefix_len a) (block_prefix_len b) h k in
-    same_block a b both.0 both.1
+    let both = block_parts_once text (cidr_address a) (cidr_address b) (cidr_prefix_len a) (cidr_prefix_len b) h k in
+    same_tcb a b both.0 both.1

@@ -13,7 +13,7 @@ pub mod Events
 pub mod Beginnings
 pub mod PolledJoins
 pub mod Runs
-pub mod Rebuilding
+pub mod Reassembling
 pub mod Whole
 pub mod StillSteps
 pub mod StillOnward

@@ -1,7 +1,7 @@
 -- What a script writes: the answer of a line, and the frames that were sent.
 use Rattle.std.specs.Prelude.{ℕ, ◌+◌, ℤ, true, false, List, [], ◌∷◌, ◌++◌, codes, Some, None}
 use Rattle.std.specs.Fmt.{decimal, signed_decimal}
-use Rattle.ip_address.specs.Text.{endpoint_text, ip_text}
+use Rattle.wire_address.specs.Text.{endpoint_text, ip_text}
 use Rattle.lan.specs.declared.at_link.history.event.Side.{Side}
 use Rattle.lan.specs.declared.at_link.history.event.Side.TheVariants.{A, B}
 use Rattle.lan.specs.declared.at_link.history.answer.Answer.{Answer}
@@ -9,8 +9,8 @@ use Rattle.lan.specs.declared.at_link.history.answer.Answer.TheVariants.{Done, C
 use Rattle.lan.specs.declared.at_link.history.answer.Fault.{Fault}
 use Rattle.lan.specs.declared.at_link.history.answer.Fault.TheVariants.{InvalidState, Unaddressable, BufferFull, Exhausted, Truncated, Finished, Medium, NotUnicast}
 use Rattle.lan.specs.declared.at_link.history.answer.Fault.TheVariants.{RouteTableFull}
-use Rattle.lan_base.specs.Text.{hex_word}
-use Rattle.sockets.specs.TcpStates.{text_of}
+use Rattle.sim_link.specs.Text.{hex_word}
+use Rattle.sockets.specs.TcpStates.{data_of}
 
 abbrev pub side_name : Side → List ℕ
 side_name A = codes "A"
@@ -32,12 +32,12 @@ abbrev pub answer_line : Answer → List ℕ
 answer_line Done = codes "ok\n"
 answer_line (Count count) = codes "ok " ++ (decimal count ++ codes "\n")
 answer_line (Bytes bytes) = codes "data " ++ (hex_word bytes ++ codes "\n")
-answer_line (State state) = codes "state " ++ (text_of state ++ codes "\n")
+answer_line (State state) = codes "state " ++ (data_of state ++ codes "\n")
 answer_line (FromEndpoint remote bytes) = codes "from " ++ (endpoint_text remote ++ (codes " " ++ (hex_word bytes ++ codes "\n")))
 answer_line (FromAddr remote bytes) = codes "from " ++ (ip_text remote ++ (codes " " ++ (hex_word bytes ++ codes "\n")))
 answer_line (Poll true) = codes "changed\n"
 answer_line (Poll false) = codes "none\n"
-answer_line (At (Some moment)) = codes "at " ++ (signed_decimal moment ++ codes "\n")
+answer_line (At (Some instant)) = codes "at " ++ (signed_decimal instant ++ codes "\n")
 answer_line (At None) = codes "never\n"
 answer_line (Error fault) = codes "error " ++ (fault_name fault ++ codes "\n")
 

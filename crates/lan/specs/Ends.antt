@@ -11,7 +11,7 @@ use Rattle.lan.specs.declared.error.WorldError.TheVariants as Since
 use Rattle.lan.specs.declared.end.End.{End}
 use Rattle.lan.specs.declared.end.End.TheVariants.{BadEvent, Refusal, Interface, World}
 
--- want of memory is one end, wherever it was found
+-- lack of memory is one end, wherever it was found
 abbrev pub interface_end : NewError → End
 interface_end New.Medium = Interface New.Medium
 interface_end New.NotUnicast = Interface New.NotUnicast

@@ -4,12 +4,12 @@ use Rattle.lan.specs.declared.at_link.history.event.Side as host_side
 use Rattle.lan.specs.declared.at_link.history.event.Side.TheVariants as Host
 use Rattle.lan.specs.declared.at_link.history.event.Event.{Event}
 use Rattle.lan.specs.declared.at_link.history.event.Event.TheVariants as E
-use Rattle.lan_base.specs.Lines.{SaysLine}
-use Rattle.lan_base.specs.declared.kinds.Side.{Side}
-use Rattle.lan_base.specs.declared.kinds.Side.TheVariants.{A, B}
-use Rattle.lan_base.specs.declared.line.Line.{Line}
-use Rattle.lan_base.specs.declared.line.Line.TheVariants.{World, Socket, Start, Listen, Connect, Send, Recv, Close, Abort, State, Bind, Ident, SendTo}
-use Rattle.lan_base.specs.declared.line.Line.TheVariants.{SendIcmp, SendRaw, RecvFrom, Addrs, Hw, Route, Poll, PollAt, Deliver, Damage, Noise, Room, Cut}
+use Rattle.sim_link.specs.Lines.{SaysLine}
+use Rattle.sim_link.specs.declared.kinds.Side.{Side}
+use Rattle.sim_link.specs.declared.kinds.Side.TheVariants.{A, B}
+use Rattle.sim_link.specs.declared.line.Line.{Line}
+use Rattle.sim_link.specs.declared.line.Line.TheVariants.{World, Socket, Start, Listen, Connect, Send, Recv, Close, Abort, State, Bind, Ident, SendTo}
+use Rattle.sim_link.specs.declared.line.Line.TheVariants.{SendIcmp, SendRaw, RecvFrom, Addrs, Hw, Route, Poll, PollAt, Deliver, Damage, Noise, Room, Cut}
 
 -- LINES
 
@@ -54,10 +54,10 @@ event_of (RecvFrom h s limit) = Some (E.RecvFrom (side_of h) s limit)
 event_of (Addrs h blocks) = Some (E.Addrs (side_of h) (record { items = blocks }))
 event_of (Hw h address) = Some (E.HardwareAddr (side_of h) address)
 event_of (Route h router) = Some (E.Route (side_of h) router)
-event_of (Poll h moment budget) = Some (E.Poll (side_of h) moment budget)
-event_of (PollAt h moment) = Some (E.PollAt (side_of h) moment)
+event_of (Poll h instant budget) = Some (E.Poll (side_of h) instant budget)
+event_of (PollAt h instant) = Some (E.PollAt (side_of h) instant)
 event_of (Deliver h k padding) = Some (E.Deliver (side_of h) k padding)
-event_of (Damage h k place word padding) = Some (E.Damage (side_of h) k place word padding)
+event_of (Damage h k slot word padding) = Some (E.Damage (side_of h) k slot word padding)
 event_of (Noise h bytes) = Some (E.Noise (side_of h) bytes)
 event_of (Room h room) = Some (E.Room (side_of h) room)
 event_of (Cut h k at) = Some (E.Cut (side_of h) k at)
@@ -69,6 +69,6 @@ has_bytes (SendTo h s remote bytes) = true
 has_bytes (SendIcmp h s remote bytes) = true
 has_bytes (SendRaw h s bytes) = true
 has_bytes (Deliver h k padding) = true
-has_bytes (Damage h k place word padding) = true
+has_bytes (Damage h k slot word padding) = true
 has_bytes (Noise h bytes) = true
 has_bytes _ = false

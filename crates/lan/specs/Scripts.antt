@@ -5,10 +5,10 @@ use Rattle.lan.specs.declared.at_link.history.answer.Refused.TheVariants.{Memory
 use Rattle.lan.specs.declared.at_link.history.event.Event.{Event}
 use Rattle.lan.specs.declared.at_link.history.event.Side.{Side}
 use Rattle.lan.specs.declared.at_link.history.event.Side.TheVariants.{A, B}
-use Rattle.lan_base.specs.declared.line.Line.{Line}
-use Rattle.lan_base.specs.declared.line.Line.TheVariants.{World, Socket, Start}
+use Rattle.sim_link.specs.declared.line.Line.{Line}
+use Rattle.sim_link.specs.declared.line.Line.TheVariants.{World, Socket, Start}
 use Rattle.lan.specs.Worlds.AtLink.Runs.{WorldValue, Step, refusal_in}
-use Rattle.lan.specs.Worlds.AtLink.Station.{Stations, station}
+use Rattle.lan.specs.Worlds.AtLink.Node.{Nodes, node}
 use Rattle.lan.specs.declared.end.End.{End}
 use Rattle.lan.specs.declared.end.End.TheVariants.{BadEvent, Refusal}
 use Rattle.lan.specs.declared.session.Session.{Session}
@@ -21,8 +21,8 @@ use Rattle.lan.specs.Hosts.{first_world, host_of, no_start}
 -- EVENTS
 
 -- the lines of the frames that a host sent on the way from one state to another
-abbrev pub new_frames : Side → Stations → Stations → List ℕ
-new_frames side old new = let k = length (station old side).link.sent in sent_lines side k (drop k (station new side).link.sent)
+abbrev pub new_frames : Side → Nodes → Nodes → List ℕ
+new_frames side old new = let k = length (node old side).link.sent in sent_lines side k (drop k (node new side).link.sent)
 
 -- what an event writes: its answer, and then a line for each new frame, those of A first
 abbrev pub event_text : WorldValue → Answer → WorldValue → List ℕ
@@ -38,7 +38,7 @@ abbrev pub event_end : WorldValue → Option Event → Option End
 event_end world None = Some BadEvent
 event_end world (Some event) = option_map Refusal (refusal_in world.history world.hosts event)
 
--- why a line ends the run, but for want of memory: it is outside the grammar or out of order, or it is refused
+-- why a line ends the run, but for lack of memory: it is outside the grammar or out of order, or it is refused
 abbrev pub end_of : Session → Option Line → Option End
 end_of Begun (Some (World medium mtu)) = None
 end_of (Header h) (Some (Socket side spec)) = None

@@ -2,11 +2,11 @@
 ghost use Rattle.std.specs.Prelude.{◌≡◌, ◌++◌, codes, drop, IfOk, OnOk, IfSome};
 ghost use Rattle.std.specs.String.{string_bytes};
 ghost use Rattle.net_base.specs.Device.{frames_of};
-ghost use Rattle.lan_base.specs.Text.{hex_word};
+ghost use Rattle.sim_link.specs.Text.{hex_word};
 ghost use Rattle.lan.specs.Answers.{side_name, fault_name, answer_line, sent_line, sent_lines};
 
 use crate::at_link::{Answer, Fault, Side};
-use lan_base::hex_text;
+use sim_link::hex_text;
 use std::alloc::{AllocError, Global};
 use std::fmt;
 
@@ -51,7 +51,7 @@ fn came<D: fmt::Display>(alloc: Global, remote: &D, bytes: &[u8]) -> Result<Stri
     format!(in alloc; "from {remote} {hex}\n")
 }
 
-/// The line that answers an event, with its end. `replay` writes it by itself, and the new frames behind it: this is for a loop of one's
+/// The line that answers an event, with its end. `replay` writes it by itself, and the new frames after it: this is for a loop of one's
 /// own, which steps a `World` by `event_of` each line.
 pub fn answer_line(alloc: Global, answer: &Answer) -> Result<String, AllocError>
     ensures { IfOk result (λ text. string_bytes text ≡ answer_line answer.now) }
@@ -65,7 +65,7 @@ pub fn answer_line(alloc: Global, answer: &Answer) -> Result<String, AllocError>
         Answer::FromAddr(remote, bytes) => came(alloc, remote, bytes.as_slice()),
         Answer::Poll(true) => String::from_str(alloc, "changed\n"),
         Answer::Poll(false) => String::from_str(alloc, "none\n"),
-        Answer::At(Some(moment)) => valued(alloc, "at ", &moment.total_micros()),
+        Answer::At(Some(instant)) => valued(alloc, "at ", &instant.total_micros()),
         Answer::At(None) => String::from_str(alloc, "never\n"),
         Answer::Error(fault) => valued(alloc, "error ", &fault_name(*fault)),
     }

@@ -12,11 +12,11 @@ pub mod history;
 mod host;
 pub mod laws;
 pub mod link;
-mod place;
 mod poll;
 mod records;
 pub mod refusal;
 pub mod settings;
+mod slot;
 pub mod streams;
 
 pub use answer::{Brief, Taken, Twins};

@@ -3,7 +3,7 @@ ghost use Rattle.std.specs.Prelude.{◌≡◌, true, IfOk, OnErr};
 ghost use Rattle.lan.specs.Events.{side_of, event_of, has_bytes};
 
 use crate::at_link::{Bytes, Event, Side};
-use lan_base::{HexBytes, Line, Side as Named};
+use sim_link::{HexBytes, Line, Side as Named};
 use std::alloc::{AllocError, Global};
 
 /// The host of a world that a line names.
@@ -50,13 +50,13 @@ pub fn event_of(alloc: Global, line: &Line<'_>) -> Result<Option<Event>, AllocEr
         Line::Addrs(h, blocks) => Event::Addrs(side_of(*h), blocks.to_inner()),
         Line::Hw(h, address) => Event::HardwareAddr(side_of(*h), *address),
         Line::Route(h, router) => Event::Route(side_of(*h), *router),
-        Line::Poll(h, moment, budget) => Event::Poll(side_of(*h), *moment, *budget),
-        Line::PollAt(h, moment) => Event::PollAt(side_of(*h), *moment),
+        Line::Poll(h, instant, budget) => Event::Poll(side_of(*h), *instant, *budget),
+        Line::PollAt(h, instant) => Event::PollAt(side_of(*h), *instant),
         Line::Deliver(h, k, padding) => {
             Event::Deliver(side_of(*h), *k, bytes_of(alloc, padding)?)
         }
-        Line::Damage(h, k, place, word, padding) => {
-            Event::Damage(side_of(*h), *k, *place, *word, bytes_of(alloc, padding)?)
+        Line::Damage(h, k, slot, word, padding) => {
+            Event::Damage(side_of(*h), *k, *slot, *word, bytes_of(alloc, padding)?)
         }
         Line::Noise(h, bytes) => Event::Noise(side_of(*h), bytes_of(alloc, bytes)?),
         Line::Room(h, room) => Event::Room(side_of(*h), *room),

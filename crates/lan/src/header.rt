@@ -1,12 +1,12 @@
 //! The header of a script, and the world that it asks for.
 ghost use Rattle.std.specs.Prelude.{◌≡◌, ◌⊎◌, ◌++◌, ◌∷◌, [], Some, None, pos, IfOk, OnOk, IfErr};
 ghost use Rattle.lan.specs.Worlds.Made.{Makes};
-ghost use Rattle.lan.specs.Worlds.Set.{places};
+ghost use Rattle.lan.specs.Worlds.Set.{slots};
 ghost use Rattle.lan.specs.declared.at_link.history.answer.Refused.TheVariants.{Memory};
 ghost use Rattle.lan.specs.declared.at_link.history.event.Side.TheVariants.{A, B};
-ghost use Rattle.lan_base.specs.Port.{unused_end};
+ghost use Rattle.sim_link.specs.Port.{unused_end};
 ghost use Rattle.lan.specs.declared.end.End.TheVariants.{Refusal};
-ghost use Rattle.lan.specs.Hosts.{number, hardware_of, block_v4, block_v6, config_of, device_of, interface_of, with_sockets, host_of, first_world, first_of};
+ghost use Rattle.lan.specs.Hosts.{number, hardware_of, cidr_v4, cidr_v6, config_of, device_of, interface_of, with_sockets, host_of, first_world, first_of};
 ghost use Rattle.lan.specs.Hosts.{no_interface, no_sockets, no_world, no_start};
 
 use crate::at_link::{Config, Host, Interface, NewError, Side, SocketSet};
@@ -14,12 +14,12 @@ use crate::end::End;
 use crate::own_sockets::own_sockets_of;
 use crate::world::World;
 use arrayvec::ArrayVec;
-use ip_address::{EthernetAddress, HardwareAddress, IpAddress, IpCidr};
-use lan_base::{Port, SocketSpec};
 use net_base::{ChecksumCapabilities, DeviceCapabilities, Instant, Medium};
+use sim_link::{Port, SocketSpec};
 use sockets::Socket;
 use std::alloc::{AllocError, Global};
 use std::marker::Model;
+use wire_address::{EthernetAddress, HardwareAddress, IpAddress, IpCidr};
 
 /// What the header of a script has asked for so far; `start` makes the world. `replay` does so by itself: this is for a loop of one's own.
 #[derive(Drop)]
@@ -85,8 +85,8 @@ impl Header {
 
     // The sockets of A, and those of B.
     fn socket_sets(&self, alloc: Global) -> Result<(SocketSet<Socket>, SocketSet<Socket>), End>
-        ensures a { IfOk result (λ made. places made.0 ≡ with_sockets A [] self.now.sockets) }
-        ensures b { IfOk result (λ made. places made.1 ≡ with_sockets B [] self.now.sockets) }
+        ensures a { IfOk result (λ made. slots made.0 ≡ with_sockets A [] self.now.sockets) }
+        ensures b { IfOk result (λ made. slots made.1 ≡ with_sockets B [] self.now.sockets) }
         ensures a_allowed { OnOk result (no_sockets A self.now.sockets ≡ None) }
         ensures b_allowed { OnOk result (no_sockets B self.now.sockets ≡ None) }
         ensures ends { IfErr result
@@ -100,7 +100,7 @@ impl Header {
 
     // A host of this interface and these sockets, at a device that wasn't used.
     fn host(&self, alloc: Global, interface: Interface, sockets: SocketSet<Socket>) -> Host
-        ensures { result ≡ record { host = interface; places = places sockets; link = unused_end (device_of self.now.medium self.now.mtu) } }
+        ensures { result ≡ record { host = interface; slots = slots sockets; link = unused_end (device_of self.now.medium self.now.mtu) } }
     {
         Host {
             interface,
@@ -155,7 +155,7 @@ fn config_of(medium: Medium, side: Side) -> Config
     }
 }
 
-// An interface as a script starts it, at moment 0.
+// An interface as a script starts it, at instant 0.
 fn interface(alloc: Global, medium: Medium, mtu: usize, side: Side) -> Result<Interface, End>
     ensures made { IfOk result (λ interface. interface ≡ interface_of medium mtu side) }
     ensures allowed { OnOk result (no_interface medium mtu side ≡ None) }
@@ -181,21 +181,21 @@ fn bare_interface(
 
 // The addresses of a host with their networks, in place of those that were there.
 fn put_blocks(addresses: &mut ArrayVec<IpCidr, 4>, side: Side)
-    ensures { addresses.new.items ≡ block_v4 side ∷ block_v6 side ∷ [] }
+    ensures { addresses.new.items ≡ cidr_v4 side ∷ cidr_v6 side ∷ [] }
 {
     addresses.clear();
-    let _ = addresses.try_push(block_v4(side));
-    let _ = addresses.try_push(block_v6(side));
+    let _ = addresses.try_push(cidr_v4(side));
+    let _ = addresses.try_push(cidr_v6(side));
 }
 
-fn block_v4(side: Side) -> IpCidr
-    ensures { result ≡ block_v4 side }
+fn cidr_v4(side: Side) -> IpCidr
+    ensures { result ≡ cidr_v4 side }
 {
     IpCidr::new(IpAddress::v4(192, 168, 1, number(side)), 24)
 }
 
-fn block_v6(side: Side) -> IpCidr
-    ensures { result ≡ block_v6 side }
+fn cidr_v6(side: Side) -> IpCidr
+    ensures { result ≡ cidr_v6 side }
 {
     IpCidr::new(
         IpAddress::v6(0xfd00, 0, 0, 0, 0, 0, 0, number(side) as u16),

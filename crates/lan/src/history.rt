@@ -1,7 +1,7 @@
 //! What has happened, in the order in which it did.
 ghost use Rattle.std.specs.Prelude.{◌≡◌, ◌≤◌, [], ◌∷◌, length, OnOk};
 ghost use Rattle.lan.specs.Worlds.AtLink.Runs.{answers_of, counts_of};
-ghost use Rattle.lan.specs.Worlds.Past.{counts_in, entry};
+ghost use Rattle.lan.specs.Worlds.EventHistory.{counts_in, entry};
 
 use crate::at_link::{Answer, Event, Host};
 use sockets::tcp::State;
@@ -43,7 +43,7 @@ fn waiting_count(host: &Host) -> usize
     host.port.waiting().len()
 }
 
-/// What is kept of an event beside it and its answer: the counts as it came, and of a close of a TCP socket the state that it found. No
+/// What is kept of an event alongside it and its answer: the counts as it came, and of a close of a TCP socket the state that it found. No
 /// code reads it; the definitions of what a world promises do.
 #[derive(Clone, Copy)]
 pub(crate) struct Note {
@@ -62,7 +62,7 @@ pub(crate) struct History {
 
 impl Model for History {
     ghost use Rattle.std.specs.Prelude.{[], min};
-    ghost use Rattle.lan.specs.Worlds.Past.{PastValue, AreAsMany, history_from, spare};
+    ghost use Rattle.lan.specs.Worlds.EventHistory.{PastValue, AreAsMany, history_from, spare};
 
     ghost Value = { PastValue };
 

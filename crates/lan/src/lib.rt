@@ -14,10 +14,10 @@
 //!
 //! What a poll takes in was made, so that the theorem over packets holds of hosts with frames. `host_laws` has the hosts as machines: each is a
 //! run, sends nothing when it is polled too early, and waits a second between its own requests. `move_laws` has what one host does, in a poll
-//! and beside it, as a run of moves over packets: each of its sockets' turns, each frame that it takes, and each call of its applications;
+//! and alongside it, as a run of moves over packets: each of its sockets' turns, each frame that it takes, and each call of its applications;
 //! `specs/Worlds/Moves/Link` says what is asked of the link, so that what is taken was made by the other host, and `specs/Worlds/Moves/Follows`
 //! where the moves lead. `link_laws` has that the link hands over what was made: whatever a frame brings to a host's TCP and UDP sockets, whole
-//! or in pieces, the other host's sockets or the host itself made. `laws` joins them. `port_laws` has that a port determines its moves.
+//! or in fragments, the other host's sockets or the host itself made. `laws` joins them. `port_laws` has that a port determines its moves.
 //!
 //! Of what it stands on the crate passes on `Line`, `Port` and the test `names_tcp_or_udp`. A crate above names `lan` alone, in `crates.txt`
 //! and in its code, as `lan::World` and `lan::replay`. In clauses, `specs/` and `proofs/` the definitions that contracts cite are
@@ -30,11 +30,10 @@ pub mod at_link;
 mod end;
 mod error;
 mod event;
-mod fresh;
 mod header;
 mod history;
 pub mod host_laws;
-mod kept;
+mod initial;
 pub mod laws;
 pub mod link_laws;
 pub mod move_laws;
@@ -44,6 +43,7 @@ mod run;
 mod script;
 pub mod script_laws;
 mod session;
+mod stored;
 mod typed;
 mod world;
 
@@ -54,6 +54,6 @@ pub use end::End;
 pub use error::WorldError;
 pub use event::{event_of, side_of};
 pub use header::Header;
-pub use lan_base::{Line, Port, PortTxToken, names_tcp_or_udp};
 pub use script::{MOST_READS, replay, try_replay};
+pub use sim_link::{Line, Port, PortTxToken, names_tcp_or_udp};
 pub use world::World;

@@ -1,23 +1,23 @@
 //! The sockets that a header asks for.
 ghost use Rattle.std.specs.Prelude.{◌≡◌, ◌⊎◌, ◌+◌, [], ◌∷◌, ◌++◌, true, false, None, IfOk, OnOk, IfErr, length, replicate};
-ghost use Rattle.lan.specs.Worlds.Set.{places, free_place, is_fixed, unmarked};
+ghost use Rattle.lan.specs.Worlds.Set.{slots, free_slot, is_fixed, unmarked};
 ghost use Rattle.lan.specs.Worlds.AtLink.Kinds.{same_side};
 ghost use Rattle.lan.specs.declared.at_link.history.answer.Refused.TheVariants.{Memory};
 ghost use Rattle.lan.specs.declared.error.WorldError.TheVariants.{Buffers};
 ghost use Rattle.net_base.specs.Ring.{ring};
 ghost use Rattle.lan.specs.declared.end.End.TheVariants.{Refusal, World};
-ghost use Rattle.lan_base.specs.declared.kinds.SocketSpec.TheVariants as Asks;
+ghost use Rattle.sim_link.specs.declared.kinds.SocketSpec.TheVariants as Asks;
 ghost use Rattle.lan.specs.Worlds.AtLink.Value.{new_socket};
 ghost use Rattle.lan.specs.Hosts.{queue, received, queued, socket_of, with_sockets, is_large, has_large};
 
 use crate::at_link::{Refused, Side, SocketSet};
 use crate::end::End;
 use crate::error::WorldError;
-use ip_address::IpProtocol;
-use lan_base::{QueueSizes, SocketSpec, StreamSizes};
 use net_base::{ManagedSlice, PacketBuffer, PacketMetadata, RingBuffer};
+use sim_link::{QueueSizes, SocketSpec, StreamSizes};
 use sockets::{AnySocket, Socket, icmp, raw, tcp, udp};
 use std::alloc::{AllocError, Global};
+use wire_address::IpProtocol;
 
 /// A host's own of these sockets, in order.
 pub fn own_sockets_of(
@@ -25,7 +25,7 @@ pub fn own_sockets_of(
     side: Side,
     specs: &[(Side, SocketSpec)],
 ) -> Result<SocketSet<Socket>, End>
-    ensures made { IfOk result (λ set. places set ≡ with_sockets side [] specs.now) }
+    ensures made { IfOk result (λ set. slots set ≡ with_sockets side [] specs.now) }
     ensures small { OnOk result (has_large side specs.now ≡ false) }
     ensures ends { IfErr result (λ end. ((has_large side specs.now ≡ true) × (end ≡ World Buffers)) ⊎ (end ≡ Refusal Memory)) }
 {
@@ -34,16 +34,16 @@ pub fn own_sockets_of(
     Ok(sockets)
 }
 
-// Adds a host's own of these sockets, in order, behind those that there are. (What owns a set has no loop: that keeps its proof short.)
+// Adds a host's own of these sockets, in order, after those that there are. (What owns a set has no loop: that keeps its proof short.)
 fn add_own(
     alloc: Global,
     sockets: &mut SocketSet<Socket>,
     side: Side,
     specs: &[(Side, SocketSpec)],
 ) -> Result<(), End>
-    requires used { free_place (places sockets.old) ≡ None }
+    requires used { free_slot (slots sockets.old) ≡ None }
     requires grows { is_fixed sockets.old ≡ false }
-    ensures made { OnOk result (places sockets.new ≡ with_sockets side (places sockets.old) specs.now) }
+    ensures made { OnOk result (slots sockets.new ≡ with_sockets side (slots sockets.old) specs.now) }
     ensures small { OnOk result (has_large side specs.now ≡ false) }
     ensures ends { IfErr result (λ end. ((has_large side specs.now ≡ true) × (end ≡ World Buffers)) ⊎ (end ≡ Refusal Memory)) }
 {
@@ -58,10 +58,10 @@ fn add_own(
 
 // One socket more.
 fn add_socket(alloc: Global, sockets: &mut SocketSet<Socket>, spec: SocketSpec) -> Result<(), End>
-    requires used { free_place (places sockets.old) ≡ None }
+    requires used { free_slot (slots sockets.old) ≡ None }
     requires grows { is_fixed sockets.old ≡ false }
-    ensures made { OnOk result (places sockets.new ≡ places sockets.old ++ unmarked (socket_of spec) ∷ []) }
-    ensures used { OnOk result (free_place (places sockets.new) ≡ None) }
+    ensures made { OnOk result (slots sockets.new ≡ slots sockets.old ++ unmarked (socket_of spec) ∷ []) }
+    ensures used { OnOk result (free_slot (slots sockets.new) ≡ None) }
     ensures grows { OnOk result (is_fixed sockets.new ≡ false) }
     ensures small { OnOk result (is_large spec ≡ false) }
     ensures ends { IfErr result (λ end. ((is_large spec ≡ true) × (end ≡ World Buffers)) ⊎ (end ≡ Refusal Memory)) }
@@ -71,11 +71,11 @@ fn add_socket(alloc: Global, sockets: &mut SocketSet<Socket>, spec: SocketSpec) 
     Ok(())
 }
 
-// Puts a socket behind the others.
+// Puts a socket after the others.
 fn put(sockets: &mut SocketSet<Socket>, socket: Socket) -> Result<(), End>
-    requires used { free_place (places sockets.old) ≡ None }
+    requires used { free_slot (slots sockets.old) ≡ None }
     requires grows { is_fixed sockets.old ≡ false }
-    ensures made { OnOk result (places sockets.new ≡ places sockets.old ++ unmarked socket ∷ []) }
+    ensures made { OnOk result (slots sockets.new ≡ slots sockets.old ++ unmarked socket ∷ []) }
     ensures grows { is_fixed sockets.new ≡ false }
     ensures ends { IfErr result (λ end. end ≡ Refusal Memory) }
 {

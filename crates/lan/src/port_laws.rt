@@ -1,6 +1,6 @@
 //! A simulated link's port as the device of an interface: its moves are determined.
 ghost use Rattle.std.specs.Prelude.{◌≡◌, ◌-◌, ℕ, ℤ, Bool, ◌<◌, ◌≤◌, List, length};
-ghost use Rattle.lan_base.specs.Device.{Emitted, Denied};
+ghost use Rattle.sim_link.specs.Device.{Emitted, Denied};
 ghost use Rattle.lan.specs.Worlds.AtLink.Port.{PortValue, PortMove};
 ghost use Rattle.lan.specs.Worlds.AtLink.Determined.{IsDetermined};
 ghost use Rattle.interface.specs.Polls.{Polls};

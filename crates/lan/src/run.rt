@@ -1,4 +1,4 @@
-//! A run of a script whose text comes in pieces.
+//! A run of a script whose text comes in fragments.
 ghost use Rattle.std.specs.Prelude.{◌≡◌, ◌+◌, ◌<◌, ◌≤◌, ◌^◌, ℕ, List, [], ◌∷◌, ◌++◌, length, IfOk, IfSome, MatchBool, IsTrue, position, ◌==◌};
 ghost use Rattle.std.specs.Bool.{OnTrue};
 ghost use Rattle.std.specs.Io.KnownBytes.{Appends};
@@ -6,7 +6,7 @@ ghost use Rattle.lan.specs.declared.end.End.{End};
 ghost use Rattle.lan.specs.declared.session.Session.TheVariants.{Begun};
 ghost use Rattle.lan.specs.Ends.{end_line};
 ghost use Rattle.lan.specs.Events.{lines_of};
-ghost use Rattle.lan.specs.Pieces.{is_unbroken, RunsOn, RunsOut};
+ghost use Rattle.lan.specs.FragmentList.{is_unbroken, RunsOn, RunsOut};
 ghost use Rattle.lan.specs.Scripts.{LineEnds, LineLeads, Replays};
 
 use crate::session::Session;
@@ -38,23 +38,23 @@ impl Run {
         }
     }
 
-    /// Takes the next piece of the text. Each line that ends in it is run, and what it answers is
+    /// Takes the next fragment of the text. Each line that ends in it is run, and what it answers is
     /// written. False: one of them ended the run.
-    pub(crate) fn take_piece<W: Write>(
+    pub(crate) fn take_fragment<W: Write>(
         &mut self,
         alloc: Global,
-        piece: &[u8],
+        fragment: &[u8],
         writer: &mut W,
     ) -> io::Result<bool>
-        requires { self.old.number + length piece.now < 2 ^ 64 }
+        requires { self.old.number + length fragment.now < 2 ^ 64 }
         ensures runs { IfOk result (λ led. (output : List ℕ)
             × Appends (W.contents writer.old) (W.contents writer.new) output
             × MatchBool led
-            (RunsOn self.old.number self.old.session (self.old.begun.items ++ piece.now) output self.new.number self.new.session self.new.begun.items)
-            (RunsOut self.old.number self.old.session (self.old.begun.items ++ piece.now) output)) }
-        ensures number { IfOk result (λ led. OnTrue led (self.new.number ≤ self.old.number + length piece.now)) }
+            (RunsOn self.old.number self.old.session (self.old.begun.items ++ fragment.now) output self.new.number self.new.session self.new.begun.items)
+            (RunsOut self.old.number self.old.session (self.old.begun.items ++ fragment.now) output)) }
+        ensures number { IfOk result (λ led. OnTrue led (self.new.number ≤ self.old.number + length fragment.now)) }
     {
-        let mut rest = piece;
+        let mut rest = fragment;
         while let Some(end) = line_end(rest) {
             self.begin(&rest[..end])?;
             if !self.take_line(alloc, writer)? {
@@ -121,7 +121,7 @@ impl Run {
 // Where the first byte 0a is.
 fn line_end(text: &[u8]) -> Option<usize>
     ensures found { IfSome result (λ end. (end < length text.now)) }
-    ensures place { result ≡ position (λ byte. byte == 10) text.now }
+    ensures slot { result ≡ position (λ byte. byte == 10) text.now }
 {
     text.iter().position(|byte| *byte == b'\n')
 }

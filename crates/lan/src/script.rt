@@ -2,7 +2,7 @@
 ghost use Rattle.std.specs.Prelude.{◌≡◌, ◌≢◌, ◌≤◌, ⊤, List, [], ℕ, IfOk, OnOk, IfSome, MatchOption};
 ghost use Rattle.std.specs.Io.KnownBytes.{Appends};
 ghost use Rattle.lan.specs.declared.session.Session.TheVariants.{Begun};
-ghost use Rattle.lan.specs.Pieces.{ReadsOn, RunsSoFar};
+ghost use Rattle.lan.specs.FragmentList.{ReadsOn, RunsSoFar};
 ghost use Rattle.lan.specs.Scripts.{IsReplay};
 
 use crate::run::Run;
@@ -13,11 +13,11 @@ use std::io::{self, ErrorKind, Read, Write};
 pub const MOST_READS: u64 = 1 << 32;
 
 // How many bytes a read may give.
-const PIECE: usize = 4096;
+const FRAGMENT: usize = 4096;
 
 /// Runs a script that the reader gives, and writes what each line answers as soon as the end of the
 /// line was read. Before each further read the writer is flushed. Of the script's text nothing is
-/// kept but the line that was begun, and nothing is read behind the piece in which a line ended the
+/// kept but the line that was begun, and nothing is read after the fragment in which a line ended the
 /// run.
 ///
 /// The status is 0 at the end of the script, 1 after a line that ends the run early, which what is
@@ -62,7 +62,7 @@ pub fn try_replay<R: Read, W: Write>(
     }
 }
 
-// The same from a run before its first line. (It is borrowed: where it is owned each way out lets it go, which makes a long proof.)
+// The same from a run before its first line. (It is borrowed: where it is owned each egress path lets it go, which makes a long proof.)
 fn replay_from<R: Read, W: Write>(
     alloc: Global,
     run: &mut Run,
@@ -81,16 +81,16 @@ fn replay_from<R: Read, W: Write>(
         × Appends (W.contents writer.old) (W.contents writer.new) output) (λ status. ⊤)) }
     ensures reads { OnOk result (ReadsOn (R.remaining reader.old) (R.remaining reader.new)) }
 {
-    let mut piece = [0; PIECE];
+    let mut fragment = [0; FRAGMENT];
     for count in 0..MOST_READS {
-        match reader.read(&mut piece) {
+        match reader.read(&mut fragment) {
             Ok(0) => {
                 let status = run.finish(alloc, writer)?;
                 writer.flush()?;
                 return Ok(Some(status));
             }
             Ok(len) => {
-                let led = run.take_piece(alloc, &piece[..len], writer)?;
+                let led = run.take_fragment(alloc, &fragment[..len], writer)?;
                 writer.flush()?;
                 if !led {
                     return Ok(Some(1));

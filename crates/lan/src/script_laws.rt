@@ -1,7 +1,7 @@
 //! The laws of the script language. Each is a function that does nothing, whose clause is the law.
 ghost use Rattle.std.specs.Prelude.{◌≡◌, ◌^◌, ℕ, List};
-ghost use Rattle.lan_base.specs.Lines.{SaysLine};
-ghost use Rattle.lan_base.specs.declared.line.Line.{Line};
+ghost use Rattle.sim_link.specs.Lines.{SaysLine};
+ghost use Rattle.sim_link.specs.declared.line.Line.{Line};
 ghost use Rattle.lan.specs.Scripts.{IsReplay, IsSameReplay};
 
 use crate::host_laws::one_outcome;

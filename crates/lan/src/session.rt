@@ -14,7 +14,7 @@ use crate::end::End;
 use crate::event::{event_of, side_of};
 use crate::header::Header;
 use crate::world::World;
-use lan_base::Line;
+use sim_link::Line;
 use std::alloc::Global;
 use std::mem::replace;
 
@@ -32,7 +32,7 @@ pub enum Session {
 impl Session {
     ghost use Rattle.std.specs.Prelude.{◌≡◌, None, Some, IfOk, OnOk, IfErr};
     ghost use Rattle.std.specs.String.{string_bytes};
-    ghost use Rattle.lan_base.specs.declared.line.Line.TheVariants.{Start};
+    ghost use Rattle.sim_link.specs.declared.line.Line.TheVariants.{Start};
     ghost use Rattle.lan.specs.Scripts.{end_of, Leads, LineLeads, LineEnds, Ends};
 
     /// Takes one line, without the byte 0a that ends it: what it writes.
@@ -69,7 +69,7 @@ impl Session {
                 Line::Start => self.start(alloc),
                 _ => Err(End::BadEvent),
             },
-            Session::Running(world) => go_on(alloc, world, line),
+            Session::Running(world) => proceed(alloc, world, line),
         }
     }
 
@@ -97,7 +97,7 @@ impl Session {
 }
 
 // Takes a line once the hosts run: what it writes.
-fn go_on(alloc: Global, world: &mut World, line: &Line<'_>) -> Result<String, End>
+fn proceed(alloc: Global, world: &mut World, line: &Line<'_>) -> Result<String, End>
     ensures allowed { OnOk result (event_end world.old (event_of line.now) ≡ None) }
     ensures leads { IfOk result (λ text. EventLeads world.old (event_of line.now) (string_bytes text) (Running world.new)) }
     ensures ends { IfErr result (MayEnd world.old line.now) }

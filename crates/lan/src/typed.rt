@@ -3,7 +3,7 @@ ghost use Rattle.std.specs.Prelude.{◌≡◌};
 ghost use Rattle.std.specs.List.{AllByRecursion};
 ghost use Rattle.ip_wire.specs.Address.{IsEthernetAddress, IsIpv4Address, IsIpv6Address, IsIpAddress};
 ghost use Rattle.lan.specs.Worlds.AtLink.Kinds.{kind_of};
-ghost use Rattle.lan.specs.Worlds.AtLink.Fresh.{IsHardware, IsTypedHost};
+ghost use Rattle.lan.specs.Worlds.AtLink.Initial.{IsHardware, IsTypedHost};
 ghost use Rattle.lan.specs.Worlds.Events.{IsTyped};
 
 use crate::at_link::{Event, Host, Route};

@@ -1,29 +1,29 @@
 -- The laws of a socket of any kind, from those of each kind.
 use Rattle.std.proofs.Common.{◌≡◌, ℕ, false, ℤ, List, Option, Some, None, is_some, if◌then◌else◌, IsSome, ◌↔◌, sym, ap, ◌∙◌}
-use Rattle.net_containers.specs.Packets.{first}
-use Rattle.socket_base.specs.Context.{ContextValue}
-use Rattle.socket_base.specs.Offers.{IsBefore}
-use Rattle.socket_base.specs.Packet.{PacketValue}
-use Rattle.socket_base.specs.declared.offer.Offer as Answer
-use Rattle.socket_base.specs.declared.offer.Offer.TheVariants as Offer
+use Rattle.base_buffer.specs.Packets.{first}
+use Rattle.socket_context.specs.Context.{ContextValue}
+use Rattle.socket_context.specs.Offers.{IsBefore}
+use Rattle.socket_context.specs.Packet.{PacketValue}
+use Rattle.socket_context.specs.declared.offer.Offer as Answer
+use Rattle.socket_context.specs.declared.offer.Offer.TheVariants as Offer
 use Rattle.tcp_socket.specs.PollAt.TheVariants as At
-use Rattle.sockets.specs.Icmp as Icmps
-use Rattle.sockets.specs.Raw as Raws
-use Rattle.sockets.specs.Udp as Udps
-use Rattle.sockets.specs.Offers.{HasPacket, OffersFirst, OffersBy, answer_with, changed_by}
-use Rattle.sockets.specs.SocketValue as Datagrams
-use Rattle.sockets.specs.SocketValue.{SocketValue}
-use Rattle.sockets.proofs.OfferLaws as datagrams
-use Rattle.tcp_model.specs.Value.{TcpValue}
-use Rattle.sockets.proofs.DhcpClient.OneMessage.{one_offered}
-use Rattle.sockets.proofs.DhcpClient.Turns as Dhcps
-use Rattle.sockets.specs.DhcpClient.Value.{DhcpValue}
-use Rattle.sockets.proofs.DnsClient.Turned as Dnss
-use Rattle.sockets.specs.DnsClient.Value.{DnsValue}
-use Rattle.sockets.proofs.Clients.{dhcp_packet, dhcp_same, dhcp_unoffered, dhcp_offered, dhcp_again, dns_packet, dns_same, dns_unoffered, dns_offered}
-use Rattle.sockets.proofs.Clients.{dns_again, dns_once}
+use Rattle.socket_datagram.specs.Icmp as Icmps
+use Rattle.socket_datagram.specs.Raw as Raws
+use Rattle.socket_datagram.specs.Udp as Udps
+use Rattle.socket_datagram.specs.Offers.{HasPacket, OffersFirst, OffersBy, answer_with, changed_by}
+use Rattle.socket_datagram.specs.SocketValue as Datagrams
+use Rattle.socket_datagram.specs.SocketValue.{SocketValue}
+use Rattle.socket_datagram.proofs.OfferLaws as datagrams
+use Rattle.tcp_block.specs.Value.{TcpValue}
+use Rattle.socket_datagram.proofs.DhcpClient.OneMessage.{one_offered}
+use Rattle.socket_datagram.proofs.DhcpClient.Turns as Dhcps
+use Rattle.socket_datagram.specs.DhcpClient.Value.{DhcpValue}
+use Rattle.socket_datagram.proofs.DnsClient.Turned as Dnss
+use Rattle.socket_datagram.specs.DnsClient.Value.{DnsValue}
+use Rattle.socket_datagram.proofs.Clients.{dhcp_packet, dhcp_same, dhcp_unoffered, dhcp_offered, dhcp_again, dns_packet, dns_same, dns_unoffered, dns_offered}
+use Rattle.socket_datagram.proofs.Clients.{dns_again, dns_once}
 use Rattle.sockets.proofs.Connections.{said_packet, said_same, silent_before}
-use Rattle.sockets.specs.Socket.{Offers, offered_by, settled, poll_of, IsSameButForPlaces, IsOfDatagrams}
+use Rattle.sockets.specs.Socket.{Offers, offered_by, settled, poll_of, IsSameButForSlots, IsOfDatagrams}
 use Rattle.sockets.specs.declared.socket.Socket.{Socket}
 use Rattle.sockets.specs.declared.socket.Socket.TheVariants as Kind
 
@@ -51,14 +51,14 @@ module _ {H S : Type 0} where
       HasPacket answer v'.offered
   has Takes v v' answer offers = has_first Takes v v' (first v.queued) answer offers
 
-pub silent : (s s' : Socket) (cx : ContextValue) (answer : Answer.Offer) → IsBefore cx.moment (poll_of cx s) → Offers cx s answer s' →
+pub silent : (s s' : Socket) (cx : ContextValue) (answer : Answer.Offer) → IsBefore cx.instant (poll_of cx s) → Offers cx s answer s' →
     (answer ≡ Offer.Silent false) × (s' ≡ settled false s)
 silent (Kind.Raw v) (Kind.Raw v') cx answer before offers =
-    let q = quiet Raws.TakesPacket cx.moment v v' answer before offers in (q.0, ap (λ (w : Raws.RawValue). Kind.Raw w) q.1)
+    let q = quiet Raws.TakesPacket cx.instant v v' answer before offers in (q.0, ap (λ (w : Raws.RawValue). Kind.Raw w) q.1)
 silent (Kind.Icmp v) (Kind.Icmp v') cx answer before offers =
-    let q = quiet (Icmps.TakesMessage cx) cx.moment v v' answer before offers in (q.0, ap (λ (w : Icmps.IcmpValue). Kind.Icmp w) q.1)
+    let q = quiet (Icmps.TakesMessage cx) cx.instant v v' answer before offers in (q.0, ap (λ (w : Icmps.IcmpValue). Kind.Icmp w) q.1)
 silent (Kind.Udp v) (Kind.Udp v') cx answer before offers =
-    let q = quiet (Udps.TakesDatagram cx) cx.moment v v' answer before offers in (q.0, ap (λ (w : Udps.UdpValue). Kind.Udp w) q.1)
+    let q = quiet (Udps.TakesDatagram cx) cx.instant v v' answer before offers in (q.0, ap (λ (w : Udps.UdpValue). Kind.Udp w) q.1)
 silent (Kind.Tcp v) (Kind.Tcp v') cx answer before offers =
     let q = silent_before cx v v' answer before offers.0 offers.1 in (q.0, ap (λ (w : TcpValue). Kind.Tcp w) q.1)
 silent (Kind.Dhcpv4 v) (Kind.Dhcpv4 v') cx answer before offers =
@@ -77,7 +77,7 @@ has_packet (Kind.Dns v) (Kind.Dns v') cx answer offers = dns_packet cx v v' answ
 has_packet s s' cx answer offers = absurd offers
 
 pub same : (s s' : Socket) (cx : ContextValue) (answer : Answer.Offer) → Offers cx s answer s' → changed_by answer ≡ false →
-    IsSameButForPlaces s (settled false s')
+    IsSameButForSlots s (settled false s')
 same (Kind.Raw v) (Kind.Raw v') cx answer offers is = datagrams.unchanged Raws.TakesPacket v v' answer offers is
 same (Kind.Icmp v) (Kind.Icmp v') cx answer offers is = datagrams.unchanged (Icmps.TakesMessage cx) v v' answer offers is
 same (Kind.Udp v) (Kind.Udp v') cx answer offers is = datagrams.unchanged (Udps.TakesDatagram cx) v v' answer offers is

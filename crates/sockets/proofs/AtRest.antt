@@ -1,32 +1,32 @@
 -- An idle socket stays as it is.
 use Rattle.std.proofs.Common.{◌≡◌, ℕ, ◌-◌, ◌==◌, min, ◌&&◌, Bool, true, false, if◌then◌else◌, List, [], ◌∷◌, Option, Some, None, is_some, is_none}
 use Rattle.std.proofs.Common.{refl, sym, ap, ◌∙◌, arith}
-use Rattle.net_containers.specs.Packets.{first}
-use Rattle.socket_base.specs.Context.{ContextValue}
-use Rattle.socket_base.specs.Offers.{Offered}
-use Rattle.socket_base.specs.Packet.{PacketValue}
-use Rattle.socket_base.specs.declared.offer.Offer.TheVariants as Answer
-use Rattle.socket_base.specs.declared.poll_at.PollAt.{PollAt}
-use Rattle.socket_base.specs.declared.poll_at.PollAt.TheVariants as At
-use Rattle.tcp_model.specs.EndpointPair.{EndpointPair}
-use Rattle.tcp_model.specs.OpenOffer.{OpenOffer}
-use Rattle.tcp_model.specs.declared.block.Block.{Block}
-use Rattle.tcp_model.specs.declared.block.CongestionControl.{CongestionControl}
-use Rattle.tcp_model.specs.declared.block.CongestionControl.TheVariants as Congestion
-use Rattle.tcp_model.specs.Due.{any, moments, earliest, at_moment, poll_between, poll_with, poll_of}
-use Rattle.tcp_model.specs.Offers.{offer_of}
-use Rattle.tcp_model.specs.Rules.{congestion_limit, congestion_room, ready, next_place, text_of_size, sends_choice, size_limit, resends_beside}
-use Rattle.tcp_model.specs.Rules.{owes_syn, updates_window}
-use Rattle.tcp_model.specs.Probing.{is_probe_unset}
-use Rattle.tcp_model.specs.States.{is_closed}
-use Rattle.tcp_model.specs.Timeout.{is_timeout_unset}
-use Rattle.tcp_model.specs.Value.{TcpValue, queued_in, free_in, room_of}
-use Rattle.tcp_model.proofs.Waits.{silence}
+use Rattle.base_buffer.specs.Packets.{first}
+use Rattle.socket_context.specs.Context.{ContextValue}
+use Rattle.socket_context.specs.Offers.{Offered}
+use Rattle.socket_context.specs.Packet.{PacketValue}
+use Rattle.socket_context.specs.declared.offer.Offer.TheVariants as Answer
+use Rattle.socket_context.specs.declared.poll_at.PollAt.{PollAt}
+use Rattle.socket_context.specs.declared.poll_at.PollAt.TheVariants as At
+use Rattle.tcp_block.specs.FourTuple.{FourTuple}
+use Rattle.tcp_block.specs.OpenOffer.{OpenOffer}
+use Rattle.tcp_block.specs.declared.tcb.Tcb.{Tcb}
+use Rattle.tcp_block.specs.declared.tcb.CongestionControl.{CongestionControl}
+use Rattle.tcp_block.specs.declared.tcb.CongestionControl.TheVariants as Congestion
+use Rattle.tcp_block.specs.Due.{any, instants, earliest, at_instant, poll_between, poll_with, poll_of}
+use Rattle.tcp_block.specs.Offers.{offer_of}
+use Rattle.tcp_block.specs.Rules.{congestion_limit, congestion_room, ready, next_offset, payload_of_size, sends_choice, size_limit, resends_beside}
+use Rattle.tcp_block.specs.Rules.{owes_syn, updates_window}
+use Rattle.tcp_block.specs.Probing.{is_probe_unset}
+use Rattle.tcp_block.specs.States.{is_closed}
+use Rattle.tcp_block.specs.Timeout.{is_timeout_unset}
+use Rattle.tcp_block.specs.Value.{TcpValue, queued_in, free_in, room_of}
+use Rattle.tcp_block.proofs.Waits.{silence}
 use Rattle.sockets.specs.Idle.{waits_for_arrival, some_ip_mtu, is_idle_connection, is_idle, IsOfPorts}
-use Rattle.sockets.specs.Offers.{OffersFirst}
-use Rattle.sockets.specs.SocketValue as Datagrams
-use Rattle.sockets.specs.SocketValue.{SocketValue}
-use Rattle.sockets.specs.Udp as Udps
+use Rattle.socket_datagram.specs.Offers.{OffersFirst}
+use Rattle.socket_datagram.specs.SocketValue as Datagrams
+use Rattle.socket_datagram.specs.SocketValue.{SocketValue}
+use Rattle.socket_datagram.specs.Udp as Udps
 use Rattle.sockets.specs.Socket as Sockets
 use Rattle.sockets.specs.declared.socket.Socket.{Socket}
 use Rattle.sockets.specs.declared.socket.Socket.TheVariants as Kind
@@ -43,7 +43,7 @@ none_in (Some x) so = absurd cc
 at_arrival : (at : PollAt) → waits_for_arrival at ≡ true → at ≡ At.Ingress
 at_arrival At.Ingress so = refl
 at_arrival At.Now so = absurd cc
-at_arrival (At.Time moment) so = absurd cc
+at_arrival (At.Time instant) so = absurd cc
 
 zero_in : (n : ℕ) → (n == 0) ≡ true → n ≡ 0
 zero_in n so = grind (arith)
@@ -54,38 +54,38 @@ none_of_limit : (control : CongestionControl) (cwnd size : ℕ) → size ≡ 0 �
 none_of_limit Congestion.None cwnd size none = none
 none_of_limit other cwnd size none = grind (arith)
 
-none_is_ready : (b : Block) (limit : ℕ) → ready b limit 0 ≡ 0
+none_is_ready : (b : Tcb) (limit : ℕ) → ready b limit 0 ≡ 0
 none_is_ready b limit =
-    none_of_limit b.settings.congestion_control (congestion_room b) (min (b.peer.window - b.sender.in_flight) (min limit (0 - next_place b))) (grind (arith))
+    none_of_limit b.settings.congestion_control (congestion_room b) (min (b.peer.window - b.sender.flight_size) (min limit (0 - next_offset b))) (grind (arith))
 
-abbrev text_by : Block → ℕ → ℕ → Bool
-text_by b limit queued = sends_choice b queued limit (text_of_size b queued (ready b limit queued))
+abbrev text_by : Tcb → ℕ → ℕ → Bool
+text_by b limit queued = sends_choice b queued limit (payload_of_size b queued (ready b limit queued))
 
-same_text : (b : Block) (limit other queued : ℕ) → queued ≡ 0 → text_by b limit queued ≡ text_by b other queued
+same_text : (b : Tcb) (limit other queued : ℕ) → queued ≡ 0 → text_by b limit queued ≡ text_by b other queued
 same_text b limit other queued none =
-    rw none (ap (λ (len : ℕ). sends_choice b 0 limit (text_of_size b 0 len)) (none_is_ready b limit)
-    ∙ sym (ap (λ (len : ℕ). sends_choice b 0 other (text_of_size b 0 len)) (none_is_ready b other)))
+    rw none (ap (λ (len : ℕ). sends_choice b 0 limit (payload_of_size b 0 len)) (none_is_ready b limit)
+    ∙ sym (ap (λ (len : ℕ). sends_choice b 0 other (payload_of_size b 0 len)) (none_is_ready b other)))
 
 -- when it wants to be polled, where it has text to send or hasn't
 abbrev poll_by : TcpValue → Bool → PollAt
-poll_by v text =
-    let b = v.block in
-    if any (owes_syn b ∷ resends_beside b text ∷ text ∷ updates_window b (room_of v.received) (free_in v) ∷ is_timeout_unset b (queued_in v)
+poll_by v payload =
+    let b = v.tcb in
+    if any (owes_syn b ∷ resends_beside b payload ∷ payload ∷ updates_window b (room_of v.received) (free_in v) ∷ is_timeout_unset b (queued_in v)
     ∷ is_probe_unset b (queued_in v) ∷ [])
     then At.Now
-    else at_moment (earliest (moments b (queued_in v)))
+    else at_instant (earliest (instants b (queued_in v)))
 
-same_between : (m n : ℕ) (v : TcpValue) (pair : EndpointPair) → queued_in v ≡ 0 → poll_between m v pair ≡ poll_between n v pair
+same_between : (m n : ℕ) (v : TcpValue) (pair : FourTuple) → queued_in v ≡ 0 → poll_between m v pair ≡ poll_between n v pair
 same_between m n v pair none =
-    ap (λ (text : Bool). if is_closed v.block.state then (if v.block.sender.reset_due then At.Now else At.Ingress) else poll_by v text)
-    (same_text v.block (size_limit v.block pair.addresses m) (size_limit v.block pair.addresses n) (queued_in v) none)
+    ap (λ (payload : Bool). if is_closed v.tcb.state then (if v.tcb.sender.reset_due then At.Now else At.Ingress) else poll_by v payload)
+    (same_text v.tcb (size_limit v.tcb pair.addresses m) (size_limit v.tcb pair.addresses n) (queued_in v) none)
 
-same_with : (pair : Option EndpointPair) (m n : ℕ) (v : TcpValue) → queued_in v ≡ 0 → poll_with pair m v ≡ poll_with pair n v
+same_with : (pair : Option FourTuple) (m n : ℕ) (v : TcpValue) → queued_in v ≡ 0 → poll_with pair m v ≡ poll_with pair n v
 same_with None m n v none = refl
 same_with (Some pair) m n v none = same_between m n v pair none
 
 pub same_poll : (m n : ℕ) (v : TcpValue) → queued_in v ≡ 0 → poll_of m v ≡ poll_of n v
-same_poll m n v none = same_with v.block.names.pair m n v none
+same_poll m n v none = same_with v.tcb.names.pair m n v none
 
 -- A CONNECTION
 

@@ -1,11 +1,11 @@
 -- A socket of any kind, taken for one of a kind.
 use Rattle.std.specs.Prelude.{Option, None, Some}
-use Rattle.sockets.specs.Udp.{UdpValue}
-use Rattle.sockets.specs.Icmp.{IcmpValue}
-use Rattle.sockets.specs.Raw.{RawValue}
-use Rattle.tcp_model.specs.Value.{TcpValue}
-use Rattle.sockets.specs.DhcpClient.Value.{DhcpValue}
-use Rattle.sockets.specs.DnsClient.Value.{DnsValue}
+use Rattle.socket_datagram.specs.Udp.{UdpValue}
+use Rattle.socket_datagram.specs.Icmp.{IcmpValue}
+use Rattle.socket_datagram.specs.Raw.{RawValue}
+use Rattle.tcp_block.specs.Value.{TcpValue}
+use Rattle.socket_datagram.specs.DhcpClient.Value.{DhcpValue}
+use Rattle.socket_datagram.specs.DnsClient.Value.{DnsValue}
 use Rattle.sockets.specs.declared.socket.Socket.{Socket}
 use Rattle.sockets.specs.declared.socket.Socket.TheVariants as Kind
 

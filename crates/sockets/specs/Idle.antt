@@ -1,11 +1,11 @@
 -- Sockets that have nothing to do until they are called, or something arrives.
 use Rattle.std.specs.Prelude.{ℕ, ◌==◌, ◌&&◌, Bool, true, false, is_none}
-use Rattle.socket_base.specs.declared.poll_at.PollAt.{PollAt}
-use Rattle.socket_base.specs.declared.poll_at.PollAt.TheVariants as At
-use Rattle.tcp_model.specs.Due as Tcps
-use Rattle.tcp_model.specs.Value.{TcpValue, queued_in}
-use Rattle.sockets.specs.SocketValue as Datagrams
-use Rattle.sockets.specs.Udp.{UdpValue}
+use Rattle.socket_context.specs.declared.poll_at.PollAt.{PollAt}
+use Rattle.socket_context.specs.declared.poll_at.PollAt.TheVariants as At
+use Rattle.tcp_block.specs.Due as Tcps
+use Rattle.tcp_block.specs.Value.{TcpValue, queued_in}
+use Rattle.socket_datagram.specs.SocketValue as Datagrams
+use Rattle.socket_datagram.specs.Udp.{UdpValue}
 use Rattle.sockets.specs.declared.socket.Socket.{Socket}
 use Rattle.sockets.specs.declared.socket.Socket.TheVariants as Kind
 

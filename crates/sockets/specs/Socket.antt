@@ -4,30 +4,30 @@ use Rattle.std.specs.Prelude.{◌≡◌, ℕ, Bool, false, List, Option, IfSome}
 use Rattle.ip_wire.specs.IpAddress.{IpAddress}
 use Rattle.ip_wire.specs.IpRepr.{IpRepr}
 use Rattle.ip_wire.specs.UdpRepr.{UdpRepr}
-use Rattle.icmpv4.specs.declared.header.Icmpv4Header.{Icmpv4Header}
-use Rattle.icmpv6.specs.Icmpv6.{MessageValue}
-use Rattle.socket_base.specs.Context.{ContextValue}
-use Rattle.socket_base.specs.Packet.{PacketValue, IsSendable}
-use Rattle.socket_base.specs.declared.offer.Offer.{Offer}
+use Rattle.wire_icmpv4.specs.declared.header.Icmpv4Header.{Icmpv4Header}
+use Rattle.wire_icmpv6.specs.Icmpv6.{MessageValue}
+use Rattle.socket_context.specs.Context.{ContextValue}
+use Rattle.socket_context.specs.Packet.{PacketValue, IsSendable}
+use Rattle.socket_context.specs.declared.offer.Offer.{Offer}
 use Rattle.tcp_socket.specs.PollAt.{PollAt}
-use Rattle.sockets.specs.SocketValue as Datagrams
-use Rattle.sockets.specs.Offers as Places
-use Rattle.sockets.specs.Udp as Udps
-use Rattle.sockets.specs.Icmp as Icmps
-use Rattle.sockets.specs.Raw as Raws
+use Rattle.socket_datagram.specs.SocketValue as Datagrams
+use Rattle.socket_datagram.specs.Offers as Slots
+use Rattle.socket_datagram.specs.Udp as Udps
+use Rattle.socket_datagram.specs.Icmp as Icmps
+use Rattle.socket_datagram.specs.Raw as Raws
 use Rattle.ip_wire.specs.TcpHeader.{TcpHeader}
-use Rattle.tcp_model.specs.Due as Tcps
-use Rattle.tcp_model.specs.Names as TcpNames
-use Rattle.tcp_model.specs.Offers as TcpOffers
-use Rattle.tcp_model.specs.Settled as TcpSettled
-use Rattle.tcp_model.specs.Value.{TcpValue}
-use Rattle.sockets.specs.DhcpClient.Offers as DhcpOffers
-use Rattle.sockets.specs.DhcpClient.States as DhcpStates
-use Rattle.sockets.specs.DhcpClient.Value as Dhcps
-use Rattle.sockets.specs.DnsClient.Offers as DnsOffers
-use Rattle.sockets.specs.DnsClient.Processed as DnsProcessed
-use Rattle.sockets.specs.DnsClient.Turns as DnsTurns
-use Rattle.sockets.specs.DnsClient.Value as Dnss
+use Rattle.tcp_block.specs.Due as Tcps
+use Rattle.tcp_block.specs.Names as TcpNames
+use Rattle.tcp_block.specs.Offers as TcpOffers
+use Rattle.tcp_block.specs.Settled as TcpSettled
+use Rattle.tcp_block.specs.Value.{TcpValue}
+use Rattle.socket_datagram.specs.DhcpClient.Offers as DhcpOffers
+use Rattle.socket_datagram.specs.DhcpClient.States as DhcpStates
+use Rattle.socket_datagram.specs.DhcpClient.Value as Dhcps
+use Rattle.socket_datagram.specs.DnsClient.Offers as DnsOffers
+use Rattle.socket_datagram.specs.DnsClient.Processed as DnsProcessed
+use Rattle.socket_datagram.specs.DnsClient.Turns as DnsTurns
+use Rattle.socket_datagram.specs.DnsClient.Value as Dnss
 use Rattle.sockets.specs.declared.socket.Socket.{Socket}
 use Rattle.sockets.specs.declared.socket.Socket.TheVariants as Kind
 
@@ -72,24 +72,24 @@ poll_of cx (Kind.Tcp v) = Tcps.poll_of cx.ip_mtu v
 poll_of cx (Kind.Dhcpv4 v) = DhcpStates.poll_of v.state
 poll_of cx (Kind.Dns v) = DnsTurns.poll_of v.state
 
--- the same connection in the same state, with the same bytes in its queues; its moments may have been set
+-- the same connection in the same state, with the same bytes in its queues; its instants may have been set
 pub record IsSameConnection (v v' : TcpValue) : Type 0 where
-  pub state : v'.block.state ≡ v.block.state
-  pub names : v'.block.names ≡ v.block.names
-  pub settings : v'.block.settings ≡ v.block.settings
+  pub state : v'.tcb.state ≡ v.tcb.state
+  pub names : v'.tcb.names ≡ v.tcb.names
+  pub settings : v'.tcb.settings ≡ v.tcb.settings
   pub received : v'.received ≡ v.received
   pub queued : v'.queued ≡ v.queued
 
 -- the same socket, with the same datagrams in its queues, of which those to be sent may lie elsewhere, the same connection, or the same
 -- client but for an open offer
-abbrev pub IsSameButForPlaces : Socket → Socket → Type 0
-IsSameButForPlaces (Kind.Raw v) (Kind.Raw v') = Places.IsSameButForPlaces v v'
-IsSameButForPlaces (Kind.Icmp v) (Kind.Icmp v') = Places.IsSameButForPlaces v v'
-IsSameButForPlaces (Kind.Udp v) (Kind.Udp v') = Places.IsSameButForPlaces v v'
-IsSameButForPlaces (Kind.Tcp v) (Kind.Tcp v') = IsSameConnection v v'
-IsSameButForPlaces (Kind.Dhcpv4 v) (Kind.Dhcpv4 v') = Dhcps.unoffered v' ≡ Dhcps.unoffered v
-IsSameButForPlaces (Kind.Dns v) (Kind.Dns v') = Dnss.unoffered v' ≡ Dnss.unoffered v
-IsSameButForPlaces s s' = ⊥
+abbrev pub IsSameButForSlots : Socket → Socket → Type 0
+IsSameButForSlots (Kind.Raw v) (Kind.Raw v') = Slots.IsSameButForSlots v v'
+IsSameButForSlots (Kind.Icmp v) (Kind.Icmp v') = Slots.IsSameButForSlots v v'
+IsSameButForSlots (Kind.Udp v) (Kind.Udp v') = Slots.IsSameButForSlots v v'
+IsSameButForSlots (Kind.Tcp v) (Kind.Tcp v') = IsSameConnection v v'
+IsSameButForSlots (Kind.Dhcpv4 v) (Kind.Dhcpv4 v') = Dhcps.unoffered v' ≡ Dhcps.unoffered v
+IsSameButForSlots (Kind.Dns v) (Kind.Dns v') = Dnss.unoffered v' ≡ Dnss.unoffered v
+IsSameButForSlots s s' = ⊥
 
 -- a socket of datagrams, or a client
 abbrev pub IsOfDatagrams : Socket → Type 0
@@ -117,5 +117,5 @@ accepts_datagram cx (Kind.Dns v) ip udp = DnsProcessed.accepts v.state ip udp
 accepts_datagram cx s ip udp = false
 
 abbrev pub accepts_segment : Socket → IpRepr → TcpHeader → Bool
-accepts_segment (Kind.Tcp v) ip header = TcpNames.accepts v.block ip header
+accepts_segment (Kind.Tcp v) ip header = TcpNames.accepts v.tcb ip header
 accepts_segment s ip header = false

@@ -4,10 +4,10 @@ ghost use Rattle.sockets.specs.Idle.{waits_for_arrival, is_idle_connection, is_i
 
 use crate::socket::Socket;
 use crate::{keys, tcp, udp};
-use agenda::Idle;
+use base_index::Idle;
 use ip_wire::IpAddress;
 use net_base::{ChecksumCapabilities, Instant, Rand};
-use socket_base::{Context, PollAt};
+use socket_context::{Context, PollAt};
 
 /// When a connection with nothing queued wants to be polled is the same at each IP MTU.
 const SOME_IP_MTU: usize = 1500;
@@ -87,7 +87,7 @@ impl Context for SomeLink {
     ghost use Rattle.sockets.specs.Idle.{some_ip_mtu};
 
     ghost context = { λ c. record {
-      moment = pos 0;
+      instant = pos 0;
       has_ip_addr = λ a. false;
       source_for = λ a. None;
       is_broadcast = λ a. false;

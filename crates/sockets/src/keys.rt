@@ -1,6 +1,6 @@
 //! By which key a socket is found when something arrives for it.
 ghost use Rattle.std.specs.Prelude.{◌≡◌, ◌<◌};
-ghost use Rattle.sockets.specs.Keys.{key_with, of_block, of_clients, of_icmp, of_listeners, of_port, of_ports, of_raw};
+ghost use Rattle.sockets.specs.Keys.{key_with, of_cidr, of_clients, of_icmp, of_listeners, of_port, of_ports, of_raw};
 
 use crate::tcp;
 
@@ -56,7 +56,7 @@ pub fn of_ports(own: u16, remote: u16) -> u64
 
 /// The key of a TCP socket.
 pub(crate) fn of_connection(socket: &tcp::Socket) -> u64
-    ensures { result ≡ of_block socket.now.block }
+    ensures { result ≡ of_cidr socket.now.tcb }
 {
     if socket.is_listening() {
         return of_listeners(socket.listen_endpoint().port);

@@ -1,46 +1,46 @@
 //! Laws of sockets of any kind, and those of each kind.
 ghost use Rattle.std.specs.Prelude.{◌≡◌, ◌⊎◌, ◌↔◌, ℕ, List, false, true, IsSome, IsTrue};
-ghost use Rattle.icmpv4.specs.declared.header.Icmpv4Header.{Icmpv4Header};
-ghost use Rattle.icmpv6.specs.Icmpv6.{MessageValue};
+ghost use Rattle.wire_icmpv4.specs.declared.header.Icmpv4Header.{Icmpv4Header};
+ghost use Rattle.wire_icmpv6.specs.Icmpv6.{MessageValue};
 ghost use Rattle.ip_wire.specs.IpAddress.{IpAddress};
 ghost use Rattle.ip_wire.specs.IpRepr.{IpRepr};
 ghost use Rattle.ip_wire.specs.TcpHeader.{TcpHeader};
 ghost use Rattle.ip_wire.specs.UdpRepr.{UdpRepr};
-ghost use Rattle.socket_base.specs.Context.{ContextValue};
-ghost use Rattle.socket_base.specs.Offers.{IsBefore};
-ghost use Rattle.socket_base.specs.declared.offer.Offer as Answer;
-ghost use Rattle.socket_base.specs.declared.offer.Offer.TheVariants as Offer;
-ghost use Rattle.socket_base.specs.declared.poll_at.PollAt.TheVariants as At;
+ghost use Rattle.socket_context.specs.Context.{ContextValue};
+ghost use Rattle.socket_context.specs.Offers.{IsBefore};
+ghost use Rattle.socket_context.specs.declared.offer.Offer as Answer;
+ghost use Rattle.socket_context.specs.declared.offer.Offer.TheVariants as Offer;
+ghost use Rattle.socket_context.specs.declared.poll_at.PollAt.TheVariants as At;
 ghost use Rattle.sockets.specs.Idle.{is_idle, IsOfPorts};
-ghost use Rattle.tcp_model.specs.States.{is_listening};
-ghost use Rattle.tcp_model.specs.Value.{TcpValue};
+ghost use Rattle.tcp_block.specs.States.{is_listening};
+ghost use Rattle.tcp_block.specs.Value.{TcpValue};
 ghost use Rattle.sockets.specs.Keys.{key_of, of_clients, of_icmp, of_listeners, of_port, of_ports, of_raw};
-ghost use Rattle.sockets.specs.Offers.{HasPacket, changed_by};
-ghost use Rattle.sockets.specs.Socket.{Offers, offered_by, settled, poll_of, IsSameButForPlaces, IsOfDatagrams};
+ghost use Rattle.socket_datagram.specs.Offers.{HasPacket, changed_by};
+ghost use Rattle.sockets.specs.Socket.{Offers, offered_by, settled, poll_of, IsSameButForSlots, IsOfDatagrams};
 ghost use Rattle.sockets.specs.Socket.{accepts_packet, accepts_icmpv4, accepts_icmpv6, accepts_datagram, accepts_segment};
-ghost use Rattle.sockets.specs.declared.error.BindError.{BindError};
-ghost use Rattle.sockets.specs.declared.error.RecvError.{RecvError};
-ghost use Rattle.sockets.specs.declared.error.SendError.{SendError};
-ghost use Rattle.sockets.specs.declared.icmp.Endpoint.{Endpoint};
-ghost use Rattle.sockets.specs.declared.udp.UdpMetadata.{UdpMetadata};
+ghost use Rattle.socket_datagram.specs.declared.error.BindError.{BindError};
+ghost use Rattle.socket_datagram.specs.declared.error.RecvError.{RecvError};
+ghost use Rattle.socket_datagram.specs.declared.error.SendError.{SendError};
+ghost use Rattle.socket_datagram.specs.declared.icmp.Endpoint.{Endpoint};
+ghost use Rattle.socket_datagram.specs.declared.udp.UdpMetadata.{UdpMetadata};
 ghost use Rattle.sockets.specs.declared.socket.Socket.{Socket};
 ghost use Rattle.sockets.specs.declared.socket.Socket.TheVariants as Kind;
 
-use crate::error::{BindError, RecvError, SendError};
-use crate::icmp::Endpoint;
-use crate::udp::UdpMetadata;
 use crate::{icmp, raw, udp};
+use socket_datagram::error::{BindError, RecvError, SendError};
+use socket_datagram::icmp::Endpoint;
+use socket_datagram::udp::UdpMetadata;
 
-/// Law: where the socket doesn't want to be polled at a moment yet, an offer at that moment is silent and
+/// Law: where the socket doesn't want to be polled at an instant yet, an offer at that instant is silent and
 /// changes nothing, but that an open offer is settled as not sent.
 pub fn silence()
     ensures { (cx : ContextValue) (s s' : Socket) (answer : Answer.Offer)
-        → IsBefore cx.moment (poll_of cx s)
+        → IsBefore cx.instant (poll_of cx s)
         → Offers cx s answer s'
         → (answer ≡ Offer.Silent false) × (s' ≡ settled false s) }
 {}
 
-/// Law: an idle socket that is asked for a packet, at whatever moment, has none and stays as it is; nothing but an arrival makes it want
+/// Law: an idle socket that is asked for a packet, at whatever instant, has none and stays as it is; nothing but an arrival makes it want
 /// to be polled; and it is a UDP or a TCP socket.
 #[tactic(auto, using(crate::proofs::AtRest::stays, crate::proofs::AtRest::waits_at, crate::proofs::AtRest::of_ports))]
 pub fn idle_is_at_rest()
@@ -62,7 +62,7 @@ pub fn what_arrives_tells_the_key()
         → (key_of s ≡ of_port udp.dst_port) ⊎ (key_of s ≡ of_clients) }
     ensures segment { (s : Socket) (ip : IpRepr) (header : TcpHeader) → accepts_segment s ip header ≡ true
         → (key_of s ≡ of_ports header.dst_port header.src_port) ⊎ (key_of s ≡ of_listeners header.dst_port) }
-    ensures connection { (v : TcpValue) (ip : IpRepr) (header : TcpHeader) → is_listening v.block.state ≡ false
+    ensures connection { (v : TcpValue) (ip : IpRepr) (header : TcpHeader) → is_listening v.tcb.state ≡ false
         → accepts_segment (Kind.Tcp v) ip header ≡ true → key_of (Kind.Tcp v) ≡ of_ports header.dst_port header.src_port }
 {}
 
@@ -96,7 +96,7 @@ pub fn unchanged()
     ensures { (cx : ContextValue) (s s' : Socket) (answer : Answer.Offer)
         → Offers cx s answer s'
         → changed_by answer ≡ false
-        → IsSameButForPlaces s (settled false s') }
+        → IsSameButForSlots s (settled false s') }
 {}
 
 /// Law: what an offer answers and leaves is determined.

@@ -1,11 +1,11 @@
 //! A socket of any kind.
 ghost use Rattle.std.specs.Prelude.{◌≡◌};
-ghost use Rattle.socket_base.specs.Packet.{option_value};
+ghost use Rattle.socket_context.specs.Packet.{option_value};
 ghost use Rattle.sockets.specs.Socket.{Offers, offered_by, settled, poll_of, IfSendable};
 
 use crate::boxed::Boxed;
 use crate::{dhcp, dns, icmp, raw, tcp, udp};
-use socket_base::{Context, Offer, Packet, PollAt};
+use socket_context::{Context, Offer, Packet, PollAt};
 
 /// A socket of any kind.
 #[derive(Debug, Drop)]
@@ -59,7 +59,7 @@ impl Socket {
     }
 
     /// Says what became of the offered packet. A datagram that was sent leaves its queue, another one stays
-    /// first; a segment that was sent is recorded, another one leaves all as it is; behind a message that was sent a client
+    /// first; a segment that was sent is recorded, another one leaves all as it is; after a message that was sent a client
     /// waits for its answer.
     pub fn settle(&mut self, sent: bool)
         ensures { self.new ≡ settled sent self.old }

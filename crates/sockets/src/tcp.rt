@@ -1,5 +1,5 @@
 //! TCP's sockets.
 pub use tcp_socket::{
-    CongestionControl, ConnectError, Due, ListenError, NotInOnePass, OfferedSegment, RecvError,
+    CongestionControl, ConnectError, Due, ListenError, NotInFastPath, OfferedSegment, RecvError,
     Reno, Reply, SendError, Socket, SocketBuffer, State,
 };

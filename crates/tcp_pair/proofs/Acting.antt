@@ -1,27 +1,27 @@
 -- What an event does, by the calls of the side that it is for.
 use Rattle.std.proofs.Common.{◌≡◌, ℕ, ◌+◌, ℤ, Bool, List, Result, Ok, Err, IfOk, OnOk, sym, ap, ◌∙◌, subst, arith}
-use Rattle.tcp_tie.specs.declared.pair.event.PairAnswer.{PairAnswer}
-use Rattle.tcp_tie.specs.declared.pair.event.PairAnswer.TheVariants.{Done}
-use Rattle.tcp_tie.specs.declared.pair.event.PairEvent.{PairEvent}
-use Rattle.tcp_tie.specs.declared.pair.event.PairEvent.TheVariants.{Offer}
-use Rattle.tcp_tie.specs.declared.pair.event.SentSegment.{SentSegment}
-use Rattle.tcp_tie.specs.declared.pair.event.Side.{Side}
-use Rattle.tcp_tie.specs.declared.pair.event.Side.TheVariants.{A, B}
-use Rattle.tcp_tie.specs.Pair.History.{side_of}
-use Rattle.tcp_tie.specs.Pair.Sides.{Both, at, put, other}
-use Rattle.tcp_tie.specs.Pair.Steps.{acts, offered_at}
+use Rattle.tcp_refinement.specs.declared.pair.event.PairAnswer.{PairAnswer}
+use Rattle.tcp_refinement.specs.declared.pair.event.PairAnswer.TheVariants.{Done}
+use Rattle.tcp_refinement.specs.declared.pair.event.PairEvent.{PairEvent}
+use Rattle.tcp_refinement.specs.declared.pair.event.PairEvent.TheVariants.{Offer}
+use Rattle.tcp_refinement.specs.declared.pair.event.SentSegment.{SentSegment}
+use Rattle.tcp_refinement.specs.declared.pair.event.Side.{Side}
+use Rattle.tcp_refinement.specs.declared.pair.event.Side.TheVariants.{A, B}
+use Rattle.tcp_refinement.specs.Pair.History.{side_of}
+use Rattle.tcp_refinement.specs.Pair.Sides.{Both, at, put, other}
+use Rattle.tcp_refinement.specs.Pair.Steps.{acts, offered_at}
 use Rattle.tcp_pair.specs.Ends.{EndValue, after_event, ends_after, on_host, with_own}
 
 -- a side is asked
 pub asked :
-    (e new : EndValue) (others : List SentSegment) (event : PairEvent) (side : Side) (moment : ℤ) (sent : Bool) → event ≡ Offer side moment sent
-    → side_of event ≡ e.side → new ≡ with_own e (offered_at e.side (record (on_host e) { moment = moment }) sent)
+    (e new : EndValue) (others : List SentSegment) (event : PairEvent) (side : Side) (instant : ℤ) (sent : Bool) → event ≡ Offer side instant sent
+    → side_of event ≡ e.side → new ≡ with_own e (offered_at e.side (record (on_host e) { instant = instant }) sent)
     → new ≡ after_event e others event Done
-asked e new others event side moment sent is at after =
+asked e new others event side instant sent is at after =
     subst (λ (x : PairEvent). new ≡ after_event e others x Done) (sym is)
     (after
-    ∙ (ap (λ (s : Side). with_own e (offered_at s (record (on_host e) { moment = moment }) sent)) (sym (sym (ap side_of is) ∙ at))
-    ∙ ap (λ (n : ℕ). record (with_own e (offered_at side (record (on_host e) { moment = moment }) sent)) { accepted = n }) (none_more e.accepted)))
+    ∙ (ap (λ (s : Side). with_own e (offered_at s (record (on_host e) { instant = instant }) sent)) (sym (sym (ap side_of is) ∙ at))
+    ∙ ap (λ (n : ℕ). record (with_own e (offered_at side (record (on_host e) { instant = instant }) sent)) { accepted = n }) (none_more e.accepted)))
   where
     none_more : (n : ℕ) → n ≡ n + 0
     none_more n = omega arith

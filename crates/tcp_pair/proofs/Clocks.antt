@@ -2,19 +2,19 @@
 use Rattle.std.proofs.Common.{◌≡◌, inr, ℕ, zero, suc, ◌+◌, ◌*◌, ℤ, pos, ◌+ℤ◌, ◌≤ℤ◌, refl, sym, ◌∙◌, subst, arith}
 use Rattle.std.proofs.lemmas.Bool.{cond_both}
 use Rattle.std.proofs.lemmas.Int.{ints}
-use Rattle.tcp_tie.specs.Pair.Sides.{other}
-use Rattle.tcp_tie.specs.Pair.Values.{PairValue}
-use Rattle.tcp_tie.specs.declared.pair.event.Side.{Side}
-use Rattle.tcp_tie.specs.declared.pair.event.Side.TheVariants.{A, B}
-use Rattle.tcp_progress.specs.BothWays.{MayAsk, MayRounds, MayTurn, both_read, roused_in, round_in, rounds_in, turn_in, waits_in, wake_in, woken_in}
-use Rattle.tcp_progress.specs.Reached.{IsReached}
-use Rattle.tcp_progress.specs.Settle.{read_in, restart_in}
-use Rattle.tcp_progress.proofs.Moments.{clock}
-use Rattle.tcp_progress.proofs.PairTimers.{restart_soon, wake_soon}
-use Rattle.tcp_progress.proofs.Roused.{roused_reached}
-use Rattle.tcp_progress.proofs.TurnClocks.{both_minutes, other_clock, own_clock, read_clock, roused_clock}
-use Rattle.tcp_progress.proofs.Turns.{Turned, turned}
-use Rattle.tcp_progress.proofs.Ways.{IsLate, late_after}
+use Rattle.tcp_refinement.specs.Pair.Sides.{other}
+use Rattle.tcp_refinement.specs.Pair.Values.{PairValue}
+use Rattle.tcp_refinement.specs.declared.pair.event.Side.{Side}
+use Rattle.tcp_refinement.specs.declared.pair.event.Side.TheVariants.{A, B}
+use Rattle.tcp_liveness.specs.BothWays.{MayAsk, MayRounds, MayTurn, both_read, roused_in, round_in, rounds_in, turn_in, waits_in, wake_in, woken_in}
+use Rattle.tcp_liveness.specs.Reached.{IsReached}
+use Rattle.tcp_liveness.specs.Settle.{read_in, restart_in}
+use Rattle.tcp_liveness.proofs.Moments.{clock}
+use Rattle.tcp_liveness.proofs.PairTimers.{restart_soon, wake_soon}
+use Rattle.tcp_liveness.proofs.Roused.{roused_reached}
+use Rattle.tcp_liveness.proofs.TurnClocks.{both_minutes, other_clock, own_clock, read_clock, roused_clock}
+use Rattle.tcp_liveness.proofs.Turns.{Turned, turned}
+use Rattle.tcp_liveness.proofs.Ways.{IsLate, late_after}
 use Rattle.tcp_pair.specs.Settling.{IsSoon}
 
 soon : (now : ℤ) → now ≤ℤ (now +ℤ pos 120_000_000)

@@ -1,21 +1,21 @@
 -- What a pair's fields keep, from one event to the next.
 use Rattle.std.proofs.Common.{◌≡◌, List, [], ◌∷◌, ◌++◌, None, refl, sym, ◌∙◌, ap, subst, arith, length-append}
-use Rattle.tcp_model.specs.State.{State}
-use Rattle.tcp_model.specs.Value.{TcpValue}
-use Rattle.tcp_tie.specs.Promises.{IsFresh}
-use Rattle.tcp_tie.specs.Tie.{Past}
-use Rattle.tcp_tie.specs.declared.pair.event.Side.{Side}
-use Rattle.tcp_tie.specs.declared.pair.event.Side.TheVariants.{A, B}
-use Rattle.tcp_tie.specs.declared.pair.event.PairEvent.{PairEvent}
-use Rattle.tcp_tie.specs.declared.pair.event.PairAnswer.{PairAnswer}
-use Rattle.tcp_tie.specs.Pair.History.{Entry, side_of, pasts, adds}
-use Rattle.tcp_tie.specs.Pair.Safe.{IsKept}
-use Rattle.tcp_tie.specs.Pair.Sides.{Both, at, put, other}
-use Rattle.tcp_tie.specs.Pair.Steps.{Acted, Happened, acts, acting, refusal, happens}
-use Rattle.tcp_tie.specs.Pair.Values.{HostContext, PairSide, PairValue, host_of, new_pair}
-use Rattle.tcp_tie.proofs.PairLaws.{new_is_kept, kept_after}
-use Rattle.tcp_tie.proofs.SideHosts.{act_host}
-use Rattle.tcp_pair.specs.Ends.{EndValue, fresh_end, on_host, after_event, acted_at, ends_after}
+use Rattle.tcp_block.specs.State.{State}
+use Rattle.tcp_block.specs.Value.{TcpValue}
+use Rattle.tcp_refinement.specs.Promises.{IsInitial}
+use Rattle.tcp_refinement.specs.Tie.{Past}
+use Rattle.tcp_refinement.specs.declared.pair.event.Side.{Side}
+use Rattle.tcp_refinement.specs.declared.pair.event.Side.TheVariants.{A, B}
+use Rattle.tcp_refinement.specs.declared.pair.event.PairEvent.{PairEvent}
+use Rattle.tcp_refinement.specs.declared.pair.event.PairAnswer.{PairAnswer}
+use Rattle.tcp_refinement.specs.Pair.History.{Entry, side_of, pasts, adds}
+use Rattle.tcp_refinement.specs.Pair.Safe.{IsKept}
+use Rattle.tcp_refinement.specs.Pair.Sides.{Both, at, put, other}
+use Rattle.tcp_refinement.specs.Pair.Steps.{Acted, Happened, acts, acting, refusal, happens}
+use Rattle.tcp_refinement.specs.Pair.Values.{HostContext, PairSide, PairValue, host_of, new_pair}
+use Rattle.tcp_refinement.proofs.PairLaws.{new_is_kept, kept_after}
+use Rattle.tcp_refinement.proofs.SideHosts.{act_host}
+use Rattle.tcp_pair.specs.Ends.{EndValue, initial_end, on_host, after_event, acted_at, ends_after}
 use Rattle.tcp_pair.specs.Invariant.{Tallies, IsPairOf, pair_of, history_from}
 use Rattle.tcp_pair.specs.States.{PairState, bare, hosted, side_on}
 use Rattle.tcp_pair.specs.declared.pair.Taken.{Taken}
@@ -33,7 +33,7 @@ acting_by : (ends : Both EndValue) (event : PairEvent) (side : Side) → (at end
 acting_by ends event A is = ap (λ (s : Side). acts (side_on s ends.a.own) ends.b.own.sent event) (sym is)
 acting_by ends event B is = ap (λ (s : Side). acts (side_on s ends.b.own) ends.a.own.sent event) (sym is)
 
-found_by : (ends : Both EndValue) (side : Side) → (at (owned ends) side).socket.block.state ≡ (at ends side).own.socket.block.state
+found_by : (ends : Both EndValue) (side : Side) → (at (owned ends) side).socket.tcb.state ≡ (at ends side).own.socket.tcb.state
 found_by ends A = refl
 found_by ends B = refl
 
@@ -63,10 +63,10 @@ tallies_put ends ps B e p is all B = is
 
 -- AT FIRST
 
-new_kept : (a b : TcpValue) → IsFresh a → IsFresh b → IsPairOf (record { a = fresh_end A a; b = fresh_end B b }) [] []
+new_kept : (a b : TcpValue) → IsInitial a → IsInitial b → IsPairOf (record { a = initial_end A a; b = initial_end B b }) [] []
 new_kept a b f g = record { as_many = refl; sides = sides; tallies = tallies; kept = new_is_kept (host_of A) (host_of B) 1 2 a b f g } where
   ends : Both EndValue
-  ends = record { a = fresh_end A a; b = fresh_end B b }
+  ends = record { a = initial_end A a; b = initial_end B b }
 
   sides : (side : Side) → (at ends side).side ≡ side
   sides A = refl
@@ -77,13 +77,13 @@ new_kept a b f g = record { as_many = refl; sides = sides; tallies = tallies; ke
   tallies B = record { opened = refl; accepted = refl }
 
 pub new_shown :
-    (a b : TcpValue) (e f : EndValue) (taken : List Taken) (answers : List PairAnswer) → e ≡ fresh_end A a → f ≡ fresh_end B b → taken ≡ [] → answers ≡ [] →
-    IsFresh a → IsFresh b
+    (a b : TcpValue) (e f : EndValue) (taken : List Taken) (answers : List PairAnswer) → e ≡ initial_end A a → f ≡ initial_end B b → taken ≡ [] → answers ≡ [] →
+    IsInitial a → IsInitial b
     → IsPairOf (record { a = e; b = f }) taken answers
-new_shown a b e f taken answers first second none nothing fresh fresh_too = rw (first, second, none, nothing) (new_kept a b fresh fresh_too)
+new_shown a b e f taken answers first second none nothing initial initial_too = rw (first, second, none, nothing) (new_kept a b initial initial_too)
 
 pub new_is :
-    (a b : TcpValue) (e f : EndValue) (taken : List Taken) (answers : List PairAnswer) → e ≡ fresh_end A a → f ≡ fresh_end B b → taken ≡ []
+    (a b : TcpValue) (e f : EndValue) (taken : List Taken) (answers : List PairAnswer) → e ≡ initial_end A a → f ≡ initial_end B b → taken ≡ []
     → hosted (pair_of (record { a = e; b = f }) taken answers) ≡ new_pair a b
 new_is a b e f taken answers first second none = rw (first, second, none) refl
 
@@ -100,7 +100,7 @@ module _ (ends : Both EndValue) (taken : List Taken) (answers : List PairAnswer)
   acted = acted_at ends event
 
   abbrev found : State
-  found = (at ends side).own.socket.block.state
+  found = (at ends side).own.socket.tcb.state
 
   abbrev next : Both EndValue
   next = ends_after ends event
@@ -134,7 +134,7 @@ module _ (ends : Both EndValue) (taken : List Taken) (answers : List PairAnswer)
             record {
               sides = put (owned ends) side a.side;
               history =
-                  record { event = event; answer = a.answer; found = (at (owned ends) side).socket.block.state } ∷ history_from [] taken answers;
+                  record { event = event; answer = a.answer; found = (at (owned ends) side).socket.tcb.state } ∷ history_from [] taken answers;
             };
       } in h) acted_is
       ∙ ap (λ (s : State). let h : Happened =

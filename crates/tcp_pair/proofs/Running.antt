@@ -1,11 +1,11 @@
 -- Several steps, one after the other.
 use Rattle.std.proofs.Common.{◌≡◌, ℕ, zero, suc, ◌+◌, ◌<◌, List, [], ◌∷◌, ◌++◌, length, take, drop, None, Some, sym, ◌∙◌, ap, subst, add-one, arith}
 use Rattle.std.specs.Prelude.{slice_get}
-use Rattle.tcp_tie.specs.declared.pair.event.PairEvent.{PairEvent}
-use Rattle.tcp_tie.specs.declared.pair.event.PairAnswer.{PairAnswer}
-use Rattle.tcp_tie.specs.Pair.Safe.{IsKept}
-use Rattle.tcp_tie.specs.Pair.Steps.{Happened, Steps, refusal, happens}
-use Rattle.tcp_tie.specs.Pair.Values.{PairValue}
+use Rattle.tcp_refinement.specs.declared.pair.event.PairEvent.{PairEvent}
+use Rattle.tcp_refinement.specs.declared.pair.event.PairAnswer.{PairAnswer}
+use Rattle.tcp_refinement.specs.Pair.Safe.{IsKept}
+use Rattle.tcp_refinement.specs.Pair.Steps.{Happened, Steps, refusal, happens}
+use Rattle.tcp_refinement.specs.Pair.Values.{PairValue}
 use Rattle.tcp_pair.specs.Invariant.{HasRun}
 
 -- where something is left of a list, its first comes next
@@ -33,17 +33,17 @@ Steps-push old mid new [] event is allowed step =
     (subst (λ (p : PairValue). refusal p event ≡ None) is allowed, sym (sym (ap (λ (p : PairValue). (happens p event).pair) is) ∙ step))
 Steps-push old mid new (e ∷ events) event before allowed step = (before.0, Steps-push (happens old e).pair mid new events event before.1 allowed step)
 
-module _ (old : PairValue) (events : List PairEvent) (place : ℕ) (event : PairEvent) (left : List PairEvent) (now : PairValue)
-    (run : HasRun old events place (event ∷ left) now) where
-  pub next_is : slice_get events place ≡ Some event
-  next_is = (next_of_drop place events event left run.left_over).here
+module _ (old : PairValue) (events : List PairEvent) (offset : ℕ) (event : PairEvent) (left : List PairEvent) (now : PairValue)
+    (run : HasRun old events offset (event ∷ left) now) where
+  pub next_is : slice_get events offset ≡ Some event
+  next_is = (next_of_drop offset events event left run.left_over).here
 
   pub one_more : (answer : PairAnswer) (new : PairValue) → refusal now event ≡ None → happens now event ≡ record { answer = answer; pair = new } → IsKept new →
-      HasRun old events (place + 1) left new
+      HasRun old events (offset + 1) left new
   one_more answer new allowed step kept =
-      let next : IsNext place events event left = next_of_drop place events event left run.left_over in
+      let next : IsNext offset events event left = next_of_drop offset events event left run.left_over in
       rw add-one (record {
-        steps = rw next.taken (Steps-push old now new (take place events) event run.steps allowed (ap (λ (h : Happened). h.pair) step));
+        steps = rw next.taken (Steps-push old now new (take offset events) event run.steps allowed (ap (λ (h : Happened). h.pair) step));
         left_over = next.left;
         bound = omega arith;
         kept = kept;

@@ -2,33 +2,33 @@
 use Rattle.std.proofs.Common.{◌≡◌, ◌⊎◌, inl, inr, ℕ, zero, suc, ◌+◌, ◌-◌, ◌*◌, ◌^◌, ◌<◌, ◌≤◌, nat_lt, min, ◌||◌, Bool, true, false, List, length}
 use Rattle.std.proofs.Common.{refl, sym, ap, ◌∙◌, subst, arith}
 use Rattle.std.proofs.lemmas.Bool.{ltb-true, ltb-false}
-use Rattle.tcp_tie.specs.Tie.{Keeps}
-use Rattle.tcp_model.specs.declared.block.Block.{Block}
-use Rattle.tcp_model.specs.Blocks.{one_if}
-use Rattle.tcp_tie.specs.Pair.Safe.{read, written}
-use Rattle.tcp_tie.specs.Pair.Sides.{other}
-use Rattle.tcp_tie.specs.Pair.Values.{PairValue, past_at}
-use Rattle.tcp_tie.specs.declared.pair.event.PairRefused.{PairRefused}
-use Rattle.tcp_tie.specs.declared.pair.event.PairRefused.TheVariants.{Memory}
-use Rattle.tcp_tie.specs.declared.pair.event.Side.{Side}
-use Rattle.tcp_tie.specs.declared.pair.event.Side.TheVariants.{A, B}
-use Rattle.tcp_progress.specs.Arrivals.{is_synchronized}
-use Rattle.tcp_progress.specs.BothWays.{AreThere, IsThrough, MayRounds, MayTurn, bound, both_read, round_in, rounds_in, total_in, turn_in, waits_in}
-use Rattle.tcp_progress.specs.Pair.{HasStream, left_in, socket_of}
-use Rattle.tcp_progress.specs.Reached.{IsReached}
-use Rattle.tcp_progress.specs.Sent.{taken_in}
-use Rattle.tcp_progress.specs.Settle.{read_in}
-use Rattle.tcp_progress.specs.Talking.{MayTalk}
-use Rattle.tcp_progress.proofs.EndsTold.{end_told}
-use Rattle.tcp_progress.proofs.Kept.{reached_keeps}
-use Rattle.tcp_progress.proofs.Pair.{had_in, in_step, late_in}
-use Rattle.tcp_progress.proofs.Patient.{talk_on}
-use Rattle.tcp_progress.proofs.Positions.{lies_within}
-use Rattle.tcp_progress.proofs.Settles.{read_partner}
-use Rattle.tcp_progress.proofs.Talks.{talks, there}
-use Rattle.tcp_progress.proofs.Turns.{Ended, IsDone, all_read_in, done_round, ends, through}
-use Rattle.tcp_progress.proofs.Ways.{Balance, BothCalm, IsLate, balance, both_next, of_side, read_calm}
-use Rattle.tcp_pair.specs.Settling.{CanSettle, GoesOnTo, IsEndTold, IsSoon, is_waiting, most_rounds}
+use Rattle.tcp_refinement.specs.Tie.{Keeps}
+use Rattle.tcp_block.specs.declared.tcb.Tcb.{Tcb}
+use Rattle.tcp_block.specs.TcbRules.{one_if}
+use Rattle.tcp_refinement.specs.Pair.Safe.{read, written}
+use Rattle.tcp_refinement.specs.Pair.Sides.{other}
+use Rattle.tcp_refinement.specs.Pair.Values.{PairValue, past_at}
+use Rattle.tcp_refinement.specs.declared.pair.event.PairRefused.{PairRefused}
+use Rattle.tcp_refinement.specs.declared.pair.event.PairRefused.TheVariants.{Memory}
+use Rattle.tcp_refinement.specs.declared.pair.event.Side.{Side}
+use Rattle.tcp_refinement.specs.declared.pair.event.Side.TheVariants.{A, B}
+use Rattle.tcp_liveness.specs.Arrivals.{is_synchronized}
+use Rattle.tcp_liveness.specs.BothWays.{AreThere, IsThrough, MayRounds, MayTurn, bound, both_read, round_in, rounds_in, total_in, turn_in, waits_in}
+use Rattle.tcp_liveness.specs.Pair.{HasStream, left_in, socket_of}
+use Rattle.tcp_liveness.specs.Reached.{IsReached}
+use Rattle.tcp_liveness.specs.Sent.{taken_in}
+use Rattle.tcp_liveness.specs.Settle.{read_in}
+use Rattle.tcp_liveness.specs.Talking.{MayTalk}
+use Rattle.tcp_liveness.proofs.EndsTold.{end_told}
+use Rattle.tcp_liveness.proofs.Kept.{reached_keeps}
+use Rattle.tcp_liveness.proofs.Pair.{had_in, in_step, late_in}
+use Rattle.tcp_liveness.proofs.Patient.{talk_on}
+use Rattle.tcp_liveness.proofs.Positions.{lies_within}
+use Rattle.tcp_liveness.proofs.Settles.{read_peer_side}
+use Rattle.tcp_liveness.proofs.Talks.{talks, there}
+use Rattle.tcp_liveness.proofs.Turns.{Ended, IsDone, all_read_in, done_round, ends, through}
+use Rattle.tcp_liveness.proofs.Ways.{Balance, BothCalm, IsLate, balance, both_next, of_side, read_calm}
+use Rattle.tcp_pair.specs.Settling.{CanSettle, ProceedsTo, IsEndTold, IsSoon, is_waiting, most_rounds}
 use Rattle.tcp_pair.proofs.Clocks.{read_soon, rounds_soon}
 use Rattle.tcp_pair.proofs.Led.{led}
 
@@ -100,9 +100,9 @@ may_few (suc k) (suc n) p less m = (m.0, m.1, may_few k n (round_in p) (fewer k 
 reads : (p : PairValue) → BothCalm p (both_read p)
 reads p = both_next p (read_in p A) (both_read p) (read_calm p A) (read_calm (read_in p A) B)
 
-same_block : (p : PairValue) (side : Side) → (socket_of (both_read p) side).block ≡ (socket_of p side).block
-same_block p A = read_partner (read_in p A) B
-same_block p B = read_partner p A
+same_tcb : (p : PairValue) (side : Side) → (socket_of (both_read p) side).tcb ≡ (socket_of p side).tcb
+same_tcb p A = read_peer_side (read_in p A) B
+same_tcb p B = read_peer_side p A
 
 through_still : (p q : PairValue) (side : Side) → BothCalm p q → IsThrough p side → IsThrough q side
 through_still p q side c (inl none) = inl (least (left_in q side) (left_in p side) (of_side p q side c).left none) where
@@ -139,7 +139,7 @@ module _ (p : PairValue) (c : CanSettle p) where
   are_there = there (bound p) p c.talking
 
   late : IsLate p
-  late = (late_in p.sides.a.socket.block.state are_there.0, late_in p.sides.b.socket.block.state are_there.1)
+  late = (late_in p.sides.a.socket.tcb.state are_there.0, late_in p.sides.b.socket.tcb.state are_there.1)
 
   it : Ended p last
   it = ends p c.reached are_there may
@@ -151,7 +151,7 @@ module _ (p : PairValue) (c : CanSettle p) where
     by true e = never (sym (waited (bound p) (ltb-true (bound p) n e)) ∙ calm last it.done)
     by false e = ltb-false (bound p) n e
 
-  -- a round in which a side waits is refused for want of memory alone
+  -- a round in which a side waits is refused for lack of memory alone
   pub may_go : (n : ℕ) → ((m : ℕ) → m < n + 1 → is_waiting (rounds_in m p) ≡ true) → MayTurn (rounds_in n p) A × MayTurn (turn_in (rounds_in n p) A) B
   may_go n waited = may_at n (bound p) p (less n (bound p) (few (n + 1) waited)) may where
     less : (n all : ℕ) → n + 1 ≤ all → n < all
@@ -159,7 +159,7 @@ module _ (p : PairValue) (c : CanSettle p) where
 
   -- HOW MANY ROUNDS
 
-  small : (side : Side) → is_synchronized (socket_of p side).block.state ≡ true → is_synchronized (socket_of p (other side)).block.state ≡ true
+  small : (side : Side) → is_synchronized (socket_of p side).tcb.state ≡ true → is_synchronized (socket_of p (other side)).tcb.state ≡ true
       → HasStream (past_at p side) → left_in p side < 2 ^ 30
   small side mine theirs stream =
       (lies_within (socket_of p side) (socket_of p (other side)) (past_at p side) (past_at p (other side)) k mine theirs
@@ -211,13 +211,13 @@ module _ (p : PairValue) (c : CanSettle p) where
 
   pub is_told : (side : Side) → IsEndTold p (both_read last) side
   is_told side closed =
-      ap (λ (b : Block). b.receiver.took_fin) (same_block last (other side)) ∙ end_told p c.reached c.talking talk side closed
+      ap (λ (b : Tcb). b.receiver.took_fin) (same_tcb last (other side)) ∙ end_told p c.reached c.talking talk side closed
 
 -- THE CALLS
 
--- a round is refused for want of memory alone
+-- a round is refused for lack of memory alone
 pub for_memory :
-    (p q : PairValue) (n : ℕ) (refused : PairRefused) → GoesOnTo p q → q ≡ rounds_in n p → is_waiting q ≡ true
+    (p q : PairValue) (n : ℕ) (refused : PairRefused) → ProceedsTo p q → q ≡ rounds_in n p → is_waiting q ≡ true
     → ((m : ℕ) → m < n → is_waiting (rounds_in m p) ≡ true) → (IsReached q → MayTurn q A → MayTurn (turn_in q A) B → refused ≡ Memory) → CanSettle p → refused ≡ Memory
 for_memory p q n refused leads at waits waited memory c =
     let may = may_go p c n (one_waited n p q at waits waited) in

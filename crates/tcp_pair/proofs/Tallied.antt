@@ -3,20 +3,20 @@ use Rattle.std.proofs.Common.{◌≡◌, ℕ, ◌+◌, ◌≤◌, min, Bool, tru
 use Rattle.std.proofs.lemmas.List.{length-take}
 use Rattle.ip_wire.specs.IpEndpoint.{IpEndpoint}
 use Rattle.ip_wire.specs.IpListenEndpoint.{IpListenEndpoint}
-use Rattle.tcp_model.specs.SendError.TheVariants as Sending
-use Rattle.tcp_model.specs.State.{State}
-use Rattle.tcp_model.specs.States.{takes_writes}
-use Rattle.tcp_tie.specs.History.{closes_in, closed_by}
-use Rattle.tcp_tie.specs.Tie.{Past}
-use Rattle.tcp_tie.specs.declared.pair.event.SentSegment.{SentSegment}
-use Rattle.tcp_tie.specs.declared.pair.event.Side.{Side}
-use Rattle.tcp_tie.specs.declared.pair.event.PairEvent.{PairEvent}
-use Rattle.tcp_tie.specs.declared.pair.event.PairEvent.TheVariants.{Listen, Connect, Send, Recv, Close, Abort, TcpSetting, Clock, Offer, Deliver}
-use Rattle.tcp_tie.specs.declared.pair.event.PairAnswer.{PairAnswer}
-use Rattle.tcp_tie.specs.declared.pair.event.PairAnswer.TheVariants.{Done, Count, Bytes, Error}
-use Rattle.tcp_tie.specs.Pair.History.{adds, listen_adds, connect_adds, send_adds, recv_adds}
-use Rattle.tcp_tie.specs.Pair.Steps.{acts, send_says}
-use Rattle.tcp_tie.specs.Pair.Values.{PairSide}
+use Rattle.tcp_block.specs.SendError.TheVariants as Sending
+use Rattle.tcp_block.specs.State.{State}
+use Rattle.tcp_block.specs.States.{takes_writes}
+use Rattle.tcp_refinement.specs.History.{closes_in, closed_by}
+use Rattle.tcp_refinement.specs.Tie.{Past}
+use Rattle.tcp_refinement.specs.declared.pair.event.SentSegment.{SentSegment}
+use Rattle.tcp_refinement.specs.declared.pair.event.Side.{Side}
+use Rattle.tcp_refinement.specs.declared.pair.event.PairEvent.{PairEvent}
+use Rattle.tcp_refinement.specs.declared.pair.event.PairEvent.TheVariants.{Listen, Connect, Send, Recv, Close, Abort, TcpSetting, Clock, Offer, Deliver}
+use Rattle.tcp_refinement.specs.declared.pair.event.PairAnswer.{PairAnswer}
+use Rattle.tcp_refinement.specs.declared.pair.event.PairAnswer.TheVariants.{Done, Count, Bytes, Error}
+use Rattle.tcp_refinement.specs.Pair.History.{adds, listen_adds, connect_adds, send_adds, recv_adds}
+use Rattle.tcp_refinement.specs.Pair.Steps.{acts, send_says}
+use Rattle.tcp_refinement.specs.Pair.Values.{PairSide}
 use Rattle.tcp_pair.specs.Ends.{EndValue, with_own, tallied, count_in}
 use Rattle.tcp_pair.specs.Invariant.{Tallies}
 
@@ -32,13 +32,13 @@ few_by false n free = omega arith
 pub acts_few : (s : PairSide) (others : List SentSegment) (event : PairEvent) → IsFew event (acts s others event).answer
 acts_few s others (Listen side endpoint) = tt
 acts_few s others (Connect side remote local) = tt
-acts_few s others (Send side bytes) = few_by (takes_writes s.socket.block.state) (length bytes) (length s.socket.queued.free)
+acts_few s others (Send side bytes) = few_by (takes_writes s.socket.tcb.state) (length bytes) (length s.socket.queued.free)
 acts_few s others (Recv side count) = tt
 acts_few s others (Close side) = tt
 acts_few s others (Abort side) = tt
 acts_few s others (TcpSetting side setting) = tt
-acts_few s others (Clock side moment) = tt
-acts_few s others (Offer side moment sent) = tt
+acts_few s others (Clock side instant) = tt
+acts_few s others (Offer side instant sent) = tt
 acts_few s others (Deliver from k) = tt
 
 module _ (e : EndValue) (p : Past) (own : PairSide) (t : Tallies e p) where
@@ -90,6 +90,6 @@ module _ (e : EndValue) (p : Past) (own : PairSide) (t : Tallies e p) where
       record { opened = c.opened; accepted = omega (arith, c.accepted) }
   tallies_on (Abort side) answer found few = record { opened = t.opened; accepted = count_none }
   tallies_on (TcpSetting side setting) answer found few = record { opened = t.opened; accepted = count_none }
-  tallies_on (Clock side moment) answer found few = record { opened = t.opened; accepted = count_none }
-  tallies_on (Offer side moment sent) answer found few = record { opened = t.opened; accepted = count_none }
+  tallies_on (Clock side instant) answer found few = record { opened = t.opened; accepted = count_none }
+  tallies_on (Offer side instant sent) answer found few = record { opened = t.opened; accepted = count_none }
   tallies_on (Deliver from k) answer found few = record { opened = t.opened; accepted = count_none }

@@ -1,26 +1,26 @@
 -- One of the two sockets with what a pair keeps of it, and what an event does to it.
 use Rattle.std.specs.Prelude.{ℕ, ◌+◌, ◌^◌, ◌<◌, ◌≤◌, nat_lt, nat_le, not, ◌||◌, pos, Bool, true, false, List, [], length, Option, None, IfSome}
 use Rattle.net_base.specs.Time.{IsMoment}
-use Rattle.socket_base.specs.Packet.{PacketValue, PayloadValue, packet_of}
-use Rattle.socket_base.specs.Packet as Carried
-use Rattle.tcp_model.specs.Offers.{payload_of}
-use Rattle.tcp_model.specs.Value.{TcpValue}
-use Rattle.tcp_tie.specs.declared.pair.event.Side.{Side}
-use Rattle.tcp_tie.specs.declared.pair.event.SentSegment.{SentSegment}
-use Rattle.tcp_tie.specs.declared.pair.event.PairEvent.{PairEvent}
-use Rattle.tcp_tie.specs.declared.pair.event.PairEvent.TheVariants.{Listen, Connect, Send, Recv, Close, Abort, TcpSetting, Clock, Offer, Deliver}
-use Rattle.tcp_tie.specs.declared.pair.event.PairAnswer.{PairAnswer}
-use Rattle.tcp_tie.specs.declared.pair.event.PairAnswer.TheVariants.{Done, Count, Bytes}
-use Rattle.tcp_tie.specs.declared.pair.event.PairRefused.{PairRefused}
-use Rattle.tcp_tie.specs.declared.pair.event.PairRefused.TheVariants.{NoSegment, OpenedTwice, TooManyBytes, Moment}
-use Rattle.tcp_tie.specs.Pair.History.{side_of}
-use Rattle.tcp_tie.specs.Pair.Sides.{Both, at, put, other}
-use Rattle.tcp_tie.specs.Pair.Steps.{Acted, acts, if_so, may_come}
-use Rattle.tcp_tie.specs.Pair.Values.{PairSide}
+use Rattle.socket_context.specs.Packet.{PacketValue, PayloadValue, packet_of}
+use Rattle.socket_context.specs.Packet as Carried
+use Rattle.tcp_block.specs.Offers.{payload_of}
+use Rattle.tcp_block.specs.Value.{TcpValue}
+use Rattle.tcp_refinement.specs.declared.pair.event.Side.{Side}
+use Rattle.tcp_refinement.specs.declared.pair.event.SentSegment.{SentSegment}
+use Rattle.tcp_refinement.specs.declared.pair.event.PairEvent.{PairEvent}
+use Rattle.tcp_refinement.specs.declared.pair.event.PairEvent.TheVariants.{Listen, Connect, Send, Recv, Close, Abort, TcpSetting, Clock, Offer, Deliver}
+use Rattle.tcp_refinement.specs.declared.pair.event.PairAnswer.{PairAnswer}
+use Rattle.tcp_refinement.specs.declared.pair.event.PairAnswer.TheVariants.{Done, Count, Bytes}
+use Rattle.tcp_refinement.specs.declared.pair.event.PairRefused.{PairRefused}
+use Rattle.tcp_refinement.specs.declared.pair.event.PairRefused.TheVariants.{NoSegment, OpenedTwice, TooManyBytes, Moment}
+use Rattle.tcp_refinement.specs.Pair.History.{side_of}
+use Rattle.tcp_refinement.specs.Pair.Sides.{Both, at, put, other}
+use Rattle.tcp_refinement.specs.Pair.Steps.{Acted, acts, if_so, may_come}
+use Rattle.tcp_refinement.specs.Pair.Values.{PairSide}
 use Rattle.tcp_pair.specs.Context.{seed_of}
 use Rattle.tcp_pair.specs.States.{SideState, bare, side_on}
 
--- Which side it is; its socket, segments, last moment and random words; whether it was opened; how many bytes it took for sending.
+-- Which side it is; its socket, segments, last instant and random words; whether it was opened; how many bytes it took for sending.
 pub record EndValue : Type 0 where
   pub side : Side
   pub own : SideState
@@ -28,10 +28,10 @@ pub record EndValue : Type 0 where
   pub accepted : ℕ
 
 -- a socket to which nothing happened yet
-abbrev pub fresh_end : Side → TcpValue → EndValue
-fresh_end side socket = record {
+abbrev pub initial_end : Side → TcpValue → EndValue
+initial_end side socket = record {
   side = side;
-  own = record { socket = socket; sent = []; moment = pos 0; random = seed_of side };
+  own = record { socket = socket; sent = []; instant = pos 0; random = seed_of side };
   opened = false;
   accepted = 0;
 }
@@ -47,8 +47,8 @@ named (Recv side count) = side
 named (Close side) = side
 named (Abort side) = side
 named (TcpSetting side setting) = side
-named (Clock side moment) = side
-named (Offer side moment sent) = side
+named (Clock side instant) = side
+named (Offer side instant sent) = side
 named (Deliver from k) = from
 
 abbrev pub refusal_at : EndValue → PairEvent → Option PairRefused
@@ -56,15 +56,15 @@ refusal_at e (Deliver from k) = if_so (not (nat_lt k (length e.own.sent))) NoSeg
 refusal_at e (Listen side endpoint) = if_so e.opened OpenedTwice
 refusal_at e (Connect side remote local) = if_so e.opened OpenedTwice
 refusal_at e (Send side bytes) = if_so (nat_le (2 ^ 29) (e.accepted + length bytes)) TooManyBytes
-refusal_at e (Clock side moment) = if_so (not (may_come e.own.moment moment)) Moment
-refusal_at e (Offer side moment sent) = if_so (not (may_come e.own.moment moment)) Moment
+refusal_at e (Clock side instant) = if_so (not (may_come e.own.instant instant)) Moment
+refusal_at e (Offer side instant sent) = if_so (not (may_come e.own.instant instant)) Moment
 refusal_at e event = None
 
 -- what is known of an event that isn't refused
 abbrev pub MayAct : EndValue → PairEvent → Type 0
 MayAct e (Send side bytes) = e.accepted + length bytes < 2 ^ 29
-MayAct e (Clock side moment) = IsMoment moment
-MayAct e (Offer side moment sent) = IsMoment moment
+MayAct e (Clock side instant) = IsMoment instant
+MayAct e (Offer side instant sent) = IsMoment instant
 MayAct e event = Unit {0}
 
 -- WHAT A SIDE DOES

@@ -1,16 +1,16 @@
 -- What the fields of a pair show and keep.
 use Rattle.std.specs.Prelude.{◌≡◌, ◌⊎◌, ℕ, ◌≤◌, List, [], ◌∷◌, length, take, drop, None, Some}
-use Rattle.tcp_tie.specs.Tie.{Past}
-use Rattle.tcp_tie.specs.declared.pair.event.Side.{Side}
-use Rattle.tcp_tie.specs.declared.pair.event.PairEvent.{PairEvent}
-use Rattle.tcp_tie.specs.declared.pair.event.PairAnswer.{PairAnswer}
-use Rattle.tcp_tie.specs.declared.pair.event.PairRefused.{PairRefused}
-use Rattle.tcp_tie.specs.declared.pair.event.PairRefused.TheVariants.{Memory}
-use Rattle.tcp_tie.specs.Pair.History.{Entry, pasts}
-use Rattle.tcp_tie.specs.Pair.Safe.{IsKept}
-use Rattle.tcp_tie.specs.Pair.Sides.{Both, at}
-use Rattle.tcp_tie.specs.Pair.Steps.{Steps, was_opened, refusal}
-use Rattle.tcp_tie.specs.Pair.Values.{PairValue}
+use Rattle.tcp_refinement.specs.Tie.{Past}
+use Rattle.tcp_refinement.specs.declared.pair.event.Side.{Side}
+use Rattle.tcp_refinement.specs.declared.pair.event.PairEvent.{PairEvent}
+use Rattle.tcp_refinement.specs.declared.pair.event.PairAnswer.{PairAnswer}
+use Rattle.tcp_refinement.specs.declared.pair.event.PairRefused.{PairRefused}
+use Rattle.tcp_refinement.specs.declared.pair.event.PairRefused.TheVariants.{Memory}
+use Rattle.tcp_refinement.specs.Pair.History.{Entry, pasts}
+use Rattle.tcp_refinement.specs.Pair.Safe.{IsKept}
+use Rattle.tcp_refinement.specs.Pair.Sides.{Both, at}
+use Rattle.tcp_refinement.specs.Pair.Steps.{Steps, was_opened, refusal}
+use Rattle.tcp_refinement.specs.Pair.Values.{PairValue}
 use Rattle.tcp_pair.specs.Ends.{EndValue}
 use Rattle.tcp_pair.specs.States.{PairState, SideState, hosted}
 use Rattle.tcp_pair.specs.declared.pair.Taken.{Taken}
@@ -40,13 +40,13 @@ pub record IsPairOf (ends : Both EndValue) (taken : List Taken) (answers : List 
   pub tallies : (side : Side) → Tallies (at ends side) (at (pasts (history_from [] taken answers)) side)
   pub kept : IsKept (hosted (pair_of ends taken answers))
 
--- a refusal of an event: that which it must have, or want of memory where it must have none
+-- a refusal of an event: that which it must have, or lack of memory where it must have none
 abbrev pub MayRefuse : PairValue → PairEvent → PairRefused → Type 0
 MayRefuse p event refused = (refusal p event ≡ Some refused) ⊎ ((refusal p event ≡ None) × (refused ≡ Memory))
 
 -- so many of the events have been taken, and these are left
-pub record HasRun (old : PairValue) (events : List PairEvent) (place : ℕ) (left : List PairEvent) (now : PairValue) : Type 0 where
-  pub steps : Steps old (take place events) now
-  pub left_over : drop place events ≡ left
-  pub bound : place ≤ length events
+pub record HasRun (old : PairValue) (events : List PairEvent) (offset : ℕ) (left : List PairEvent) (now : PairValue) : Type 0 where
+  pub steps : Steps old (take offset events) now
+  pub left_over : drop offset events ≡ left
+  pub bound : offset ≤ length events
   pub kept : IsKept now

@@ -1,18 +1,18 @@
--- A pair as a program shows it. What a side knows of its host has functions, which no value of a program has: so it stands beside.
+-- A pair as a program shows it. What a side knows of its host has functions, which no value of a program has: so it stands alongside.
 use Rattle.std.specs.Prelude.{ℕ, ℤ, List}
-use Rattle.tcp_model.specs.Value.{TcpValue}
-use Rattle.tcp_tie.specs.declared.pair.event.SentSegment.{SentSegment}
-use Rattle.tcp_tie.specs.declared.pair.event.Side.{Side}
-use Rattle.tcp_tie.specs.declared.pair.event.Side.TheVariants.{A, B}
-use Rattle.tcp_tie.specs.Pair.History.{Entry}
-use Rattle.tcp_tie.specs.Pair.Sides.{Both}
-use Rattle.tcp_tie.specs.Pair.Values.{PairSide, PairValue, host_of}
+use Rattle.tcp_block.specs.Value.{TcpValue}
+use Rattle.tcp_refinement.specs.declared.pair.event.SentSegment.{SentSegment}
+use Rattle.tcp_refinement.specs.declared.pair.event.Side.{Side}
+use Rattle.tcp_refinement.specs.declared.pair.event.Side.TheVariants.{A, B}
+use Rattle.tcp_refinement.specs.Pair.History.{Entry}
+use Rattle.tcp_refinement.specs.Pair.Sides.{Both}
+use Rattle.tcp_refinement.specs.Pair.Values.{PairSide, PairValue, host_of}
 
--- a socket, the segments that it sent, oldest first, its last moment, and the state of its random words
+-- a socket, the segments that it sent, oldest first, its last instant, and the state of its random words
 pub record SideState : Type 0 where
   pub socket : TcpValue
   pub sent : List SentSegment
-  pub moment : ℤ
+  pub instant : ℤ
   pub random : ℕ
 
 pub record PairState : Type 0 where
@@ -21,10 +21,10 @@ pub record PairState : Type 0 where
 
 -- on the host of this side, and without it
 abbrev pub side_on : Side → SideState → PairSide
-side_on side s = record { socket = s.socket; host = host_of side; sent = s.sent; moment = s.moment; random = s.random }
+side_on side s = record { socket = s.socket; host = host_of side; sent = s.sent; instant = s.instant; random = s.random }
 
 abbrev pub bare : PairSide → SideState
-bare s = record { socket = s.socket; sent = s.sent; moment = s.moment; random = s.random }
+bare s = record { socket = s.socket; sent = s.sent; instant = s.instant; random = s.random }
 
 -- both on their hosts: what the laws speak of
 abbrev pub hosted : PairState → PairValue

@@ -1,12 +1,12 @@
 //! What the calls of a socket answer, as answers of a pair; and the segments that it sends.
 ghost use Rattle.std.specs.Prelude.{◌≡◌, ◌≢◌, [], Some, vec_capacity};
-ghost use Rattle.socket_base.specs.Packet.{packet_value};
-ghost use Rattle.tcp_tie.specs.Pair.Steps.{listen_says, connect_says, send_says, recv_fault, limit_of};
+ghost use Rattle.socket_context.specs.Packet.{packet_value};
+ghost use Rattle.tcp_refinement.specs.Pair.Steps.{listen_says, connect_says, send_says, recv_fault, limit_of};
 ghost use Rattle.tcp_pair.specs.Ends.{is_done, count_in, IsShort, carried, FitsRoom};
 
-use socket_base::{IpPayload, Packet};
+use socket_context::{IpPayload, Packet};
+use tcp_refinement::pair::{Bytes, PairAnswer, SentSegment, TcpFault};
 use tcp_socket::{ConnectError, ListenError, RecvError, SendError};
-use tcp_tie::pair::{Bytes, PairAnswer, SentSegment, TcpFault};
 
 /// An answer and its twin, which the pair keeps.
 pub(crate) type Twins = (PairAnswer, PairAnswer);
@@ -102,11 +102,11 @@ pub(crate) fn segment_of(packet: &Packet<'_>, mut bytes: Vec<u8>) -> SentSegment
     ensures { carried result ≡ packet_value packet.now }
 {
     match packet.payload() {
-        IpPayload::Tcp(header, text) => {
-            let Ok(()) = bytes.extend_from_slice(text.first) else {
+        IpPayload::Tcp(header, payload) => {
+            let Ok(()) = bytes.extend_from_slice(payload.first) else {
                 unreachable!()
             };
-            let Ok(()) = bytes.extend_from_slice(text.rest) else {
+            let Ok(()) = bytes.extend_from_slice(payload.rest) else {
                 unreachable!()
             };
             SentSegment {

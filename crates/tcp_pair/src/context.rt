@@ -1,25 +1,25 @@
 //! What each of two sockets knows of the network that it is in.
 ghost use Rattle.std.specs.Prelude.{◌≡◌, pos};
 ghost use Rattle.net_base.specs.Time.{IsMoment};
-ghost use Rattle.tcp_tie.specs.Pair.Values.{address_of, source_at};
+ghost use Rattle.tcp_refinement.specs.Pair.Values.{address_of, source_at};
 ghost use Rattle.tcp_pair.specs.Context.{seed_of};
 
 use ip_wire::{IpAddress, Ipv4Address};
 use net_base::{ChecksumCapabilities, Instant, Rand};
-use socket_base::Context;
-use socket_base::addresses::is_same_address;
+use socket_context::Context;
+use socket_context::addresses::is_same_address;
 use std::marker::Model;
-use tcp_tie::pair::Side;
+use tcp_refinement::pair::Side;
 
 /// The longest IP packet that a frame holds.
 pub const IP_MTU: usize = 1500;
 
 /// What a side of a pair knows: the one IPv4 address 192.168.1.1 (A) or 192.168.1.2 (B), an IP MTU of 1500,
-/// all checksums handled both ways, the random words of seed 1 (A) or 2 (B), and its last moment.
+/// all checksums handled both ways, the random words of seed 1 (A) or 2 (B), and its last instant.
 #[derive(Debug, Drop)]
 pub struct PairContext {
     side: Side,
-    moment: Instant,
+    instant: Instant,
     words: Rand,
 }
 
@@ -29,15 +29,15 @@ impl Model for PairContext {
 
     ghost Value = { PairContextValue };
 
-    ghost view = { λ c. record { side = c.side; moment = c.moment; random = c.words } };
+    ghost view = { λ c. record { side = c.side; instant = c.instant; random = c.words } };
 
-    ghost invariant = { λ c. IsMoment c.moment };
+    ghost invariant = { λ c. IsMoment c.instant };
 }
 
 impl PairContext {
-    /// The context of a side at moment 0.
+    /// The context of a side at instant 0.
     pub fn new(side: Side) -> PairContext
-        ensures { result ≡ record { side = side; moment = pos 0; random = seed_of side } }
+        ensures { result ≡ record { side = side; instant = pos 0; random = seed_of side } }
     {
         let seed = match side {
             Side::A => 1,
@@ -45,7 +45,7 @@ impl PairContext {
         };
         PairContext {
             side,
-            moment: Instant::ZERO,
+            instant: Instant::ZERO,
             words: Rand::new(seed),
         }
     }
@@ -67,12 +67,12 @@ impl PairContext {
         }
     }
 
-    /// Goes on to a moment.
-    pub fn set_now(&mut self, moment: Instant)
-        requires { IsMoment moment }
-        ensures { self.new ≡ record self.old { moment = moment } }
+    /// Goes on to an instant.
+    pub fn set_now(&mut self, instant: Instant)
+        requires { IsMoment instant }
+        ensures { self.new ≡ record self.old { instant = instant } }
     {
-        self.moment = moment;
+        self.instant = instant;
     }
 }
 
@@ -85,7 +85,7 @@ impl Context for PairContext {
     ghost drawn = { drawn };
 
     fn now(&self) -> Instant {
-        self.moment
+        self.instant
     }
 
     fn has_ip_addr(&self, addr: &IpAddress) -> bool {

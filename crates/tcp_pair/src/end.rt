@@ -1,12 +1,12 @@
 //! One of the two sockets, with what a pair keeps of it.
 ghost use Rattle.std.specs.Prelude.{◌≡◌, ◌<◌, ◌+◌, ◌^◌, true, false, [], length, slice_get, IfOk, OnOk, OnErr, vec_len, vec_capacity, min, max};
 ghost use Rattle.net_base.specs.Time.{IsMoment};
-ghost use Rattle.tcp_tie.specs.declared.pair.event.PairEvent.TheVariants as Event;
-ghost use Rattle.tcp_tie.specs.Pair.History.{side_of};
-ghost use Rattle.tcp_model.specs.Calls.{recv_answer};
-ghost use Rattle.tcp_tie.specs.Pair.Steps.{acts, set_by, reads, offered_at, handed, comes_to};
-ghost use Rattle.tcp_tie.specs.Pair.Values.{and_reply, and_offer};
-ghost use Rattle.tcp_pair.specs.Ends.{fresh_end, refusal_at, MayAct, on_host, with_own, after_event, IsShort, HasRoom};
+ghost use Rattle.tcp_refinement.specs.declared.pair.event.PairEvent.TheVariants as Event;
+ghost use Rattle.tcp_refinement.specs.Pair.History.{side_of};
+ghost use Rattle.tcp_block.specs.Calls.{recv_answer};
+ghost use Rattle.tcp_refinement.specs.Pair.Steps.{acts, set_by, reads, offered_at, handed, comes_to};
+ghost use Rattle.tcp_refinement.specs.Pair.Values.{and_reply, and_offer};
+ghost use Rattle.tcp_pair.specs.Ends.{initial_end, refusal_at, MayAct, on_host, with_own, after_event, IsShort, HasRoom};
 ghost use Rattle.tcp_socket.specs.Replies.{replies_in};
 
 use crate::answer::{
@@ -16,11 +16,13 @@ use crate::answer::{
 use crate::context::{IP_MTU, PairContext};
 use ip_wire::{IpEndpoint, IpListenEndpoint, IpRepr, TcpRepr};
 use net_base::Instant;
-use socket_base::Context;
+use socket_context::Context;
 use std::alloc::{AllocError, Global};
 use std::marker::Model;
+use tcp_refinement::pair::{
+    Bytes, PairAnswer, PairEvent, PairRefused, SentSegment, Side, TcpSetting,
+};
 use tcp_socket::Socket;
-use tcp_tie::pair::{Bytes, PairAnswer, PairEvent, PairRefused, SentSegment, Side, TcpSetting};
 
 /// So many bytes and more aren't taken from a user: the numbers of one stream stay near one another.
 const MOST_BYTES: usize = 1 << 29;
@@ -44,7 +46,7 @@ impl Model for End {
     ghost view = { λ e. record {
       side = e.context.side;
       own =
-          record { socket = e.socket; sent = e.sent.items; moment = e.context.moment; random = e.context.random };
+          record { socket = e.socket; sent = e.sent.items; instant = e.context.instant; random = e.context.random };
       opened = e.opened;
       accepted = e.accepted;
     } };
@@ -53,7 +55,7 @@ impl Model for End {
 impl End {
     /// A socket to which nothing happened yet.
     pub(crate) fn new(alloc: Global, side: Side, socket: Socket) -> End
-        ensures { result ≡ fresh_end side socket }
+        ensures { result ≡ initial_end side socket }
     {
         End {
             socket,
@@ -70,9 +72,9 @@ impl End {
         &self.socket
     }
 
-    /// Its last moment.
-    pub(crate) fn moment(&self) -> Instant
-        ensures { result ≡ self.now.own.moment }
+    /// Its last instant.
+    pub(crate) fn instant(&self) -> Instant
+        ensures { result ≡ self.now.own.instant }
     {
         self.context.now()
     }
@@ -84,7 +86,7 @@ impl End {
         self.sent.as_slice()
     }
 
-    /// Why it doesn't take an event that names it, but for want of memory.
+    /// Why it doesn't take an event that names it, but for lack of memory.
     pub(crate) fn refusal(&self, event: &PairEvent) -> Option<PairRefused>
         ensures { result ≡ refusal_at self.now event.now }
     {
@@ -100,8 +102,8 @@ impl End {
                 let all = self.accepted.saturating_add(bytes.as_slice().len());
                 (MOST_BYTES <= all).then_some(PairRefused::TooManyBytes)
             }
-            PairEvent::Clock(_, moment) | PairEvent::Offer(_, moment, _) => {
-                let may_come = moment.is_moment() && self.context.now() <= *moment;
+            PairEvent::Clock(_, instant) | PairEvent::Offer(_, instant, _) => {
+                let may_come = instant.is_moment() && self.context.now() <= *instant;
                 (!may_come).then_some(PairRefused::Moment)
             }
             PairEvent::Recv(_, _)
@@ -143,12 +145,12 @@ impl End {
                 self.set(setting);
                 Ok((PairAnswer::Done, PairAnswer::Done))
             }
-            PairEvent::Clock(_, moment) => {
-                self.context.set_now(*moment);
+            PairEvent::Clock(_, instant) => {
+                self.context.set_now(*instant);
                 Ok((PairAnswer::Done, PairAnswer::Done))
             }
-            PairEvent::Offer(_, moment, sent) => {
-                self.offer(alloc, *moment, *sent)?;
+            PairEvent::Offer(_, instant, sent) => {
+                self.offer(alloc, *instant, *sent)?;
                 Ok((PairAnswer::Done, PairAnswer::Done))
             }
             PairEvent::Deliver(_, k) => {
@@ -231,38 +233,38 @@ impl End {
         }
     }
 
-    fn offer(&mut self, alloc: Global, moment: Instant, sent: bool) -> Result<(), AllocError>
-        requires { IsMoment moment }
-        ensures after { OnOk result (self.new ≡ with_own self.old (offered_at self.old.side (record (on_host self.old) { moment = moment }) sent)) }
+    fn offer(&mut self, alloc: Global, instant: Instant, sent: bool) -> Result<(), AllocError>
+        requires { IsMoment instant }
+        ensures after { OnOk result (self.new ≡ with_own self.old (offered_at self.old.side (record (on_host self.old) { instant = instant }) sent)) }
         ensures unchanged { OnErr result (self.new ≡ self.old) }
     {
         if sent {
-            self.offer_sent(alloc, moment)
+            self.offer_sent(alloc, instant)
         } else {
-            self.offer_unsent(moment);
+            self.offer_unsent(instant);
             Ok(())
         }
     }
 
-    fn offer_unsent(&mut self, moment: Instant)
-        requires { IsMoment moment }
-        ensures { self.new ≡ with_own self.old (offered_at self.old.side (record (on_host self.old) { moment = moment }) false) }
+    fn offer_unsent(&mut self, instant: Instant)
+        requires { IsMoment instant }
+        ensures { self.new ≡ with_own self.old (offered_at self.old.side (record (on_host self.old) { instant = instant }) false) }
     {
-        self.context.set_now(moment);
+        self.context.set_now(instant);
         self.socket.offer(&self.context);
         self.socket.settle(false);
     }
 
     /// The segment that is offered joins those that were sent.
-    fn offer_sent(&mut self, alloc: Global, moment: Instant) -> Result<(), AllocError>
-        requires { IsMoment moment }
-        ensures after { OnOk result (self.new ≡ with_own self.old (offered_at self.old.side (record (on_host self.old) { moment = moment }) true)) }
+    fn offer_sent(&mut self, alloc: Global, instant: Instant) -> Result<(), AllocError>
+        requires { IsMoment instant }
+        ensures after { OnOk result (self.new ≡ with_own self.old (offered_at self.old.side (record (on_host self.old) { instant = instant }) true)) }
         ensures unchanged { OnErr result (self.new ≡ self.old) }
     {
         self.sent.try_reserve(1)?;
         let room = room_for(self.socket.send_queue());
         let bytes = Vec::with_capacity(alloc, room)?;
-        self.context.set_now(moment);
+        self.context.set_now(instant);
         self.socket.offer(&self.context);
         join_offered(&self.socket, &mut self.sent, bytes);
         self.socket.settle(true);
@@ -302,7 +304,7 @@ fn join_answer(
     sent: &mut Vec<SentSegment>,
     answer: Option<(IpRepr, TcpRepr<'static>)>,
 )
-    requires place { vec_len sent.old < vec_capacity sent.old }
+    requires offset { vec_len sent.old < vec_capacity sent.old }
     ensures { sent.new.items ≡ and_reply sent.old.items (replies_in answer.entry) }
 {
     match answer {
@@ -319,7 +321,7 @@ fn join_answer(
 fn join_offered(socket: &Socket, sent: &mut Vec<SentSegment>, bytes: Vec<u8>)
     requires empty { bytes.items ≡ [] }
     requires room { HasRoom (vec_capacity bytes) socket.now }
-    requires place { vec_len sent.old < vec_capacity sent.old }
+    requires offset { vec_len sent.old < vec_capacity sent.old }
     ensures { sent.new.items ≡ and_offer sent.old.items socket.now.offered socket.now.queued.queue }
 {
     match socket.offered() {

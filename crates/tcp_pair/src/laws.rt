@@ -1,14 +1,14 @@
 //! What settling asks for is met.
 ghost use Rattle.std.specs.Prelude.{List};
-ghost use Rattle.tcp_tie.specs.Pair.Values.{PairValue};
-ghost use Rattle.tcp_tie.specs.declared.pair.event.PairEvent.{PairEvent};
-ghost use Rattle.tcp_tie.specs.declared.pair.event.Side.{Side};
-ghost use Rattle.tcp_progress.specs.Connection.{Course, MayConverse};
-ghost use Rattle.tcp_progress.specs.Met.{conversing, conversing_across, timed_conversing};
-ghost use Rattle.tcp_progress.specs.Reached.{IsReached};
+ghost use Rattle.tcp_refinement.specs.Pair.Values.{PairValue};
+ghost use Rattle.tcp_refinement.specs.declared.pair.event.PairEvent.{PairEvent};
+ghost use Rattle.tcp_refinement.specs.declared.pair.event.Side.{Side};
+ghost use Rattle.tcp_liveness.specs.Connection.{Course, MayConverse};
+ghost use Rattle.tcp_liveness.specs.Met.{conversing, conversing_across, timed_conversing};
+ghost use Rattle.tcp_liveness.specs.Reached.{IsReached};
 ghost use Rattle.tcp_pair.specs.Settling.{CanSettle};
 
-use tcp_progress::{connection, met};
+use tcp_liveness::{connection, met};
 
 /// By each connection that opened, though segments of its handshake were lost or its SYNs crossed, and in which both users wrote, and closed if
 /// they liked (`MayConverse`): so `settle` brings all of it. Such ones are those of two sockets with room for 64 bytes, of which each user writes

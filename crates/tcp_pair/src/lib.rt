@@ -10,6 +10,6 @@ mod settle;
 
 pub use context::{IP_MTU, PairContext};
 pub use pair::Pair;
-pub use tcp_tie::pair::{
+pub use tcp_refinement::pair::{
     Bytes, PairAnswer, PairEvent, PairRefused, SentSegment, Side, TcpFault, TcpSetting,
 };

@@ -1,13 +1,13 @@
 //! Two sockets, and what happened to them.
 ghost use Rattle.std.specs.Prelude.{◌≡◌, ◌<◌, take, length, slice_get, IfOk, IfErr, IfSome, OnOk, OnErr, None, Err};
-ghost use Rattle.tcp_tie.specs.Promises.{IsFresh};
-ghost use Rattle.tcp_tie.specs.Pair.History.{side_of, answers_of};
-ghost use Rattle.tcp_tie.specs.Pair.Safe.{IsKept, IsSafe};
-ghost use Rattle.tcp_tie.specs.Pair.Sides.{at};
-ghost use Rattle.tcp_tie.specs.Pair.Steps.{refusal, happens, Steps};
-ghost use Rattle.tcp_tie.specs.Pair.Values.{new_pair};
-ghost use Rattle.tcp_tie.specs.declared.pair.event.Side.TheVariants.{A, B};
-ghost use Rattle.tcp_progress.specs.Reached.{IsReached};
+ghost use Rattle.tcp_refinement.specs.Promises.{IsInitial};
+ghost use Rattle.tcp_refinement.specs.Pair.History.{side_of, answers_of};
+ghost use Rattle.tcp_refinement.specs.Pair.Safe.{IsKept, IsSafe};
+ghost use Rattle.tcp_refinement.specs.Pair.Sides.{at};
+ghost use Rattle.tcp_refinement.specs.Pair.Steps.{refusal, happens, Steps};
+ghost use Rattle.tcp_refinement.specs.Pair.Values.{new_pair};
+ghost use Rattle.tcp_refinement.specs.declared.pair.event.Side.TheVariants.{A, B};
+ghost use Rattle.tcp_liveness.specs.Reached.{IsReached};
 ghost use Rattle.tcp_pair.specs.Ends.{named, MayAct, acted_at, ends_after};
 ghost use Rattle.tcp_pair.specs.Invariant.{MayRefuse};
 ghost use Rattle.tcp_pair.specs.Settling.{IsNewSocket};
@@ -18,8 +18,8 @@ use crate::end::End;
 use net_base::Instant;
 use std::alloc::{AllocError, Global};
 use std::marker::Model;
+use tcp_refinement::pair::{PairAnswer, PairEvent, PairRefused, SentSegment, Side};
 use tcp_socket::{Socket, State};
-use tcp_tie::pair::{PairAnswer, PairEvent, PairRefused, SentSegment, Side};
 
 /// An event that was taken, and the state in which it found the socket that it is for.
 #[derive(Drop)]
@@ -59,8 +59,8 @@ impl Pair {
     /// Two sockets to which nothing happened yet: closed, with nothing queued or waiting. It allocates nothing:
     /// `alloc` serves later calls.
     pub fn new(alloc: Global, a: Socket, b: Socket) -> Pair
-        requires a { IsFresh a }
-        requires b { IsFresh b }
+        requires a { IsInitial a }
+        requires b { IsInitial b }
         ensures value { hosted result ≡ new_pair a b }
         ensures reached { IsNewSocket a → IsNewSocket b → IsReached (hosted result) }
         ensures kept { IsKept (hosted result) }
@@ -75,7 +75,7 @@ impl Pair {
         }
     }
 
-    /// Why the pair doesn't take an event, but for want of memory.
+    /// Why the pair doesn't take an event, but for lack of memory.
     fn refusal(&self, event: &PairEvent) -> Option<PairRefused>
         ensures value { result ≡ refusal (hosted self.now) event.now }
         ensures kept { IsKept (hosted self.now) }
@@ -103,7 +103,7 @@ impl Pair {
         }
     }
 
-    /// Takes an event that isn't refused but for want of memory.
+    /// Takes an event that isn't refused but for lack of memory.
     fn take(&mut self, event: PairEvent) -> Result<PairAnswer, AllocError>
         requires { refusal (hosted self.old) event ≡ None }
         ensures step { IfOk result (λ answer. happens (hosted self.old) event ≡ record { answer = answer; pair = hosted self.new }) }
@@ -119,12 +119,12 @@ impl Pair {
         Ok(answer)
     }
 
-    /// Takes events in order, up to the first that is refused: its place among them comes with the refusal, and
+    /// Takes events in order, up to the first that is refused: its offset among them comes with the refusal, and
     /// the steps before it stay.
     pub fn run(&mut self, events: Vec<PairEvent>) -> Result<(), (usize, PairRefused)>
         ensures ok { OnOk result (Steps (hosted self.old) events.items (hosted self.new)) }
         ensures err { IfErr result (λ e. Steps (hosted self.old) (take e.0 events.items) (hosted self.new)) }
-        ensures place { IfErr result (λ e. e.0 < length events.items) }
+        ensures offset { IfErr result (λ e. e.0 < length events.items) }
         ensures refused { IfErr result (λ e. IfSome (slice_get events.items e.0) (λ event. MayRefuse (hosted self.new) event e.1)) }
         ensures reached { IsReached (hosted self.old) → IsReached (hosted self.new) }
         ensures kept { IsKept (hosted self.new) }
@@ -132,12 +132,12 @@ impl Pair {
     {
         // The use of a field tells what is always true of a pair: the loop begins with it.
         let _ = &self.answers;
-        let mut place = 0;
+        let mut offset = 0;
         for event in events {
             if let Err(refused) = self.step(event) {
-                return Err((place, refused));
+                return Err((offset, refused));
             }
-            place += 1;
+            offset += 1;
         }
         Ok(())
     }
@@ -149,11 +149,11 @@ impl Pair {
         end_at(&self.a, &self.b, side).socket()
     }
 
-    /// The last moment of a side: 0, or that which its host's clock showed last, or at which it was asked since.
-    pub fn moment(&self, side: Side) -> Instant
-        ensures { result ≡ (at (hosted self.now).sides side).moment }
+    /// The last instant of a side: 0, or that which its host's clock showed last, or at which it was asked since.
+    pub fn instant(&self, side: Side) -> Instant
+        ensures { result ≡ (at (hosted self.now).sides side).instant }
     {
-        end_at(&self.a, &self.b, side).moment()
+        end_at(&self.a, &self.b, side).instant()
     }
 
     /// The segments that a side sent, the oldest first.

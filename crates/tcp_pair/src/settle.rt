@@ -1,23 +1,23 @@
 //! Rounds over a good link, until all that both users wrote was read.
 ghost use Rattle.std.specs.Prelude.{◌≡◌, ◌⊎◌, ◌+◌, ◌<◌, ◌≤◌, ℕ, true, false, None, IfOk, IfErr, OnOk, OnErr};
-ghost use Rattle.tcp_tie.specs.Pair.Safe.{IsKept, IsSafe, read, written};
-ghost use Rattle.tcp_tie.specs.Pair.Sides.{other};
-ghost use Rattle.tcp_tie.specs.Pair.Steps.{refusal};
-ghost use Rattle.tcp_tie.specs.declared.pair.event.PairEvent.TheVariants as Event;
-ghost use Rattle.tcp_tie.specs.declared.pair.event.PairRefused.TheVariants as Refused;
-ghost use Rattle.tcp_tie.specs.declared.pair.event.Side.TheVariants.{A, B};
-ghost use Rattle.tcp_progress.specs.BothWays.{IsThrough, MayTurn, bound, both_read, is_over, roused_in, round_in, rounds_in, turn_in, waits_in, wake_in};
-ghost use Rattle.tcp_progress.specs.Pair.{exchanged_in, next_sent, offered_in};
-ghost use Rattle.tcp_progress.specs.Reached.{IsReached};
-ghost use Rattle.tcp_progress.specs.Rounds.{takes};
-ghost use Rattle.tcp_progress.specs.Settle.{read_in, restart_by, restart_in};
+ghost use Rattle.tcp_refinement.specs.Pair.Safe.{IsKept, IsSafe, read, written};
+ghost use Rattle.tcp_refinement.specs.Pair.Sides.{other};
+ghost use Rattle.tcp_refinement.specs.Pair.Steps.{refusal};
+ghost use Rattle.tcp_refinement.specs.declared.pair.event.PairEvent.TheVariants as Event;
+ghost use Rattle.tcp_refinement.specs.declared.pair.event.PairRefused.TheVariants as Refused;
+ghost use Rattle.tcp_refinement.specs.declared.pair.event.Side.TheVariants.{A, B};
+ghost use Rattle.tcp_liveness.specs.BothWays.{IsThrough, MayTurn, bound, both_read, is_over, roused_in, round_in, rounds_in, turn_in, waits_in, wake_in};
+ghost use Rattle.tcp_liveness.specs.Pair.{exchanged_in, next_sent, offered_in};
+ghost use Rattle.tcp_liveness.specs.Reached.{IsReached};
+ghost use Rattle.tcp_liveness.specs.Rounds.{takes};
+ghost use Rattle.tcp_liveness.specs.Settle.{read_in, restart_by, restart_in};
 ghost use Rattle.tcp_pair.specs.Invariant.{MayRefuse};
-ghost use Rattle.tcp_pair.specs.Settling.{CanSettle, GoesOnTo, IsEndTold, IsOfRound, IsSoon, MaySendAt, StopsRound, answered_by, is_waiting, most_rounds};
+ghost use Rattle.tcp_pair.specs.Settling.{CanSettle, ProceedsTo, IsEndTold, IsOfRound, IsSoon, MaySendAt, StopsRound, answered_by, is_waiting, most_rounds};
 ghost use Rattle.tcp_pair.specs.States.{hosted};
 
 use crate::pair::Pair;
 use net_base::Instant;
-use tcp_tie::pair::{PairEvent, PairRefused, Side};
+use tcp_refinement::pair::{PairEvent, PairRefused, Side};
 
 /// So many bytes and more wait nowhere.
 const ALL_BYTES: usize = 1 << 30;
@@ -27,7 +27,7 @@ impl Pair {
     /// is left. It answers how many rounds there were, at most two for each position that isn't acknowledged.
     ///
     /// In a round each side has its turn, if something of it isn't acknowledged and both connections are there:
-    /// the other's user reads, the clock goes on to the moment that the side's timers name, and what it sends
+    /// the other's user reads, the clock goes on to the instant that the side's timers name, and what it sends
     /// comes, as does what answers that. Segments sent before are lost, but for those that were handed over.
     ///
     /// All gets through, the end of each stream that was closed, too, where events led from two new sockets to
@@ -45,7 +45,7 @@ impl Pair {
         ensures ends { OnOk result (CanSettle (hosted self.old) → (side : Side) → IsEndTold (hosted self.old) (hosted self.new) side) }
         ensures memory { IfErr result (λ refused. CanSettle (hosted self.old) → refused ≡ Refused.Memory) }
         ensures refused { IfErr result StopsRound }
-        ensures leads { GoesOnTo (hosted self.old) (hosted self.new) }
+        ensures leads { ProceedsTo (hosted self.old) (hosted self.new) }
         ensures written { (side : Side) → written (hosted self.new) side ≡ written (hosted self.old) side }
         ensures reached { IsReached (hosted self.old) → IsReached (hosted self.new) }
         ensures kept { IsKept (hosted self.new) }
@@ -64,7 +64,7 @@ impl Pair {
         ensures stops { IfOk result (λ count. (is_waiting (rounds_in count (hosted self.old)) ≡ false) ⊎ (count ≡ most_rounds (hosted self.old))) }
         ensures memory { IfErr result (λ refused. CanSettle (hosted self.old) → refused ≡ Refused.Memory) }
         ensures refused { IfErr result StopsRound }
-        ensures leads { GoesOnTo (hosted self.old) (hosted self.new) }
+        ensures leads { ProceedsTo (hosted self.old) (hosted self.new) }
         ensures kept { OnErr result (IsKept (hosted self.new)) }
     {
         let most = self.most_rounds();
@@ -114,7 +114,7 @@ impl Pair {
         ensures memory { IfErr result (λ refused. IsReached (hosted self.old) → MayTurn (hosted self.old) A
             → MayTurn (turn_in (hosted self.old) A) B → refused ≡ Refused.Memory) }
         ensures refused { IfErr result StopsRound }
-        ensures leads { GoesOnTo (hosted self.old) (hosted self.new) }
+        ensures leads { ProceedsTo (hosted self.old) (hosted self.new) }
         ensures kept { OnErr result (IsKept (hosted self.new)) }
     {
         self.turn(Side::A)?;
@@ -126,15 +126,15 @@ impl Pair {
         ensures turn { OnOk result (hosted self.new ≡ turn_in (hosted self.old) side) }
         ensures memory { IfErr result (λ refused. IsReached (hosted self.old) → MayTurn (hosted self.old) side → refused ≡ Refused.Memory) }
         ensures refused { IfErr result StopsRound }
-        ensures leads { GoesOnTo (hosted self.old) (hosted self.new) }
+        ensures leads { ProceedsTo (hosted self.old) (hosted self.new) }
         ensures kept { OnErr result (IsKept (hosted self.new)) }
     {
         if !self.waits(side) {
             return Ok(());
         }
         self.rouse(side)?;
-        let moment = self.wake_at(side);
-        self.exchange(side, moment)
+        let instant = self.wake_at(side);
+        self.exchange(side, instant)
     }
 
     /// The other's user reads, and the side is asked when its timer runs out, or now where none runs. The link
@@ -145,44 +145,44 @@ impl Pair {
         ensures memory { IfErr result (λ refused. refusal (read_in (hosted self.old) side) (Event.Offer side (restart_in (hosted self.old) side) false) ≡ None
             → refused ≡ Refused.Memory) }
         ensures refused { IfErr result StopsRound }
-        ensures leads { GoesOnTo (hosted self.old) (hosted self.new) }
+        ensures leads { ProceedsTo (hosted self.old) (hosted self.new) }
         ensures kept { IsKept (hosted self.new) }
     {
-        let moment = restart_by(self.moment(side), self.socket(side).retransmit_at());
+        let instant = restart_by(self.instant(side), self.socket(side).retransmit_at());
         self.read(side)?;
-        self.take_on(PairEvent::Offer(side, moment, false))
+        self.take_on(PairEvent::Offer(side, instant, false))
     }
 
-    /// When a side that was roused goes on: at the moment of a probe, or now.
+    /// When a side that was roused goes on: at the instant of a probe, or now.
     fn wake_at(&self, side: Side) -> Instant
         ensures { result ≡ wake_in (hosted self.now) side }
     {
-        restart_by(self.moment(side), self.socket(side).probe_at())
+        restart_by(self.instant(side), self.socket(side).probe_at())
     }
 
     /// A side is asked, what it sends comes to the other, and so does what answers that.
-    fn exchange(&mut self, side: Side, moment: Instant) -> Result<(), PairRefused>
-        ensures exchanged { OnOk result (hosted self.new ≡ exchanged_in (hosted self.old) side moment) }
-        ensures memory { IfErr result (λ refused. MaySendAt (hosted self.old) side moment → refused ≡ Refused.Memory) }
+    fn exchange(&mut self, side: Side, instant: Instant) -> Result<(), PairRefused>
+        ensures exchanged { OnOk result (hosted self.new ≡ exchanged_in (hosted self.old) side instant) }
+        ensures memory { IfErr result (λ refused. MaySendAt (hosted self.old) side instant → refused ≡ Refused.Memory) }
         ensures refused { IfErr result StopsRound }
-        ensures leads { GoesOnTo (hosted self.old) (hosted self.new) }
+        ensures leads { ProceedsTo (hosted self.old) (hosted self.new) }
         ensures kept { IsKept (hosted self.new) }
     {
         let answer = self.sent(other(side)).len();
-        self.send(side, moment)?;
+        self.send(side, instant)?;
         self.answer(side, answer)
     }
 
     /// A side is asked, and what it sends comes to the other.
-    fn send(&mut self, side: Side, moment: Instant) -> Result<(), PairRefused>
-        ensures sent { OnOk result (hosted self.new ≡ offered_in (hosted self.old) side moment) }
-        ensures memory { IfErr result (λ refused. MaySendAt (hosted self.old) side moment → refused ≡ Refused.Memory) }
+    fn send(&mut self, side: Side, instant: Instant) -> Result<(), PairRefused>
+        ensures sent { OnOk result (hosted self.new ≡ offered_in (hosted self.old) side instant) }
+        ensures memory { IfErr result (λ refused. MaySendAt (hosted self.old) side instant → refused ≡ Refused.Memory) }
         ensures refused { IfErr result StopsRound }
-        ensures leads { GoesOnTo (hosted self.old) (hosted self.new) }
+        ensures leads { ProceedsTo (hosted self.old) (hosted self.new) }
         ensures kept { IsKept (hosted self.new) }
     {
         let next = self.sent(side).len();
-        self.take_on(PairEvent::Offer(side, moment, true))?;
+        self.take_on(PairEvent::Offer(side, instant, true))?;
         self.take_on(PairEvent::Deliver(side, next))
     }
 
@@ -192,7 +192,7 @@ impl Pair {
         requires kept { IsKept (hosted self.old) }
         ensures comes { OnOk result (hosted self.new ≡ answered_by (hosted self.old) side k) }
         ensures memory { IfErr result (λ refused. refused ≡ Refused.Memory) }
-        ensures leads { GoesOnTo (hosted self.old) (hosted self.new) }
+        ensures leads { ProceedsTo (hosted self.old) (hosted self.new) }
         ensures kept { IsKept (hosted self.new) }
     {
         if k < self.sent(other(side)).len() {
@@ -202,11 +202,11 @@ impl Pair {
         }
     }
 
-    /// The user of the side's partner reads all that waits.
+    /// The user of the side's peer reads all that waits.
     fn read(&mut self, side: Side) -> Result<(), PairRefused>
         ensures read { OnOk result (hosted self.new ≡ read_in (hosted self.old) side) }
         ensures memory { IfErr result (λ refused. refused ≡ Refused.Memory) }
-        ensures leads { GoesOnTo (hosted self.old) (hosted self.new) }
+        ensures leads { ProceedsTo (hosted self.old) (hosted self.new) }
         ensures kept { IsKept (hosted self.new) }
     {
         self.take_on(PairEvent::Recv(other(side), ALL_BYTES))
@@ -219,7 +219,7 @@ impl Pair {
         ensures allowed { OnOk result (refusal (hosted self.old) event ≡ None) }
         ensures memory { IfErr result (MayRefuse (hosted self.old) event) }
         ensures refused { IfErr result StopsRound }
-        ensures leads { GoesOnTo (hosted self.old) (hosted self.new) }
+        ensures leads { ProceedsTo (hosted self.old) (hosted self.new) }
         ensures kept { IsKept (hosted self.new) }
     {
         match self.step(event) {
@@ -238,12 +238,12 @@ fn other(side: Side) -> Side
     }
 }
 
-/// That moment, or now where there is none or it is past.
-fn restart_by(now: Instant, moment: Option<Instant>) -> Instant
-    ensures { result ≡ restart_by now moment }
+/// That instant, or now where there is none or it is past.
+fn restart_by(now: Instant, instant: Option<Instant>) -> Instant
+    ensures { result ≡ restart_by now instant }
 {
-    match moment {
-        Some(moment) => { if now < moment { moment } else { now } }
+    match instant {
+        Some(instant) => { if now < instant { instant } else { now } }
         None => now,
     }
 }

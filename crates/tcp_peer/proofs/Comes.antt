@@ -1,12 +1,12 @@
 -- An honest segment comes.
 use Rattle.std.proofs.Common.{◌≡◌, ◌⊎◌, inl, inr, ℕ, suc, ◌+◌, ◌<◌, ◌≤◌, nat_lt, Bool, true, false, List, [], ◌∷◌, ◌++◌, length, Some, refl, sym, ap, ◌∙◌}
 use Rattle.std.proofs.Common.{subst, arith}
-use Rattle.tcp_law.specs.Invariant.{HoldsBetween}
-use Rattle.tcp_law.specs.Invariant as law
-use Rattle.tcp_law.specs.Numbers.{wire}
-use Rattle.tcp_law.specs.Segment.{Control, Segment, IsData, IsNoReset}
-use Rattle.tcp_law.specs.Segment.Control.{Plain, Syn, Fin, Rst}
-use Rattle.tcp_law.specs.Side.{Side, rcv_next, one_if}
+use Rattle.tcp_theory.specs.Invariant.{HoldsBetween}
+use Rattle.tcp_theory.specs.Invariant as law
+use Rattle.tcp_theory.specs.Numbers.{wire}
+use Rattle.tcp_theory.specs.Segment.{Control, Segment, IsData, IsNoReset}
+use Rattle.tcp_theory.specs.Segment.Control.{Plain, Syn, Fin, Rst}
+use Rattle.tcp_theory.specs.Side.{Side, rcv_next, one_if}
 use Rattle.tcp_peer.specs.Peer.{End, IsEnd, HasReached, IsSyn, IsPiece, IsOld, IsHonest, SaysOfItself, SaysOfTheOther, as_end}
 use Rattle.tcp_peer.proofs.Among.{acknowledged-more, acknowledged-last}
 use Rattle.tcp_peer.proofs.Shadow.{shadow, HasTaken, IsBeside, Meets, says}
@@ -29,24 +29,24 @@ kind_no_reset t s x (inr (inr syn)) = subst IsNoReset (sym syn.syn) tt
 
 module _ (peer : End) (written : List ℕ) (closed : Bool) (s : Side) (came : List Segment) (x : Segment) (e : IsEnd peer)
     (b : IsBeside peer written closed s came) where
-  abbrev partner : List ℕ → Bool → Side
-  partner took fin = shadow peer written closed b.una took fin came
+  abbrev peer_side : List ℕ → Bool → Side
+  peer_side took fin = shadow peer written closed b.una took fin came
 
   more : HasTaken peer b.took b.fin came → HasTaken peer b.took b.fin (came ++ x ∷ [])
   more (inl nothing) = inl nothing
   more (inr some) = inr (acknowledged-more came (x ∷ []) _ some)
 
   -- it has taken in no more than before
-  same_taken : law.IsHonest (partner b.took b.fin) s x → IsBeside peer written closed s (came ++ x ∷ [])
+  same_taken : law.IsHonest (peer_side b.took b.fin) s x → IsBeside peer written closed s (came ++ x ∷ [])
   same_taken honest = record {
     una = b.una;
     took = b.took;
     fin = b.fin;
     taken = more b.taken;
-    holds = says s (partner b.took b.fin) x b.holds refl refl honest;
+    holds = says s (peer_side b.took b.fin) x b.holds refl refl honest;
   }
 
-  module _ (kind : (took : List ℕ) (fin : Bool) → Kind (partner took fin) s x) where
+  module _ (kind : (took : List ℕ) (fin : Bool) → Kind (peer_side took fin) s x) where
     -- it acknowledges a position
     module _ (number : ℕ) (acks : x.ack ≡ Some number) (h : HasReached peer (as_end s) number) where
       past : peer.heard < h.at
@@ -57,15 +57,15 @@ module _ (peer : End) (written : List ℕ) (closed : Bool) (s : Side) (came : Li
         by (inr far) = far.1
 
       -- that it has taken in before
-      reached_before : h.at ≤ rcv_next (partner b.took b.fin) → IsBeside peer written closed s (came ++ x ∷ [])
+      reached_before : h.at ≤ rcv_next (peer_side b.took b.fin) → IsBeside peer written closed s (came ++ x ∷ [])
       reached_before below =
-          let reached : law.HasReached (partner b.took b.fin) number = record { at = h.at; same = h.same; heard = e.heard.0; after_syn = past; high = below } in
+          let reached : law.HasReached (peer_side b.took b.fin) number = record { at = h.at; same = h.same; heard = e.heard.0; after_syn = past; high = below } in
           same_taken (inr (kind b.took b.fin, inr (number, acks, reached)))
 
       -- that it takes in only now
       reached_now : Reaches peer written closed b.una s came h.at → IsBeside peer written closed s (came ++ x ∷ [])
       reached_now r =
-          let t = partner r.took r.fin in
+          let t = peer_side r.took r.fin in
           let just = r.just in
           let reached : law.HasReached t number = record { at = h.at; same = h.same; heard = e.heard.0; after_syn = past; high = omega arith } in
           let k = kind r.took r.fin in
@@ -79,15 +79,15 @@ module _ (peer : End) (written : List ℕ) (closed : Bool) (s : Side) (came : Li
           }
 
       acknowledges : IsBeside peer written closed s (came ++ x ∷ [])
-      acknowledges = by (nat_lt (rcv_next (partner b.took b.fin)) h.at) refl h.so_far where
+      acknowledges = by (nat_lt (rcv_next (peer_side b.took b.fin)) h.at) refl h.so_far where
         by :
-            (test : Bool) → nat_lt (rcv_next (partner b.took b.fin)) h.at ≡ test
+            (test : Bool) → nat_lt (rcv_next (peer_side b.took b.fin)) h.at ≡ test
             → (h.at ≡ suc peer.heard) ⊎ ((peer.heard ≡ s.iss) × (peer.heard < h.at) × (h.at ≤ suc s.iss + length s.written + one_if s.closed))
             → IsBeside peer written closed s (came ++ x ∷ [])
         by test t (inl syn) = reached_before (omega arith)
-        by false t (inr far) = reached_before (test_ge (rcv_next (partner b.took b.fin)) h.at t)
+        by false t (inr far) = reached_before (test_ge (rcv_next (peer_side b.took b.fin)) h.at t)
         by true t (inr far) =
-            let longer = test_lt (rcv_next (partner b.took b.fin)) h.at t in
+            let longer = test_lt (rcv_next (peer_side b.took b.fin)) h.at t in
             reached_now (reaches peer written closed b.una b.took b.fin s came e b.holds h.at (omega (arith, longer)) far.0 far.1 far.2)
 
     comes_as : SaysOfTheOther peer (as_end s) x → IsBeside peer written closed s (came ++ x ∷ [])

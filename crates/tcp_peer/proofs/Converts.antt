@@ -1,15 +1,15 @@
--- What an honest peer says of itself is what a partner of the machine may say.
+-- What a conforming peer says of itself is what a peer of the machine may say.
 use Rattle.std.proofs.Common.{◌≡◌, ◌⊎◌, inl, inr, ℕ, suc, ◌+◌, ◌-◌, ◌^◌, ◌<◌, ◌≤◌, Bool, List, length, drop, refl, ap, ◌∙◌, subst, arith, length-drop}
-use Rattle.tcp_law.specs.ReceiveMap.{Begins}
-use Rattle.tcp_law.specs.Invariant.{HoldsBetween}
-use Rattle.tcp_law.specs.Invariant as law
-use Rattle.tcp_law.specs.Numbers.{wire}
-use Rattle.tcp_law.specs.Segment.{Control, Segment, IsData}
-use Rattle.tcp_law.specs.Segment.Control.{Plain, Syn, Fin, Rst}
-use Rattle.tcp_law.specs.Side.{Side, rcv_next, taken_in}
-use Rattle.tcp_law.proofs.Lists.{Begins-length}
-use Rattle.tcp_law.proofs.Calls.{one_if-small}
-use Rattle.tcp_law.proofs.Opening.{honest, acked}
+use Rattle.tcp_theory.specs.ReceiveMap.{Begins}
+use Rattle.tcp_theory.specs.Invariant.{HoldsBetween}
+use Rattle.tcp_theory.specs.Invariant as law
+use Rattle.tcp_theory.specs.Numbers.{wire}
+use Rattle.tcp_theory.specs.Segment.{Control, Segment, IsData}
+use Rattle.tcp_theory.specs.Segment.Control.{Plain, Syn, Fin, Rst}
+use Rattle.tcp_theory.specs.Side.{Side, rcv_next, taken_in}
+use Rattle.tcp_theory.proofs.Lists.{Begins-length}
+use Rattle.tcp_theory.proofs.Calls.{one_if-small}
+use Rattle.tcp_theory.proofs.Opening.{honest, acked}
 use Rattle.tcp_peer.specs.Peer.{End, IsEnd, HasAckedTo, counted, IsSyn, IsPiece, IsBare, IsOld}
 use Rattle.tcp_peer.proofs.Shadow.{shadow}
 
@@ -75,14 +75,14 @@ module _ (s t : Side) (holds : HoldsBetween s t) where
   acked_to : (other : End) (position : ℕ) → other.heard ≡ s.irs → HasAckedTo other s.sent position → position ≤ rcv_next s
   acked_to other position same to =
       let a = to.acknowledged in
-      let h = acked s t a.segment to.number a.no_reset a.acks (honest s t a.segment holds.0 (a.place, a.among)) in
+      let h = acked s t a.segment to.number a.no_reset a.acks (honest s t a.segment holds.0 (a.offset, a.among)) in
       let past = h.after_syn in
       let high = h.high in
       let near = rcv_next-near in
-      let place : counted s.irs to.number ≡ h.at = ap (λ (n : ℕ). counted s.irs n) h.same ∙ counted-wire s.irs h.at (omega arith) (omega arith) in
+      let offset : counted s.irs to.number ≡ h.at = ap (λ (n : ℕ). counted s.irs n) h.same ∙ counted-wire s.irs h.at (omega arith) (omega arith) in
       let from : counted other.heard to.number ≡ counted s.irs to.number = ap (λ (n : ℕ). counted n to.number) same in
       let far = to.far in
-      omega (arith, far, from, place, high)
+      omega (arith, far, from, offset, high)
 
   pub old_said : (other : End) (x : Segment) → other.heard ≡ s.irs → IsOld other s.sent x → law.IsPlain s x
   old_said other x same p = record {

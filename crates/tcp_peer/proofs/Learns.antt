@@ -2,14 +2,14 @@
 use Rattle.std.proofs.Common.{◌≡◌, ◌⊎◌, inl, inr, ℕ, suc, ◌+◌, ◌-◌, ◌<◌, ◌≤◌, nat_lt, Bool, true, false, List, [], length, take, refl, ap, arith, le_refl}
 use Rattle.std.proofs.Common.{length-take, take_all}
 use Rattle.std.proofs.lemmas.Bool.Decides.{nat_tests}
-use Rattle.tcp_law.specs.Invariant.{HoldsBetween, IsWellFormed, IsComplete}
-use Rattle.tcp_law.specs.Segment.{Segment}
-use Rattle.tcp_law.specs.Side.{Side, rcv_next, one_if}
-use Rattle.tcp_law.specs.Side.Phase.{Synchronized, Ended}
-use Rattle.tcp_law.specs.Side.Opening.{Passive, Active}
-use Rattle.tcp_law.proofs.Lists.{Begins-take}
-use Rattle.tcp_law.proofs.Grows.{Grows, Grows-same, IsWellFormed-same, OneWay-own, OneWay-other, OneWay-same}
-use Rattle.tcp_law.proofs.Calls.{same_sync}
+use Rattle.tcp_theory.specs.Invariant.{HoldsBetween, IsWellFormed, IsComplete}
+use Rattle.tcp_theory.specs.Segment.{Segment}
+use Rattle.tcp_theory.specs.Side.{Side, rcv_next, one_if}
+use Rattle.tcp_theory.specs.Side.Phase.{Synchronized, Ended}
+use Rattle.tcp_theory.specs.Side.Opening.{Passive, Active}
+use Rattle.tcp_theory.proofs.Lists.{Begins-take}
+use Rattle.tcp_theory.proofs.Grows.{Grows, Grows-same, IsWellFormed-same, OneWay-own, OneWay-other, OneWay-same}
+use Rattle.tcp_theory.proofs.Calls.{same_sync}
 use Rattle.tcp_peer.specs.Peer.{End, IsEnd, end_of, as_end}
 use Rattle.tcp_peer.proofs.Shadow.{shadow, IsBeside}
 
@@ -88,16 +88,16 @@ module _
   abbrev before : Side
   before = shadow peer written closed una took fin came
 
-  abbrev behind : List ℕ → Bool → Side
-  behind took' fin' = shadow peer written closed una took' fin' came
+  abbrev following : List ℕ → Bool → Side
+  following took' fin' = shadow peer written closed una took' fin' came
 
   -- it takes in the first bytes of what this side wrote, and its FIN if that is asked for
   takes_in :
-      (count : ℕ) (fin' : Bool) → rcv_next before ≤ rcv_next (behind (take count s.written) fin')
-      → (fin' ≡ true → IsComplete s (behind (take count s.written) fin'))
-      → HoldsBetween s (behind (take count s.written) fin')
+      (count : ℕ) (fin' : Bool) → rcv_next before ≤ rcv_next (following (take count s.written) fin')
+      → (fin' ≡ true → IsComplete s (following (take count s.written) fin'))
+      → HoldsBetween s (following (take count s.written) fin')
   takes_in count fin' further complete =
-      let t' = behind (take count s.written) fin' in
+      let t' = following (take count s.written) fin' in
       let was = holds.1.well_formed in
       let grows = Grows-same before t' (λ late. late) refl refl (λ e. e) refl (λ _. (refl, further)) in
       let well = IsWellFormed-same before t' was refl refl refl (le_refl _) refl tt (λ early. absurd early) in (

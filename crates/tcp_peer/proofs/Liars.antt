@@ -1,14 +1,14 @@
 -- What an honest segment with bytes, or with an acknowledgement, says on numerals.
 use Rattle.std.proofs.Common.{◌≡◌, ◌⊎◌, inl, inr, ℕ, zero, suc, ◌+◌, ◌-◌, ◌^◌, ◌<◌, List, [], ◌∷◌, length, drop, Some, None, slice_get, refl, sym, ap, ◌∙◌}
 use Rattle.std.proofs.Common.{subst, arith, length-drop}
-use Rattle.tcp_law.specs.ReceiveMap.{Begins}
-use Rattle.tcp_law.specs.Numbers.{wire}
-use Rattle.tcp_law.specs.Segment.{Segment, IsData}
-use Rattle.tcp_law.specs.Segment.Control.{Plain, Syn, Fin, Rst}
-use Rattle.tcp_law.proofs.Lists.{Begins-length}
+use Rattle.tcp_theory.specs.ReceiveMap.{Begins}
+use Rattle.tcp_theory.specs.Numbers.{wire}
+use Rattle.tcp_theory.specs.Segment.{Segment, IsData}
+use Rattle.tcp_theory.specs.Segment.Control.{Plain, Syn, Fin, Rst}
+use Rattle.tcp_theory.proofs.Lists.{Begins-length}
 use Rattle.tcp_peer.specs.Peer.{End, IsEnd, IsAcknowledged, HasReached, IsPiece, IsOld, IsHonest, SaysOfItself, SaysOfTheOther}
 
--- its bytes are the stream's at this place
+-- its bytes are the stream's at this offset
 pub bytes_there : (me other : End) (x : Segment) (k : ℕ) → IsEnd me → k < 2 ^ 29 → x.seq ≡ wire (suc me.first + k) → (length x.bytes ≡ 0 → ⊥) →
     IsPiece me other x → Begins x.bytes (drop k me.stream)
 bytes_there me other x k e small number some p =
@@ -58,7 +58,7 @@ fin_piece me other theirs x fin (inr said) = by said.0 where
   by (inr (inr (inl old))) = absurd (let clash : Fin ≡ Plain = sym fin ∙ old.plain in cc)
   by (inr (inr (inr syn))) = absurd (let clash : Fin ≡ Syn = sym fin ∙ syn.syn in cc)
 
--- a SYN without acknowledgement stands at the first number
+-- a SYN without acknowledgement stands at the initial sequence number
 pub bare_syn : (me other : End) (theirs : List Segment) (x : Segment) → x.control ≡ Syn → x.ack ≡ None → IsHonest me other theirs x → x.seq ≡ wire me.first
 bare_syn me other theirs x syn none (inl reset) = absurd (let clash : Syn ≡ Rst = sym syn ∙ reset in cc)
 bare_syn me other theirs x syn none (inr said) = by said.0 where
@@ -70,17 +70,17 @@ bare_syn me other theirs x syn none (inr said) = by said.0 where
 
 -- the numbers that two segments acknowledge
 pub acked_of_two : (x y : Segment) (number : ℕ) → IsAcknowledged (x ∷ y ∷ []) number → (x.ack ≡ Some number) ⊎ (y.ack ≡ Some number)
-acked_of_two x y number a = by a.place a.among where
-  by : (place : ℕ) → slice_get (x ∷ y ∷ []) place ≡ Some a.segment → (x.ack ≡ Some number) ⊎ (y.ack ≡ Some number)
+acked_of_two x y number a = by a.offset a.among where
+  by : (offset : ℕ) → slice_get (x ∷ y ∷ []) offset ≡ Some a.segment → (x.ack ≡ Some number) ⊎ (y.ack ≡ Some number)
   by zero e = let same : x ≡ a.segment = cc in inl (ap (λ (z : Segment). z.ack) same ∙ a.acks)
   by (suc zero) e = let same : y ≡ a.segment = cc in inr (ap (λ (z : Segment). z.ack) same ∙ a.acks)
-  by (suc (suc place)) e = absurd (cc)
+  by (suc (suc offset)) e = absurd (cc)
 
 pub acked_of_one : (x : Segment) (number : ℕ) → IsAcknowledged (x ∷ []) number → x.ack ≡ Some number
-acked_of_one x number a = by a.place a.among where
-  by : (place : ℕ) → slice_get (x ∷ []) place ≡ Some a.segment → x.ack ≡ Some number
+acked_of_one x number a = by a.offset a.among where
+  by : (offset : ℕ) → slice_get (x ∷ []) offset ≡ Some a.segment → x.ack ≡ Some number
   by zero e = let same : x ≡ a.segment = cc in ap (λ (z : Segment). z.ack) same ∙ a.acks
-  by (suc place) e = absurd (cc)
+  by (suc offset) e = absurd (cc)
 
 pub acked_of_none : (number : ℕ) → IsAcknowledged [] number → ⊥
 acked_of_none number a = absurd (let none = a.among in cc)

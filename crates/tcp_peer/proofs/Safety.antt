@@ -1,16 +1,16 @@
--- What is promised of a side beside the peer, and of each run.
+-- What is promised of a side alongside the peer, and of each run.
 use Rattle.std.proofs.Common.{◌≡◌, ◌⊎◌, inl, inr, ℕ, suc, ◌+◌, ◌-◌, ◌<◌, ◌≤◌, nat_lt, Bool, true, false, List, [], ◌∷◌, length, drop, Some, None, refl, sym, ap}
 use Rattle.std.proofs.Common.{◌∙◌, arith, length-drop}
-use Rattle.tcp_law.specs.Alone.{AreResets}
-use Rattle.tcp_law.specs.Invariant.{HoldsBetween, IsInStep, IsSilent, OneWay}
-use Rattle.tcp_law.specs.Invariant as law
-use Rattle.tcp_law.specs.Numbers.{wire}
-use Rattle.tcp_law.specs.Safe.{IsPrefixOf, IsSafe}
-use Rattle.tcp_law.specs.Segment.{Segment}
-use Rattle.tcp_law.specs.Side.{Side, rcv_next, taken_in, one_if, freed}
-use Rattle.tcp_law.proofs.Lists.{AllByRecursion-map, Begins-length}
-use Rattle.tcp_law.proofs.Calls.{one_if-small}
-use Rattle.tcp_law.proofs.Theorem.{IsSafe-one_way}
+use Rattle.tcp_theory.specs.Alone.{AreResets}
+use Rattle.tcp_theory.specs.Invariant.{HoldsBetween, IsInStep, IsSilent, OneWay}
+use Rattle.tcp_theory.specs.Invariant as law
+use Rattle.tcp_theory.specs.Numbers.{wire}
+use Rattle.tcp_theory.specs.Safe.{IsPrefixOf, IsSafe}
+use Rattle.tcp_theory.specs.Segment.{Segment}
+use Rattle.tcp_theory.specs.Side.{Side, rcv_next, taken_in, one_if, freed}
+use Rattle.tcp_theory.proofs.Lists.{AllByRecursion-map, Begins-length}
+use Rattle.tcp_theory.proofs.Calls.{one_if-small}
+use Rattle.tcp_theory.proofs.Theorem.{IsSafe-one_way}
 use Rattle.tcp_peer.specs.Peer.{End, IsEnd, end_of, IsAcknowledged, HasAckedTo, counted, HasReached, IsHonest, SaysOfItself, SaysOfTheOther, as_end}
 use Rattle.tcp_peer.specs.Run.{Scene, Event, MayHappen, happens, IsRun, run, start}
 use Rattle.tcp_peer.specs.Run.Event.{Comes, Does}
@@ -20,7 +20,7 @@ use Rattle.tcp_peer.proofs.Converts.{counted-wire}
 use Rattle.tcp_peer.proofs.Comes.{meets_honest}
 use Rattle.tcp_peer.proofs.Learns.{test_lt, test_ge}
 
--- what the partner has written so far is the peer's stream, or nothing
+-- what the peer has written so far is the peer's stream, or nothing
 abbrev Said : End → List ℕ → Bool → Type 0
 Said peer written closed = ((written ≡ []) × (closed ≡ false)) ⊎ ((written ≡ peer.stream) × (closed ≡ peer.ends))
 
@@ -72,7 +72,7 @@ module _ (peer : End) (written : List ℕ) (closed : Bool) (s : Side) (came : Li
       counted-wire peer.heard reach (omega arith) (omega arith)
 
   acked_to : (position : ℕ) → position ≤ reach → IsAcknowledged came (wire reach) → HasAckedTo peer came position
-  acked_to position below a = let place = counted_back in record { number = wire reach; acknowledged = a; far = omega (arith, below, place) }
+  acked_to position below a = let offset = counted_back in record { number = wire reach; acknowledged = a; far = omega (arith, below, offset) }
 
   freed_by : (freed s ≡ 0) ⊎ ((peer.heard ≡ s.iss) × HasAckedTo peer came (suc s.iss + freed s))
   freed_by = by (nat_lt 0 (freed s)) refl toward.sync b.taken where

@@ -1,20 +1,20 @@
--- The peer as a partner of the machine: a side that has said what came, and has taken in what it acknowledged.
+-- The peer as a peer of the machine: a side that has said what came, and has taken in what it acknowledged.
 use Rattle.std.proofs.Common.{◌≡◌, ◌⊎◌, inl, inr, ℕ, suc, ◌+◌, ◌^◌, ◌≤◌, Bool, true, false, List, [], length, refl, arith, le_refl}
-use Rattle.tcp_law.specs.Alone.{AreResets, unopened}
-use Rattle.tcp_law.specs.Invariant.{HoldsBetween, IsInStep, IsSilent, IsWellFormed, OneWay}
-use Rattle.tcp_law.specs.Invariant as law
-use Rattle.tcp_law.specs.Move.{Move, May, after, sends, MayTakeSyn, MayTakeCrossedSyn, MayTakeSynAck, MayTakeAck, MayTakeBytes, MayTakeFin}
-use Rattle.tcp_law.specs.Move.Move.{Listens, Connects, Writes, Reads, Closes, Ends, FallsBack, SendsSyn, SendsSynAck, SendsAck, SendsData, SendsKeepAlive}
-use Rattle.tcp_law.specs.Move.Move.{SendsReset, TakesSyn, TakesCrossedSyn, TakesSynAck, TakesAck, TakesBytes, TakesFin}
-use Rattle.tcp_law.specs.Numbers.{wire}
-use Rattle.tcp_law.specs.Segment.{Segment}
-use Rattle.tcp_law.specs.Side.{Side, one_if}
-use Rattle.tcp_law.specs.Side.Phase.{Synchronized, Ended}
-use Rattle.tcp_law.specs.Side.Opening.{Passive, Active}
-use Rattle.tcp_law.proofs.Lists.{AllByRecursion-push, AgreesWith-space}
-use Rattle.tcp_law.proofs.Grows.{Grows-same, IsWellFormed-same, IsHonest-own, OneWay-own, OneWay-same}
-use Rattle.tcp_law.proofs.Calls.{same_sync}
-use Rattle.tcp_law.proofs.Theorem.{HoldsBetween-after, OneWay-from_unopened}
+use Rattle.tcp_theory.specs.Alone.{AreResets, unopened}
+use Rattle.tcp_theory.specs.Invariant.{HoldsBetween, IsInStep, IsSilent, IsWellFormed, OneWay}
+use Rattle.tcp_theory.specs.Invariant as law
+use Rattle.tcp_theory.specs.Move.{Move, May, after, sends, MayTakeSyn, MayTakeCrossedSyn, MayTakeSynAck, MayTakeAck, MayTakeBytes, MayTakeFin}
+use Rattle.tcp_theory.specs.Move.Move.{Listens, Connects, Writes, Reads, Closes, Ends, FallsBack, SendsSyn, SendsSynAck, SendsAck, SendsData, SendsKeepAlive}
+use Rattle.tcp_theory.specs.Move.Move.{SendsReset, TakesSyn, TakesCrossedSyn, TakesSynAck, TakesAck, TakesBytes, TakesFin}
+use Rattle.tcp_theory.specs.Numbers.{wire}
+use Rattle.tcp_theory.specs.Segment.{Segment}
+use Rattle.tcp_theory.specs.Side.{Side, one_if}
+use Rattle.tcp_theory.specs.Side.Phase.{Synchronized, Ended}
+use Rattle.tcp_theory.specs.Side.Opening.{Passive, Active}
+use Rattle.tcp_theory.proofs.Lists.{AllByRecursion-push, AgreesWith-space}
+use Rattle.tcp_theory.proofs.Grows.{Grows-same, IsWellFormed-same, IsHonest-own, OneWay-own, OneWay-same}
+use Rattle.tcp_theory.proofs.Calls.{same_sync}
+use Rattle.tcp_theory.proofs.Theorem.{HoldsBetween-after, OneWay-from_unopened}
 use Rattle.tcp_peer.specs.Peer.{End, IsEnd, IsAcknowledged}
 
 abbrev pub shadow : End → List ℕ → Bool → ℕ → List ℕ → Bool → List Segment → Side
@@ -39,7 +39,7 @@ abbrev pub HasTaken : End → List ℕ → Bool → List Segment → Type 0
 HasTaken peer took fin came =
     ((took ≡ []) × (fin ≡ false)) ⊎ IsAcknowledged came (wire (suc peer.heard + length took + one_if fin))
 
--- a side beside such a partner that has written this
+-- a side alongside such a peer that has written this
 pub record IsBeside (peer : End) (written : List ℕ) (closed : Bool) (s : Side) (came : List Segment) : Type 0 where
   pub una : ℕ
   pub took : List ℕ
@@ -47,11 +47,11 @@ pub record IsBeside (peer : End) (written : List ℕ) (closed : Bool) (s : Side)
   pub taken : HasTaken peer took fin came
   pub holds : HoldsBetween s (shadow peer written closed una took fin came)
 
--- a side beside the peer, which has sent nothing of its stream so far, or some of it
+-- a side alongside the peer, which has sent nothing of its stream so far, or some of it
 abbrev pub Meets : End → Side → List Segment → Type 0
 Meets peer s came = IsBeside peer [] false s came ⊎ IsBeside peer peer.stream peer.ends s came
 
--- of a partner a move sees what it sent
+-- of a peer a move sees what it sent
 pub may_beside : (s t : Side) (move : Move) → May s (unopened 0 t.sent) move → May s t move
 may_beside s t (TakesSyn x iss) may =
     let m : MayTakeSyn s (unopened 0 t.sent) x iss = may in
@@ -129,7 +129,7 @@ meets_start peer room resets e are_resets =
       sent = tt;
     }
 
--- the partner says one more honest segment
+-- the peer says one more honest segment
 pub says : (s t : Side) (x : Segment) → HoldsBetween s t → t.phase ≡ Ended → t.opening ≡ Active → law.IsHonest t s x → HoldsBetween s (sends t x)
 says s t x holds phase opening honest =
     let new = sends t x in

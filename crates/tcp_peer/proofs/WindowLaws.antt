@@ -1,19 +1,19 @@
 -- Each byte that a side takes in stood in a segment, at its position in the window.
 use Rattle.std.proofs.Common.{◌≡◌, ◌⊎◌, inl, inr, ℕ, suc, ◌+◌, ◌-◌, ◌<◌, ◌≤◌, true, false, List, [], ◌∷◌, ◌++◌, length, take, drop, Option, Some, slice_get}
 use Rattle.std.proofs.Common.{refl, sym, ap, ◌∙◌, subst, arith, append_assoc, append-nil, take-append-drop, length-append}
-use Rattle.tcp_law.specs.Alone.{unopened}
-use Rattle.tcp_law.specs.Invariant.{IsEarly}
-use Rattle.tcp_law.specs.Move.{Move, May, after, MayAll, after_all, laid, MayTakeBytes}
-use Rattle.tcp_law.specs.Move.Move.{Listens, Connects, Writes, Reads, Closes, Ends, FallsBack, SendsSyn, SendsSynAck, SendsAck, SendsData, SendsKeepAlive}
-use Rattle.tcp_law.specs.Move.Move.{SendsReset, TakesSyn, TakesCrossedSyn, TakesSynAck, TakesAck, TakesBytes, TakesFin}
-use Rattle.tcp_law.specs.ReceiveMap.{front}
-use Rattle.tcp_law.specs.Safe.{IsPrefixOf}
-use Rattle.tcp_law.specs.Segment.{Segment}
-use Rattle.tcp_law.specs.Side.{Side, taken_in, rcv_next, one_if}
-use Rattle.tcp_law.specs.Side.Phase.{Unopened, Listen, SynSent, SynReceived}
-use Rattle.tcp_law.proofs.Calls.{early_at}
+use Rattle.tcp_theory.specs.Alone.{unopened}
+use Rattle.tcp_theory.specs.Invariant.{IsEarly}
+use Rattle.tcp_theory.specs.Move.{Move, May, after, MayAll, after_all, laid, MayTakeBytes}
+use Rattle.tcp_theory.specs.Move.Move.{Listens, Connects, Writes, Reads, Closes, Ends, FallsBack, SendsSyn, SendsSynAck, SendsAck, SendsData, SendsKeepAlive}
+use Rattle.tcp_theory.specs.Move.Move.{SendsReset, TakesSyn, TakesCrossedSyn, TakesSynAck, TakesAck, TakesBytes, TakesFin}
+use Rattle.tcp_theory.specs.ReceiveMap.{front}
+use Rattle.tcp_theory.specs.Safe.{IsPrefixOf}
+use Rattle.tcp_theory.specs.Segment.{Segment}
+use Rattle.tcp_theory.specs.Side.{Side, taken_in, rcv_next, one_if}
+use Rattle.tcp_theory.specs.Side.Phase.{Unopened, Listen, SynSent, SynReceived}
+use Rattle.tcp_theory.proofs.Calls.{early_at}
 use Rattle.tcp_peer.specs.Window.{CameInTheWindow, IsKept}
-use Rattle.tcp_peer.proofs.Maps.{slice_get-drop, slice_get-append, IsInSecond, space-empty, held-room, IsLaid, held-store, held-front, held-behind}
+use Rattle.tcp_peer.proofs.Maps.{slice_get-drop, slice_get-append, IsInSecond, space-empty, held-room, IsLaid, held-store, held-front, held-following}
 
 -- before ESTABLISHED nothing is taken in or held
 pub record HasNone (s : Side) : Type 0 where
@@ -27,16 +27,16 @@ pub record Holds (P : ℕ → ℕ → Type 0) (s : Side) : Type 0 where
   pub held : s.took_fin ≡ false → (m byte : ℕ) → slice_get s.window m ≡ Some (Some byte) → P (rcv_next s + m) byte
 
 -- what a move takes from a segment, inside the window
-abbrev Places : (ℕ → ℕ → Type 0) → Side → Move → Type 0
-Places P s (TakesBytes x at) =
-    (place byte : ℕ) → slice_get x.bytes place ≡ Some byte → rcv_next s ≤ at + place → at + place < rcv_next s + length s.window → P (at + place) byte
-Places P s other = Unit {0}
+abbrev Offsets : (ℕ → ℕ → Type 0) → Side → Move → Type 0
+Offsets P s (TakesBytes x at) =
+    (offset byte : ℕ) → slice_get x.bytes offset ≡ Some byte → rcv_next s ≤ at + offset → at + offset < rcv_next s + length s.window → P (at + offset) byte
+Offsets P s other = Unit {0}
 
 nothing_at : {A : Type 0} (xs : List ℕ) (i byte : ℕ) → xs ≡ [] → slice_get xs i ≡ Some byte → A
 nothing_at xs i byte none e = absurd (let empty = subst (λ (ys : List ℕ). slice_get ys i ≡ Some byte) none e in cc)
 
-at_place : (P : ℕ → ℕ → Type 0) (p q byte : ℕ) → p ≡ q → P p byte → P q byte
-at_place P p q byte same h = subst (λ (n : ℕ). P n byte) same h
+at_offset : (P : ℕ → ℕ → Type 0) (p q byte : ℕ) → p ≡ q → P p byte → P q byte
+at_offset P p q byte same h = subst (λ (n : ℕ). P n byte) same h
 
 pub reads_same : (s : Side) (count : ℕ) → taken_in (after s (Reads count)) ≡ taken_in s
 reads_same s count = append_assoc s.read (take count s.waiting) (drop count s.waiting) ∙
@@ -53,12 +53,12 @@ module _ (P : ℕ → ℕ → Type 0) (s t : Side) (h : Holds P s) where
     };
     taken = λ i byte e.
         let had = h.taken i byte (subst (λ (ys : List ℕ). slice_get ys i ≡ Some byte) bytes e) in
-        at_place P (suc s.irs + i) (suc new.irs + i) byte (omega arith) had;
+        at_offset P (suc s.irs + i) (suc new.irs + i) byte (omega arith) had;
     held = λ unfinished m byte e.
         let had = h.held (sym fin ∙ unfinished) m byte (subst (λ (map : List (Option ℕ)). slice_get map m ≡ Some (Some byte)) window e) in
         let same_length = ap length bytes in
         let same_fin = ap one_if fin in
-        at_place P (rcv_next s + m) (rcv_next new + m) byte (omega arith) had;
+        at_offset P (rcv_next s + m) (rcv_next new + m) byte (omega arith) had;
   }
 
   -- where nothing was taken in yet
@@ -83,7 +83,7 @@ module _ (P : ℕ → ℕ → Type 0) (s t : Side) (h : Holds P s) where
         taken = λ i byte e. h.taken i byte (subst (λ (ys : List ℕ). slice_get ys i ≡ Some byte) bytes e);
         held = λ unfinished m byte e.
             let same_length = ap length bytes in
-            at_place P (rcv_next s + m) (rcv_next (after s (Reads count)) + m) byte (omega arith) (h.held unfinished m byte (held-room s.window room m byte e));
+            at_offset P (rcv_next s + m) (rcv_next (after s (Reads count)) + m) byte (omega arith) (h.held unfinished m byte (held-room s.window room m byte e));
       }
 
   holds_falls_back : Holds P (after s FallsBack)
@@ -94,8 +94,8 @@ module _ (P : ℕ → ℕ → Type 0) (s t : Side) (h : Holds P s) where
   }
 
   module _ (x : Segment) (at : ℕ) (may : MayTakeBytes s t x at)
-      (places : (place byte : ℕ) → slice_get x.bytes place ≡ Some byte → rcv_next s ≤ at + place → at + place < rcv_next s + length s.window →
-      P (at + place) byte) where
+      (offsets : (offset byte : ℕ) → slice_get x.bytes offset ≡ Some byte → rcv_next s ≤ at + offset → at + offset < rcv_next s + length s.window →
+      P (at + offset) byte) where
     -- what the map holds then
     laid_held : (m byte : ℕ) → slice_get (laid s at x.bytes) m ≡ Some (Some byte) → P (rcv_next s + m) byte
     laid_held m byte e = by (held-store s.window (at - rcv_next s) (drop (rcv_next s - at) x.bytes) m byte e) where
@@ -106,8 +106,8 @@ module _ (P : ℕ → ℕ → Type 0) (s t : Side) (h : Holds P s) where
           let inside = l.inside in
           let stood = slice_get-drop (rcv_next s - at) x.bytes l.index byte l.stands in
           let position : at + (rcv_next s - at + l.index) ≡ rcv_next s + m = omega arith in
-          at_place P (at + (rcv_next s - at + l.index)) (rcv_next s + m) byte position
-          (places (rcv_next s - at + l.index) byte stood (omega arith) (omega arith))
+          at_offset P (at + (rcv_next s - at + l.index)) (rcv_next s + m) byte position
+          (offsets (rcv_next s - at + l.index) byte stood (omega arith) (omega arith))
 
     holds_takes_bytes : Holds P (after s (TakesBytes x at))
     holds_takes_bytes =
@@ -120,42 +120,42 @@ module _ (P : ℕ → ℕ → Type 0) (s t : Side) (h : Holds P s) where
           early = λ is_early. absurd (subst IsEarly may.running is_early);
           taken = λ i byte e. taken i byte (slice_get-append (taken_in s) (front map) i byte (subst (λ (ys : List ℕ). slice_get ys i ≡ Some byte) longer e));
           held = λ _ m byte e.
-              let had = laid_held (length (front map) + m) byte (held-behind map m (length (front map) + m) byte refl e) in
-              at_place P (rcv_next s + (length (front map) + m)) (rcv_next new + m) byte (omega arith) had;
+              let had = laid_held (length (front map) + m) byte (held-following map m (length (front map) + m) byte refl e) in
+              at_offset P (rcv_next s + (length (front map) + m)) (rcv_next new + m) byte (omega arith) had;
         }
       where
         taken : (i byte : ℕ) → (slice_get (taken_in s) i ≡ Some byte) ⊎ IsInSecond (taken_in s) (front (laid s at x.bytes)) i byte → P (suc s.irs + i) byte
         taken i byte (inl old) = h.taken i byte old
         taken i byte (inr new) =
-            let had = laid_held new.place byte (held-front (laid s at x.bytes) new.place byte new.stands) in
+            let had = laid_held new.offset byte (held-front (laid s at x.bytes) new.offset byte new.stands) in
             let index = new.index in
             let unfinished = ap one_if may.unfinished in
-            at_place P (rcv_next s + new.place) (suc s.irs + i) byte (omega arith) had
+            at_offset P (rcv_next s + new.offset) (suc s.irs + i) byte (omega arith) had
 
-pub holds_after : (P : ℕ → ℕ → Type 0) (s t : Side) (move : Move) → Holds P s → May s t move → Places P s move → Holds P (after s move)
-holds_after P s t (Reads count) h may places = holds_reads P s t h count
-holds_after P s t FallsBack h may places = holds_falls_back P s t h
-holds_after P s t (TakesBytes x at) h may places = holds_takes_bytes P s t h x at may places
-holds_after P s t Listens h may places = holds_same P s t h (after s Listens) refl refl refl refl (λ _. early_at s Unopened may tt)
-holds_after P s t (Connects iss) h may places = holds_same P s t h (after s (Connects iss)) refl refl refl refl (λ _. early_at s Unopened may.0 tt)
-holds_after P s t (TakesSyn x iss) h may places = holds_none P s t h (after s (TakesSyn x iss)) (h.early (early_at s Listen may.listening tt)) refl refl
-holds_after P s t (TakesCrossedSyn x) h may places = holds_none P s t h (after s (TakesCrossedSyn x)) (h.early (early_at s SynSent may.asking tt)) refl refl
-holds_after P s t (TakesSynAck x) h may places = holds_none P s t h (after s (TakesSynAck x)) (h.early (early_at s SynSent may.asking tt)) refl refl
-holds_after P s t (TakesFin x) h may places = record {
+pub holds_after : (P : ℕ → ℕ → Type 0) (s t : Side) (move : Move) → Holds P s → May s t move → Offsets P s move → Holds P (after s move)
+holds_after P s t (Reads count) h may offsets = holds_reads P s t h count
+holds_after P s t FallsBack h may offsets = holds_falls_back P s t h
+holds_after P s t (TakesBytes x at) h may offsets = holds_takes_bytes P s t h x at may offsets
+holds_after P s t Listens h may offsets = holds_same P s t h (after s Listens) refl refl refl refl (λ _. early_at s Unopened may tt)
+holds_after P s t (Connects iss) h may offsets = holds_same P s t h (after s (Connects iss)) refl refl refl refl (λ _. early_at s Unopened may.0 tt)
+holds_after P s t (TakesSyn x iss) h may offsets = holds_none P s t h (after s (TakesSyn x iss)) (h.early (early_at s Listen may.listening tt)) refl refl
+holds_after P s t (TakesCrossedSyn x) h may offsets = holds_none P s t h (after s (TakesCrossedSyn x)) (h.early (early_at s SynSent may.asking tt)) refl refl
+holds_after P s t (TakesSynAck x) h may offsets = holds_none P s t h (after s (TakesSynAck x)) (h.early (early_at s SynSent may.asking tt)) refl refl
+holds_after P s t (TakesFin x) h may offsets = record {
   early = λ early. absurd (subst IsEarly may.running early);
   taken = h.taken;
   held = λ (e : true ≡ false). absurd (cc);
 }
-holds_after P s t (TakesAck x at) h may places = holds_same P s t h (after s (TakesAck x at)) refl refl refl refl (λ early. absurd early)
-holds_after P s t Closes h may places = holds_same P s t h (after s Closes) refl refl refl refl (λ early. absurd early)
-holds_after P s t Ends h may places = holds_same P s t h (after s Ends) refl refl refl refl (λ early. absurd early)
-holds_after P s t (Writes bytes) h may places = holds_same P s t h (after s (Writes bytes)) refl refl refl refl (λ early. early)
-holds_after P s t SendsSyn h may places = holds_same P s t h (after s SendsSyn) refl refl refl refl (λ early. early)
-holds_after P s t SendsSynAck h may places = holds_same P s t h (after s SendsSynAck) refl refl refl refl (λ early. early)
-holds_after P s t (SendsAck at) h may places = holds_same P s t h (after s (SendsAck at)) refl refl refl refl (λ early. early)
-holds_after P s t (SendsData at count fin) h may places = holds_same P s t h (after s (SendsData at count fin)) refl refl refl refl (λ early. early)
-holds_after P s t SendsKeepAlive h may places = holds_same P s t h (after s SendsKeepAlive) refl refl refl refl (λ early. early)
-holds_after P s t (SendsReset x) h may places = holds_same P s t h (after s (SendsReset x)) refl refl refl refl (λ early. early)
+holds_after P s t (TakesAck x at) h may offsets = holds_same P s t h (after s (TakesAck x at)) refl refl refl refl (λ early. absurd early)
+holds_after P s t Closes h may offsets = holds_same P s t h (after s Closes) refl refl refl refl (λ early. absurd early)
+holds_after P s t Ends h may offsets = holds_same P s t h (after s Ends) refl refl refl refl (λ early. absurd early)
+holds_after P s t (Writes bytes) h may offsets = holds_same P s t h (after s (Writes bytes)) refl refl refl refl (λ early. early)
+holds_after P s t SendsSyn h may offsets = holds_same P s t h (after s SendsSyn) refl refl refl refl (λ early. early)
+holds_after P s t SendsSynAck h may offsets = holds_same P s t h (after s SendsSynAck) refl refl refl refl (λ early. early)
+holds_after P s t (SendsAck at) h may offsets = holds_same P s t h (after s (SendsAck at)) refl refl refl refl (λ early. early)
+holds_after P s t (SendsData at count fin) h may offsets = holds_same P s t h (after s (SendsData at count fin)) refl refl refl refl (λ early. early)
+holds_after P s t SendsKeepAlive h may offsets = holds_same P s t h (after s SendsKeepAlive) refl refl refl refl (λ early. early)
+holds_after P s t (SendsReset x) h may offsets = holds_same P s t h (after s (SendsReset x)) refl refl refl refl (λ early. early)
 
 pub holds_start : (P : ℕ → ℕ → Type 0) (room : ℕ) (resets : List Segment) → Holds P (unopened room resets)
 holds_start P room resets = record {
@@ -186,7 +186,7 @@ module _ (began t : Side) where
     split = ap (λ (moves : List Move). moves ++ more) c.split ∙ append_assoc c.before (TakesBytes c.segment c.at ∷ c.later) more;
     came = c.came;
     number = c.number;
-    place = c.place;
+    offset = c.offset;
     stood = c.stood;
     there = c.there;
     low = c.low;
@@ -197,8 +197,8 @@ module _ (began t : Side) where
   after_all-push s [] move = refl
   after_all-push s (m ∷ before) move = after_all-push (after s m) before move
 
-  taken_now : (before : List Move) (s : Side) (move : Move) → s ≡ after_all began before → May s t move → Places (Came (before ++ move ∷ [])) s move
-  taken_now before s (TakesBytes x at) same may = λ place byte stood low high. record {
+  taken_now : (before : List Move) (s : Side) (move : Move) → s ≡ after_all began before → May s t move → Offsets (Came (before ++ move ∷ [])) s move
+  taken_now before s (TakesBytes x at) same may = λ offset byte stood low high. record {
     before = before;
     later = [];
     segment = x;
@@ -206,11 +206,11 @@ module _ (began t : Side) where
     split = refl;
     came = may.comes;
     number = may.number;
-    place = place;
+    offset = offset;
     stood = stood;
     there = refl;
-    low = subst (λ (side : Side). rcv_next side ≤ at + place) same low;
-    high = subst (λ (side : Side). at + place < rcv_next side + length side.window) same high;
+    low = subst (λ (side : Side). rcv_next side ≤ at + offset) same low;
+    high = subst (λ (side : Side). at + offset < rcv_next side + length side.window) same high;
   }
   taken_now before s Listens same may = tt
   taken_now before s (Connects iss) same may = tt
@@ -293,29 +293,29 @@ kept_after P s t (SendsReset x) h may = kept_same s (after s (SendsReset x)) ref
 abbrev Any : ℕ → ℕ → Type 0
 Any position byte = Unit {0}
 
-places_any : (s : Side) (move : Move) → Places Any s move
-places_any s (TakesBytes x at) = λ place byte stood low high. tt
-places_any s Listens = tt
-places_any s (Connects iss) = tt
-places_any s (Writes bytes) = tt
-places_any s (Reads count) = tt
-places_any s Closes = tt
-places_any s Ends = tt
-places_any s FallsBack = tt
-places_any s SendsSyn = tt
-places_any s SendsSynAck = tt
-places_any s (SendsAck at) = tt
-places_any s (SendsData at count fin) = tt
-places_any s SendsKeepAlive = tt
-places_any s (SendsReset x) = tt
-places_any s (TakesSyn x iss) = tt
-places_any s (TakesCrossedSyn x) = tt
-places_any s (TakesSynAck x) = tt
-places_any s (TakesAck x at) = tt
-places_any s (TakesFin x) = tt
+offsets_any : (s : Side) (move : Move) → Offsets Any s move
+offsets_any s (TakesBytes x at) = λ offset byte stood low high. tt
+offsets_any s Listens = tt
+offsets_any s (Connects iss) = tt
+offsets_any s (Writes bytes) = tt
+offsets_any s (Reads count) = tt
+offsets_any s Closes = tt
+offsets_any s Ends = tt
+offsets_any s FallsBack = tt
+offsets_any s SendsSyn = tt
+offsets_any s SendsSynAck = tt
+offsets_any s (SendsAck at) = tt
+offsets_any s (SendsData at count fin) = tt
+offsets_any s SendsKeepAlive = tt
+offsets_any s (SendsReset x) = tt
+offsets_any s (TakesSyn x iss) = tt
+offsets_any s (TakesCrossedSyn x) = tt
+offsets_any s (TakesSynAck x) = tt
+offsets_any s (TakesAck x at) = tt
+offsets_any s (TakesFin x) = tt
 
 holds_any : (s t : Side) (move : Move) → Holds Any s → May s t move → Holds Any (after s move)
-holds_any s t move h may = holds_after Any s t move h may (places_any s move)
+holds_any s t move h may = holds_after Any s t move h may (offsets_any s move)
 
 kept_run : (s t : Side) (moves : List Move) → Holds Any s → MayAll s t moves → IsKept s (after_all s moves)
 kept_run s t [] h may = kept_same s s refl refl

@@ -1,11 +1,11 @@
--- A connection on numerals: what an honest peer says, what liars say, and what no side has come to beside an honest peer.
+-- A connection on numerals: what a conforming peer says, what liars say, and what no side has come to alongside a conforming peer.
 use Rattle.std.specs.Prelude.{ℕ, true, false, List, [], ◌∷◌}
-use Rattle.tcp_law.specs.Segment.{Segment}
-use Rattle.tcp_law.specs.Side.{Side, fresh}
-use Rattle.tcp_law.specs.Side.Phase.{Synchronized}
-use Rattle.tcp_law.specs.Side.Opening.{Active}
-use Rattle.tcp_law.specs.Move.Move.{Connects, Writes, Reads, SendsSyn, SendsAck, SendsData, TakesSynAck, TakesAck, TakesBytes, TakesFin}
-use Rattle.tcp_law.specs.Examples.{at, syn_ack, piece, last_piece, bare_ack}
+use Rattle.tcp_theory.specs.Segment.{Segment}
+use Rattle.tcp_theory.specs.Side.{Side, initial}
+use Rattle.tcp_theory.specs.Side.Phase.{Synchronized}
+use Rattle.tcp_theory.specs.Side.Opening.{Active}
+use Rattle.tcp_theory.specs.Move.Move.{Connects, Writes, Reads, SendsSyn, SendsAck, SendsData, TakesSynAck, TakesAck, TakesBytes, TakesFin}
+use Rattle.tcp_theory.specs.Examples.{at, syn_ack, piece, last_piece, bare_ack}
 use Rattle.tcp_peer.specs.Peer.{End, IsHonest}
 use Rattle.tcp_peer.specs.Run.{Event}
 use Rattle.tcp_peer.specs.Run.Event.{Comes, Does}
@@ -49,7 +49,7 @@ exchange =
 -- this side, after it took these bytes in
 abbrev pub took : List ℕ → Side
 took bytes =
-    record (fresh 8) {
+    record (initial 8) {
       phase = Synchronized;
       opening = Active;
       iss = at 100;

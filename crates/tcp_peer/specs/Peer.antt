@@ -1,15 +1,15 @@
--- An honest peer: an end of a connection of which each segment but a reset says what is so. Nothing is asked of what runs there, nor of
+-- A conforming peer: an end of a connection of which each segment but a reset says what is so. Nothing is asked of what runs there, nor of
 -- order, loss, repetition, timing, sizes, windows or options, and of a reset nothing at all.
 use Rattle.std.specs.Prelude.{◌≡◌, ◌⊎◌, ℕ, suc, ◌+◌, ◌-◌, ◌^◌, ◌<◌, ◌≤◌, Bool, true, List, [], length, drop, Some, None, slice_get}
-use Rattle.tcp_law.specs.ReceiveMap.{Begins}
-use Rattle.tcp_law.specs.Numbers.{wire, ahead, IsFirst}
-use Rattle.tcp_law.specs.Segment.{Segment, IsData, IsNoReset}
-use Rattle.tcp_law.specs.Segment.Control.{Plain, Syn, Fin, Rst}
-use Rattle.tcp_law.specs.Side.{Side, one_if}
+use Rattle.tcp_theory.specs.ReceiveMap.{Begins}
+use Rattle.tcp_theory.specs.Numbers.{wire, ahead, IsFirst}
+use Rattle.tcp_theory.specs.Segment.{Segment, IsData, IsNoReset}
+use Rattle.tcp_theory.specs.Segment.Control.{Plain, Syn, Fin, Rst}
+use Rattle.tcp_theory.specs.Side.{Side, one_if}
 
 -- an end of a connection, by what stays the same of it
 pub record End : Type 0 where
-  pub first : ℕ  -- the position of its SYN: 2 ^ 32 and its first number
+  pub first : ℕ  -- the position of its SYN: 2 ^ 32 and its initial sequence number
   pub stream : List ℕ  -- each byte that it ever writes
   pub ends : Bool  -- a FIN follows the last byte
   pub heard : ℕ  -- the position of the other end's SYN that it counts from, if it ever takes one
@@ -26,9 +26,9 @@ pub record IsEnd (e : End) : Type 0 where
 
 -- one of these segments, no reset, acknowledges this number
 pub record IsAcknowledged (segments : List Segment) (number : ℕ) : Type 0 where
-  pub place : ℕ
+  pub offset : ℕ
   pub segment : Segment
-  pub among : slice_get segments place ≡ Some segment
+  pub among : slice_get segments offset ≡ Some segment
   pub no_reset : IsNoReset segment.control
   pub acks : segment.ack ≡ Some number
 
@@ -36,13 +36,13 @@ pub record IsAcknowledged (segments : List Segment) (number : ℕ) : Type 0 wher
 abbrev pub counted : ℕ → ℕ → ℕ
 counted from number = from + ahead from number
 
--- a SYN: at its first number, but that a listener may have acknowledged an earlier SYN at another, in an attempt that it gave up
+-- a SYN: at its initial sequence number, but that a listener may have acknowledged an earlier SYN at another, in an attempt that it gave up
 pub record IsSyn (me : End) (x : Segment) : Type 0 where
   pub syn : x.control ≡ Syn
   pub number : x.seq < 2 ^ 32
   pub bare : x.ack ≡ None → x.seq ≡ wire me.first
 
--- bytes of its stream at their position, and the FIN only behind the last; they go to an end that counts from its SYN, but for the
+-- bytes of its stream at their position, and the FIN only after the last; they go to an end that counts from its SYN, but for the
 -- FIN of a stream without bytes
 pub record IsPiece (me other : End) (x : Segment) : Type 0 where
   pub kind : IsData x.control

@@ -1,9 +1,9 @@
 -- Runs of one side, with whatever comes for it.
 use Rattle.std.specs.Prelude.{ℕ, List, [], ◌∷◌, ◌++◌}
-use Rattle.tcp_law.specs.Segment.{Segment}
-use Rattle.tcp_law.specs.Side.{Side}
-use Rattle.tcp_law.specs.Move.{Move, May, after}
-use Rattle.tcp_law.specs.Alone.{unopened}
+use Rattle.tcp_theory.specs.Segment.{Segment}
+use Rattle.tcp_theory.specs.Side.{Side}
+use Rattle.tcp_theory.specs.Move.{Move, May, after}
+use Rattle.tcp_theory.specs.Alone.{unopened}
 use Rattle.tcp_peer.specs.Peer.{End, IsHonest, as_end}
 
 -- a side, and each segment that came for it, in order
@@ -17,7 +17,7 @@ pub data Event : Type 0 where
   -- a move of the side, of the segments that came so far
   Does : (move : Move) → Event
 
--- of a partner the moves see only what it sent
+-- of a peer the moves see only what it sent
 abbrev pub MayHappen : End → Scene → Event → Type 0
 MayHappen peer w (Comes x) = IsHonest peer (as_end w.side) w.side.sent x
 MayHappen peer w (Does move) = May w.side (unopened 0 w.came) move

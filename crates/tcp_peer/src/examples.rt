@@ -1,16 +1,16 @@
-//! A connection on numerals: a run beside an honest peer, what liars say, and histories that the promise excludes.
+//! A connection on numerals: a run alongside a conforming peer, what liars say, and histories that the promise excludes.
 
 ghost use Rattle.std.specs.Prelude.{◌≡◌, true, false, List, [], ◌∷◌};
-ghost use Rattle.tcp_law.specs.Side.{freed};
-ghost use Rattle.tcp_law.specs.Examples.{at, syn, syn_ack, piece, last_piece, bare_ack, reset};
+ghost use Rattle.tcp_theory.specs.Side.{freed};
+ghost use Rattle.tcp_theory.specs.Examples.{at, syn, syn_ack, piece, last_piece, bare_ack, reset};
 ghost use Rattle.tcp_peer.specs.Peer.{IsHonest};
 ghost use Rattle.tcp_peer.specs.Run.{IsRun, run, start};
 ghost use Rattle.tcp_peer.specs.Examples.{peer, this, told, Says, exchange, took, Cannot};
 
-/// What an honest peer may say, and a run in which it does.
+/// What a conforming peer may say, and a run in which it does.
 pub fn a_peer_may_be_honest()
     ensures syn { Says (syn_ack 300 101) }
-    ensures text { Says (piece 302 103 (2 ∷ 3 ∷ [])) }
+    ensures payload { Says (piece 302 103 (2 ∷ 3 ∷ [])) }
     ensures end { Says (last_piece 303 101 (3 ∷ [])) }
     ensures keep_alive { IsHonest peer this (bare_ack 101 303 ∷ []) (piece 302 101 (0 ∷ [])) }
     ensures reset { Says (reset 77) }
@@ -21,9 +21,9 @@ pub fn a_peer_may_be_honest()
         × (freed (run (start 8 []) exchange).side ≡ 2) }
 {}
 
-/// What no honest peer says: another byte, bytes in another order, a byte too many, a byte of any value that wasn't acknowledged, a FIN
+/// What no conforming peer says: another byte, bytes in another order, a byte too many, a byte of any value that wasn't acknowledged, a FIN
 /// before the end or of a stream that doesn't end, an acknowledgement of what wasn't written or of what lies before the SYN, a SYN at
-/// another number, and text to an end that counts from another SYN.
+/// another number, and payload to an end that counts from another SYN.
 pub fn liars_are_not_honest()
     ensures other_byte { Says (piece 301 101 (1 ∷ 9 ∷ [])) → ⊥ }
     ensures swapped { Says (piece 301 101 (2 ∷ 1 ∷ [])) → ⊥ }
@@ -37,7 +37,7 @@ pub fn liars_are_not_honest()
     ensures unheard { IsHonest peer (record this { heard = at 299 }) told (piece 301 101 (1 ∷ [])) → ⊥ }
 {}
 
-/// What no side comes to beside this peer: it reads another byte, bytes in another order, a byte too many; the stream ends too early;
+/// What no side comes to alongside this peer: it reads another byte, bytes in another order, a byte too many; the stream ends too early;
 /// bytes are freed that weren't acknowledged; it sends a byte that its user didn't write, or acknowledges one that the peer doesn't send.
 pub fn bad_histories_are_excluded()
     ensures other_byte { Cannot (took (1 ∷ 9 ∷ [])) [] }

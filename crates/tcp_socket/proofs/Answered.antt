@@ -6,33 +6,33 @@ use Rattle.ip_wire.specs.IpRepr.TheVariants as Ip
 use Rattle.ip_wire.specs.Tcp.{header_len}
 use Rattle.ip_wire.specs.TcpHeader.{TcpHeader}
 use Rattle.ip_wire.specs.TcpTimestampRepr.{TcpTimestampRepr}
-use Rattle.held_bytes.specs.Held.{runs_of}
-use Rattle.ip_wire.specs.Options.{options_bytes, range_options, stamp_options}
-use Rattle.socket_base.specs.Context.{ContextValue}
-use Rattle.socket_base.specs.Packet.{IsSendable}
-use Rattle.tcp_model.specs.declared.block.Block.{Block}
-use Rattle.tcp_model.specs.EndpointPair.{EndpointPair}
-use Rattle.tcp_model.specs.State.{State}
-use Rattle.tcp_model.specs.State.TheVariants as In
-use Rattle.tcp_model.specs.Acknowledged.{acknowledged, duplicates_after}
-use Rattle.tcp_model.specs.Answers.{may_draw, with_draw, acked, drawn, ack_due, answers_at_once, answer_for, run_at, others, first_two, numbers_of, ranges_held}
-use Rattle.tcp_model.specs.Arrival.{waiting_anew, outside, tells_news, comes_again, passed_outside, finished, with_content, told}
-use Rattle.tcp_model.specs.Arrival.{continued, taken, inside, checked}
-use Rattle.tcp_model.specs.Arrival.{takes_reset, challenges_reset, reset_comes, draws_first, echo_heard, received, arrives_in, is_void_syn, arrives}
-use Rattle.tcp_model.specs.Checks.{Check, acknowledgement_check, is_in_window, taken_down}
-use Rattle.tcp_model.specs.Checks.Check.{Passes, Old, Drops, Draws, Resets}
-use Rattle.tcp_model.specs.Controls.{is_syn, is_rst}
-use Rattle.tcp_model.specs.Endpoints.{pair_in}
-use Rattle.tcp_model.specs.FirstNumbers.{first_number, draws_number}
-use Rattle.tcp_model.specs.Opening.{acks_syn, syn_answered, takes_answer, answering, is_first_syn}
-use Rattle.tcp_model.specs.Probing.{probe_kept}
-use Rattle.tcp_model.specs.Retries.{heard}
-use Rattle.tcp_model.specs.Segments.{no_ranges, stamp_of, sack_segment, rst_reply, reply_to, reset_for, hops_of, has_length}
-use Rattle.tcp_model.specs.States.{is_closed}
-use Rattle.tcp_model.specs.Text.{Texted, with_text, with_fin}
-use Rattle.tcp_model.specs.Timeout.{timeout_restarted}
-use Rattle.tcp_model.specs.Timestamps.{believed, stamp_taken}
-use Rattle.tcp_model.specs.Value.{TcpValue, Arrived, with_block, dropped, answered_with, unoffered, ended, queued_in, free_in, window_of}
+use Rattle.tcp_ranges.specs.OutOfOrder.{runs_of}
+use Rattle.ip_wire.specs.Options.{options_bytes, range_options, timestamps_options}
+use Rattle.socket_context.specs.Context.{ContextValue}
+use Rattle.socket_context.specs.Packet.{IsSendable}
+use Rattle.tcp_block.specs.declared.tcb.Tcb.{Tcb}
+use Rattle.tcp_block.specs.FourTuple.{FourTuple}
+use Rattle.tcp_block.specs.State.{State}
+use Rattle.tcp_block.specs.State.TheVariants as In
+use Rattle.tcp_block.specs.Acknowledged.{acknowledged, duplicates_after}
+use Rattle.tcp_block.specs.Answers.{may_challenge, with_draw, acked, drawn, ack_due, answers_at_once, answer_for, run_at, others, first_two, numbers_of, sack_blocks}
+use Rattle.tcp_block.specs.Arrival.{waiting_anew, outside, is_before_window, is_repeated, passed_outside, finished, with_content, told}
+use Rattle.tcp_block.specs.Arrival.{continued, taken, inside, checked}
+use Rattle.tcp_block.specs.Arrival.{takes_reset, challenges_reset, reset_arrives, challenges_first, tsecr_heard, received, arrives_in, is_void_syn, arrives}
+use Rattle.tcp_block.specs.Checks.{Check, acknowledgement_check, is_in_window, taken_down}
+use Rattle.tcp_block.specs.Checks.Check.{Passes, Old, Drops, Draws, Resets}
+use Rattle.tcp_block.specs.Controls.{is_syn, is_rst}
+use Rattle.tcp_block.specs.Endpoints.{pair_in}
+use Rattle.tcp_block.specs.Isn.{isn, draws_number}
+use Rattle.tcp_block.specs.Opening.{acks_syn, syn_answered, takes_answer, answering, is_first_syn}
+use Rattle.tcp_block.specs.Probing.{probe_kept}
+use Rattle.tcp_block.specs.Retries.{heard}
+use Rattle.tcp_block.specs.Segments.{no_ranges, tsval_of, sack_segment, rst_reply, reply_to, reset_for, hop_limit_of, has_length}
+use Rattle.tcp_block.specs.States.{is_closed}
+use Rattle.tcp_block.specs.Payload.{DataStored, with_payload, with_fin}
+use Rattle.tcp_block.specs.Timeout.{timeout_restarted}
+use Rattle.tcp_block.specs.Timestamps.{believed, tsval_taken}
+use Rattle.tcp_block.specs.Value.{TcpValue, Arrived, with_tcb, dropped, answered_with, unoffered, ended, queued_in, free_in, window_of}
 use Rattle.tcp_socket.specs.Replies.{packet_in}
 
 -- the answer can be sent, and no random word is drawn
@@ -40,10 +40,10 @@ record IsQuick (a : Arrived) : Type 0 where
   draws : a.draws ≡ false
   sendable : IfSome a.answer (λ reply. IsSendable (packet_in reply))
 
-sendable_to : (ip : IpRepr) (hops : ℕ) (segment : TcpHeader) → header_len segment ≤ 60 → IsSendable (packet_in (reply_to ip hops segment))
-sendable_to (Ip.Ipv4 v) hops segment short =
+sendable_to : (ip : IpRepr) (hop_limit : ℕ) (segment : TcpHeader) → header_len segment ≤ 60 → IsSendable (packet_in (reply_to ip hop_limit segment))
+sendable_to (Ip.Ipv4 v) hop_limit segment short =
     record { header = omega (arith, short); payload = record { header = short; all = omega (arith, short); family = refl }; len = omega arith }
-sendable_to (Ip.Ipv6 v) hops segment short =
+sendable_to (Ip.Ipv6 v) hop_limit segment short =
     record { header = omega (arith, short); payload = record { header = short; all = omega (arith, short); family = refl }; len = omega arith }
 
 pub sendable_reset : (ip : IpRepr) (header : TcpHeader) (size : ℕ) → IsSendable (packet_in (rst_reply ip header size))
@@ -63,13 +63,13 @@ few_ranges (Some a) None (Some c) = omega arith
 few_ranges (Some a) (Some b) None = omega arith
 few_ranges (Some a) (Some b) (Some c) = omega arith
 
-few_held : (v : TcpValue) (place : ℕ) → FewRanges (ranges_held v place)
-few_held v place = by v.block.peer.sack (others place (runs_of v.received.map)) where
+few_held : (v : TcpValue) (offset : ℕ) → FewRanges (sack_blocks v offset)
+few_held v offset = by v.tcb.peer.sack (others offset (runs_of v.received.map)) where
   numbered : Option (ℕ × ℕ) → Option (ℕ × ℕ)
-  numbered = numbers_of v.block.receiver.next
+  numbered = numbers_of v.tcb.receiver.next
 
   met : Option (ℕ × ℕ)
-  met = run_at (runs_of v.received.map) place
+  met = run_at (runs_of v.received.map) offset
 
   by : (t : Bool) (runs : List (ℕ × ℕ)) → FewRanges (if t then map numbered (met ∷ first_two runs) else no_ranges)
   by false runs = few_ranges None None None
@@ -77,13 +77,13 @@ few_held v place = by v.block.peer.sack (others place (runs_of v.received.map)) 
   by true (run ∷ []) = few_ranges (numbered met) (numbered (Some run)) None
   by true (run ∷ next ∷ runs) = few_ranges (numbered met) (numbered (Some run)) (numbered (Some next))
 
-stamp_room : (stamp : Option TcpTimestampRepr) → length (options_bytes (stamp_options stamp)) ≤ 10
-stamp_room None = omega arith
-stamp_room (Some stamp) = omega arith
+tsval_room : (tsval : Option TcpTimestampRepr) → length (options_bytes (timestamps_options tsval)) ≤ 10
+tsval_room None = omega arith
+tsval_room (Some tsval) = omega arith
 
-sack_room : (b : Block) (pair : EndpointPair) (now : ℤ) (window : ℕ) (ranges : List (Option (ℕ × ℕ))) → FewRanges ranges
+sack_room : (b : Tcb) (pair : FourTuple) (now : ℤ) (window : ℕ) (ranges : List (Option (ℕ × ℕ))) → FewRanges ranges
     → header_len (sack_segment b pair now window ranges) ≤ 60
-sack_room b pair now window ranges few = let stamp = stamp_room (stamp_of b now) in omega (arith, few, stamp)
+sack_room b pair now window ranges few = let tsval = tsval_room (tsval_of b now) in omega (arith, few, tsval)
 
 quick_dropped : (v : TcpValue) → IsQuick (dropped v)
 quick_dropped v = record { draws = refl; sendable = tt }
@@ -96,8 +96,8 @@ quick_acked : (cx : ContextValue) (v : TcpValue) (ip : IpRepr) (header : TcpHead
     IsQuick (acked cx v ip header ranges)
 quick_acked cx v ip header ranges few = record {
   draws = refl;
-  sendable = sendable_to ip (hops_of v.block.settings.hop_limit) (sack_segment v.block (pair_in ip header) cx.moment (window_of v) ranges)
-      (sack_room v.block (pair_in ip header) cx.moment (window_of v) ranges few);
+  sendable = sendable_to ip (hop_limit_of v.tcb.settings.hop_limit) (sack_segment v.tcb (pair_in ip header) cx.instant (window_of v) ranges)
+      (sack_room v.tcb (pair_in ip header) cx.instant (window_of v) ranges few);
 }
 
 quick_reset : (v : TcpValue) (ip : IpRepr) (header : TcpHeader) (size : ℕ) → IsQuick (answered_with v (rst_reply ip header size))
@@ -105,81 +105,81 @@ quick_reset v ip header size = record { draws = refl; sendable = sendable_reset 
 
 quick_drawn : (cx : ContextValue) (v : TcpValue) (ip : IpRepr) (header : TcpHeader) → IsQuick (drawn cx v ip header)
 quick_drawn cx v ip header =
-    quick_if (may_draw cx.moment v.block.timers.draws_from) (acked cx (with_draw v cx.moment) ip header no_ranges) (dropped v)
-    (quick_acked cx (with_draw v cx.moment) ip header no_ranges (few_ranges None None None)) (quick_dropped v)
+    quick_if (may_challenge cx.instant v.tcb.timers.challenges_from) (acked cx (with_draw v cx.instant) ip header no_ranges) (dropped v)
+    (quick_acked cx (with_draw v cx.instant) ip header no_ranges (few_ranges None None None)) (quick_dropped v)
 
 quick_outside : (cx : ContextValue) (v : TcpValue) (ip : IpRepr) (header : TcpHeader) (again : Bool) → IsQuick (outside cx v ip header again)
 quick_outside cx v ip header again =
-    let w = waiting_anew v header cx.moment in
+    let w = waiting_anew v header cx.instant in
     let open_yet : Arrived = if again then acked cx w ip header no_ranges else drawn cx w ip header in
-    quick_if (is_closed v.block.state) (dropped v) open_yet (quick_dropped v)
+    quick_if (is_closed v.tcb.state) (dropped v) open_yet (quick_dropped v)
     (quick_if again (acked cx w ip header no_ranges) (drawn cx w ip header) (quick_acked cx w ip header no_ranges (few_ranges None None None))
     (quick_drawn cx w ip header))
 
 quick_passed_outside : (cx : ContextValue) (v : TcpValue) (ip : IpRepr) (header : TcpHeader) (size by : ℕ) → IsQuick (passed_outside cx v ip header size by)
 quick_passed_outside cx v ip header size by =
-    let told_of = acknowledged (echo_heard v header by cx.moment) by cx.moment in
-    quick_if (tells_news v header size) (outside cx told_of ip header (has_length header size)) (outside cx v ip header false)
+    let told_of = acknowledged (tsecr_heard v header by cx.instant) by cx.instant in
+    quick_if (is_before_window v header size) (outside cx told_of ip header (has_length header size)) (outside cx v ip header false)
     (quick_outside cx told_of ip header (has_length header size)) (quick_outside cx v ip header false)
 
 quick_answer : (cx : ContextValue) (v : TcpValue) (ip : IpRepr) (header : TcpHeader) (size : ℕ) (fills : Bool) (early : Option ℕ) →
     IsQuick (answer_for cx v ip header size fills early)
-quick_answer cx v ip header size fills (Some place) = quick_acked cx v ip header (ranges_held v place) (few_held v place)
+quick_answer cx v ip header size fills (Some offset) = quick_acked cx v ip header (sack_blocks v offset) (few_held v offset)
 quick_answer cx v ip header size fills None =
-    let later = with_block v (ack_due v.block header size fills cx.moment) in
-    quick_if (answers_at_once cx v.block ip header size) (acked cx v ip header no_ranges) (dropped later)
+    let later = with_tcb v (ack_due v.tcb header size fills cx.instant) in
+    quick_if (answers_at_once cx v.tcb ip header size) (acked cx v ip header no_ranges) (dropped later)
     (quick_acked cx v ip header no_ranges (few_ranges None None None)) (quick_dropped later)
 
-quick_finished : (cx : ContextValue) (old : Block) (t : Texted) (ip : IpRepr) (header : TcpHeader) (size : ℕ) → IsQuick (finished cx old t ip header size)
+quick_finished : (cx : ContextValue) (old : Tcb) (t : DataStored) (ip : IpRepr) (header : TcpHeader) (size : ℕ) → IsQuick (finished cx old t ip header size)
 quick_finished cx old t ip header size =
-    quick_answer cx (with_block t.socket (probe_kept (with_fin t.socket.block old header size t.advance cx.moment) (queued_in t.socket))) ip header size
+    quick_answer cx (with_tcb t.socket (probe_kept (with_fin t.socket.tcb old header size t.advance cx.instant) (queued_in t.socket))) ip header size
     t.fills t.early
 
 quick_content : (cx : ContextValue) (v : TcpValue) (ip : IpRepr) (header : TcpHeader) (bytes : List ℕ) → IsQuick (with_content cx v ip header bytes)
-quick_content cx v ip header bytes = quick_finished cx v.block (with_text v header bytes) ip header (length bytes)
+quick_content cx v ip header bytes = quick_finished cx v.tcb (with_payload v header bytes) ip header (length bytes)
 
-quick_continued : (cx : ContextValue) (old : Block) (v : TcpValue) (ip : IpRepr) (header : TcpHeader) (bytes : List ℕ) (by : ℕ) →
+quick_continued : (cx : ContextValue) (old : Tcb) (v : TcpValue) (ip : IpRepr) (header : TcpHeader) (bytes : List ℕ) (by : ℕ) →
     IsQuick (continued cx old v ip header bytes by)
 quick_continued cx old v ip header bytes by =
-    let heard_of = told v header (duplicates_after old header (length bytes) by) cx.moment in
-    quick_if (is_closed v.block.state) (dropped v) (with_content cx heard_of ip header bytes) (quick_dropped v) (quick_content cx heard_of ip header bytes)
+    let heard_of = told v header (duplicates_after old header (length bytes) by) cx.instant in
+    quick_if (is_closed v.tcb.state) (dropped v) (with_content cx heard_of ip header bytes) (quick_dropped v) (quick_content cx heard_of ip header bytes)
 
 quick_inside : (cx : ContextValue) (v : TcpValue) (ip : IpRepr) (header : TcpHeader) (bytes : List ℕ) (by : ℕ) → IsQuick (inside cx v ip header bytes by)
 quick_inside cx v ip header bytes by =
     quick_if (is_syn header.control) (drawn cx v ip header) (taken cx v ip header bytes by) (quick_drawn cx v ip header)
-    (quick_continued cx v.block (acknowledged (echo_heard v header by cx.moment) by cx.moment) ip header bytes by)
+    (quick_continued cx v.tcb (acknowledged (tsecr_heard v header by cx.instant) by cx.instant) ip header bytes by)
 
 quick_checked : (c : Check) (cx : ContextValue) (v : TcpValue) (ip : IpRepr) (header : TcpHeader) (bytes : List ℕ) → IsQuick (checked c cx v ip header bytes)
 quick_checked (Passes by) cx v ip header bytes =
-    quick_if (is_in_window v.block (free_in v) header (length bytes)) (inside cx v ip header bytes by) (passed_outside cx v ip header (length bytes) by)
+    quick_if (is_in_window v.tcb (free_in v) header (length bytes)) (inside cx v ip header bytes by) (passed_outside cx v ip header (length bytes) by)
     (quick_inside cx v ip header bytes by) (quick_passed_outside cx v ip header (length bytes) by)
 quick_checked Old cx v ip header bytes =
-    let heard_of = with_block v (stamp_taken (heard v.block) header cx.moment) in
-    let again = comes_again v header (length bytes) in
-    quick_if (is_in_window v.block (free_in v) header (length bytes)) (with_content cx heard_of ip header bytes) (outside cx v ip header again)
+    let heard_of = with_tcb v (tsval_taken (heard v.tcb) header cx.instant) in
+    let again = is_repeated v header (length bytes) in
+    quick_if (is_in_window v.tcb (free_in v) header (length bytes)) (with_content cx heard_of ip header bytes) (outside cx v ip header again)
     (quick_content cx heard_of ip header bytes) (quick_outside cx v ip header again)
 quick_checked Drops cx v ip header bytes = quick_dropped v
 quick_checked Draws cx v ip header bytes = quick_drawn cx v ip header
 quick_checked Resets cx v ip header bytes = quick_reset v ip header (length bytes)
 
-quick_reset_comes : (cx : ContextValue) (v : TcpValue) (ip : IpRepr) (header : TcpHeader) (size : ℕ) → IsQuick (reset_comes cx v ip header size)
-quick_reset_comes cx v ip header size =
+quick_reset_arrives : (cx : ContextValue) (v : TcpValue) (ip : IpRepr) (header : TcpHeader) (size : ℕ) → IsQuick (reset_arrives cx v ip header size)
+quick_reset_arrives cx v ip header size =
     let rest : Arrived = if challenges_reset v header size then drawn cx v ip header else dropped v in
-    quick_if (takes_reset v.block header) (dropped (taken_down v)) rest (quick_dropped (taken_down v))
+    quick_if (takes_reset v.tcb header) (dropped (taken_down v)) rest (quick_dropped (taken_down v))
     (quick_if (challenges_reset v header size) (drawn cx v ip header) (dropped v) (quick_drawn cx v ip header) (quick_dropped v))
 
 quick_received : (cx : ContextValue) (v : TcpValue) (ip : IpRepr) (header : TcpHeader) (bytes : List ℕ) → IsQuick (received cx v ip header bytes)
 quick_received cx v ip header bytes =
-    let check = acknowledgement_check v.block header.ack_number in
-    let rest : Arrived = if draws_first v.block header cx.moment then drawn cx v ip header else checked check cx v ip header bytes in
-    quick_if (is_rst header.control) (reset_comes cx v ip header (length bytes)) rest (quick_reset_comes cx v ip header (length bytes))
-    (quick_if (draws_first v.block header cx.moment) (drawn cx v ip header) (checked check cx v ip header bytes) (quick_drawn cx v ip header)
+    let check = acknowledgement_check v.tcb header.ack_number in
+    let rest : Arrived = if challenges_first v.tcb header cx.instant then drawn cx v ip header else checked check cx v ip header bytes in
+    quick_if (is_rst header.control) (reset_arrives cx v ip header (length bytes)) rest (quick_reset_arrives cx v ip header (length bytes))
+    (quick_if (challenges_first v.tcb header cx.instant) (drawn cx v ip header) (checked check cx v ip header bytes) (quick_drawn cx v ip header)
     (quick_checked check cx v ip header bytes))
 
 quick_takes_answer : (cx : ContextValue) (v : TcpValue) (ip : IpRepr) (header : TcpHeader) (bytes : List ℕ) → IsQuick (takes_answer cx v ip header bytes)
 quick_takes_answer cx v ip header bytes =
-    let known = acks_syn v.block.sender.una header.ack_number in
-    let taken_syn = with_block v (timeout_restarted (syn_answered v.block header cx.moment) cx.moment (queued_in v)) in
+    let known = acks_syn v.tcb.sender.una header.ack_number in
+    let taken_syn = with_tcb v (timeout_restarted (syn_answered v.tcb header cx.instant) cx.instant (queued_in v)) in
     let reset = answered_with v (rst_reply ip header (length bytes)) in
     let down : Arrived = if known then dropped (ended v) else dropped v in
     let last : Arrived = if is_syn header.control then dropped taken_syn else dropped v in
@@ -217,8 +217,8 @@ sendable_in In.Closed cx v ip header bytes = tt
 sendable_in In.Listen cx v ip header bytes =
     let opened : Arrived = record {
       socket =
-          with_block v
-          (timeout_restarted (believed (answering v.block ip header (first_number cx (pair_in ip header))) cx.moment) cx.moment 0);
+          with_tcb v
+          (timeout_restarted (believed (answering v.tcb ip header (isn cx (pair_in ip header))) cx.instant) cx.instant 0);
       answer = None;
       draws = draws_number cx;
     } in
@@ -229,5 +229,5 @@ sendable_in other cx v ip header bytes = (quick_received cx v ip header bytes).s
 pub sendable_answer : (cx : ContextValue) (v : TcpValue) (ip : IpRepr) (header : TcpHeader) (bytes : List ℕ) →
     IfSome (arrives cx v ip header bytes).answer (λ reply. IsSendable (packet_in reply))
 sendable_answer cx v ip header bytes =
-    if_sendable (is_void_syn header) (dropped (unoffered v)) (arrives_in v.block.state cx (unoffered v) ip header bytes) tt
-    (sendable_in v.block.state cx (unoffered v) ip header bytes)
+    if_sendable (is_void_syn header) (dropped (unoffered v)) (arrives_in v.tcb.state cx (unoffered v) ip header bytes) tt
+    (sendable_in v.tcb.state cx (unoffered v) ip header bytes)

@@ -7,18 +7,18 @@ use Rattle.std.proofs.lemmas.Bool.Decides.{nat_tests}
 use Rattle.std.proofs.lemmas.List.{length-take-le, take_all, length-take}
 use Rattle.net_base.specs.Ring.{Ring, capacity, rotated, storage_of, cleared, overwritten, extended, released}
 use Rattle.net_base.specs.Assembler.{IsUnion, added, front, without_front}
-use Rattle.held_bytes.specs.ReceiveMap as receive
-use Rattle.held_bytes.specs.ReceiveMap.{space, store}
-use Rattle.held_bytes.specs.Held.{map_from, runs_of, overlay, EndsBy}
-use Rattle.held_bytes.proofs.Places.{length-map_from, map_from-space, map_from-more}
-use Rattle.held_bytes.proofs.Storing.{held-store, overlay-overwritten, length-overlay, EndsBy-union}
-use Rattle.held_bytes.proofs.Fronts.{takes_front}
-use Rattle.held_bytes.proofs.RunsOf.{runs_of-held}
-use Rattle.tcp_model.specs.Calls.{read_from}
-use Rattle.tcp_model.specs.Answers.{run_at}
+use Rattle.tcp_ranges.specs.ReceiveMap as receive
+use Rattle.tcp_ranges.specs.ReceiveMap.{space, store}
+use Rattle.tcp_ranges.specs.OutOfOrder.{map_from, runs_of, overlay, EndsBy}
+use Rattle.tcp_ranges.proofs.Offsets.{length-map_from, map_from-space, map_from-more}
+use Rattle.tcp_ranges.proofs.Storing.{held-store, overlay-overwritten, length-overlay, EndsBy-union}
+use Rattle.tcp_ranges.proofs.Fronts.{takes_front}
+use Rattle.tcp_ranges.proofs.RunsOf.{runs_of-held}
+use Rattle.tcp_block.specs.Calls.{read_from}
+use Rattle.tcp_block.specs.Answers.{run_at}
 use Rattle.tcp_socket.specs.Receive as buffer
 use Rattle.tcp_socket.specs.Receive.{received, IsHeldBy, most_bytes}
-use Rattle.tcp_model.specs.Value.{Received, received_of, room_of, emptied}
+use Rattle.tcp_block.specs.Value.{Received, received_of, room_of, emptied}
 
 pub capacity-received : (r : Ring ℕ) (held : List (ℕ × ℕ)) → capacity r ≡ room_of (received r held)
 capacity-received r held = ap (λ n. length r.queue + n) (sym (length-map_from held 0 r.free))
@@ -85,7 +85,7 @@ stores r held bytes is short =
     let laid = overlay-overwritten r 0 bytes (omega (arith, short)) in
     let waiting : r.queue ++ take n (overwritten r 0 bytes).free ≡ r.queue ++ receive.front (store (map_from held 0 r.free) 0 bytes) =
     ap (λ xs. r.queue ++ xs) (ap (take n) laid ∙ sym t.taken) in
-    let map : map_from rest 0 (drop n (overwritten r 0 bytes).free) ≡ receive.behind (store (map_from held 0 r.free) 0 bytes) =
+    let map : map_from rest 0 (drop n (overwritten r 0 bytes).free) ≡ receive.following (store (map_from held 0 r.free) 0 bytes) =
     ap (λ xs. map_from rest 0 (drop n xs)) laid ∙ sym t.left in
     record {
       fits = rw laid t.fits;
@@ -210,10 +210,10 @@ does_hold r held v past bytes n laid runs is by far fits union few n_is laid_is 
       value = rw (laid_at, runs_is, ← is, test) value;
     }
 
-pub run_held : (r : Ring ℕ) (held : List (ℕ × ℕ)) (v : Received) (place : ℕ) → received r held ≡ v → IsHeldBy r held →
-    run_at held place ≡ run_at (runs_of v.map) place
-run_held r held v place is by =
-    rw (← is) (ap (λ rs. run_at rs place) (sym (runs_of-held held r.free by.runs by.ends)))
+pub run_held : (r : Ring ℕ) (held : List (ℕ × ℕ)) (v : Received) (offset : ℕ) → received r held ≡ v → IsHeldBy r held →
+    run_at held offset ≡ run_at (runs_of v.map) offset
+run_held r held v offset is by =
+    rw (← is) (ap (λ rs. run_at rs offset) (sym (runs_of-held held r.free by.runs by.ends)))
 
 -- whether anything is held
 pub holds_held : (r : Ring ℕ) (held : List (ℕ × ℕ)) (v : Received) (empty : Bool) → received r held ≡ v → IsHeldBy r held → IsTrue empty ↔ (held ≡ []) →

@@ -7,20 +7,20 @@ use Rattle.std.proofs.lemmas.Bool.{cases_lt}
 use Rattle.std.proofs.lemmas.List.{take_all, length-take-le, nil_from_length}
 use Rattle.net_base.specs.Assembler.{added, front, without_front}
 use Rattle.net_base.specs.Ring.{Ring, capacity, contiguous, unbroken_free, overwritten}
-use Rattle.net_containers.proofs.RingSteps.{length-overwritten_many, overwritten-overwritten}
+use Rattle.base_buffer.proofs.RingSteps.{length-overwritten_many, overwritten-overwritten}
 use Rattle.ip_wire.specs.Sum.{word_sum, folded}
-use Rattle.held_bytes.specs.Held.{runs_of, map_from}
-use Rattle.held_bytes.specs.ReceiveMap.{space}
-use Rattle.held_bytes.proofs.RunsOf.{runs_of-held}
+use Rattle.tcp_ranges.specs.OutOfOrder.{runs_of, map_from}
+use Rattle.tcp_ranges.specs.ReceiveMap.{space}
+use Rattle.tcp_ranges.proofs.RunsOf.{runs_of-held}
 use Rattle.tcp_socket.proofs.Buffers.{map_from-nothing, room, Does_store, does_store}
 use Rattle.tcp_socket.specs.Receive.{received, IsHeldBy, most_bytes}
-use Rattle.tcp_model.specs.Value.{Received}
+use Rattle.tcp_block.specs.Value.{Received}
 
 -- what comes up to the end of a ring goes on at its beginning
 wraps : (m c k : ℕ) → m % c + k ≡ c → (m + k) % c ≡ 0
 wraps m c k is = sym (mod-add-mod m c k) ∙ ap (λ i. i % c) is ∙ mod_self c
 
--- what lies behind the end of the storage, where the rest lies before it
+-- what lies after the end of the storage, where the rest lies before it
 pub second_part : (r : Ring ℕ) (n first k : ℕ) (ws : List ℕ) → n ≤ length r.free → first ≡ min n (contiguous r) → length ws ≡ first → k ≡ n - first →
     unbroken_free (overwritten r 0 ws) first k ≡ k
 second_part r n first k ws fits is long rest =
@@ -40,7 +40,7 @@ second_part r n first k ws fits is long rest =
 pub take_rest : (bytes : List ℕ) (n : ℕ) → take (length bytes - n) (drop n bytes) ≡ drop n bytes
 take_rest bytes n = take_all (length bytes - n) (drop n bytes) (omega (arith, length-drop n bytes))
 
--- both parts, one behind the other
+-- both parts, one after the other
 pub both_parts : (r one two : Ring ℕ) (first : ℕ) (bytes : List ℕ) → first ≤ length bytes → length bytes ≤ length r.free
     → one ≡ overwritten r 0 (take first bytes) → two ≡ overwritten one first (take (length bytes - first) (drop first bytes)) → two ≡ overwritten r 0 bytes
 both_parts r one two first bytes short fits one_is two_is =
@@ -58,7 +58,7 @@ both_parts r one two first bytes short fits one_is two_is =
 pub both_sums : (bytes : List ℕ) (first sum : ℕ) → sum ≡ folded (word_sum (take first bytes ++ drop first bytes)) → sum ≡ folded (word_sum bytes)
 both_sums bytes first sum is = is ∙ ap (λ xs. folded (word_sum xs)) (take-append-drop first bytes)
 
--- What lies in free places that hold nothing isn't seen.
+-- What lies in free offsets that hold nothing isn't seen.
 pub record Unseen (v : Received) (laid : Ring ℕ) (held : List (ℕ × ℕ)) : Type 0 where
   pub value : received laid held ≡ v
   pub kept : IsHeldBy laid held

@@ -3,22 +3,22 @@ use Rattle.std.proofs.Common.{◌≡◌, ℕ, ℤ, Bool, true, false, Option, So
 use Rattle.ip_wire.specs.SeqNumber.{SeqNumber}
 use Rattle.ip_wire.specs.TcpControl.{TcpControl}
 use Rattle.ip_wire.specs.TcpHeader.{TcpHeader}
-use Rattle.socket_base.specs.Context.{ContextValue}
-use Rattle.socket_base.specs.declared.offer.Offer.{Offer}
-use Rattle.socket_base.specs.Offers.{Offered}
-use Rattle.tcp_model.specs.EndpointPair.{EndpointPair}
-use Rattle.tcp_model.specs.Moments.{is_due}
-use Rattle.tcp_model.specs.OfferKind.{OfferKind}
-use Rattle.tcp_model.specs.OfferKind.TheVariants as Kind
-use Rattle.tcp_model.specs.Offers.{offer_segment, offer_choice, silent, offer_ack, offer_reset, offer_keep_alive, offer_held_back, last_rules, number_at, first_rules, backed_off, offer_between, offer_with}
-use Rattle.tcp_model.specs.Retries.{gives_up, given_up}
-use Rattle.tcp_model.specs.Probing.{probe_moment}
-use Rattle.tcp_model.specs.Rules.{Choice, control_for, time_wait_end, ack_moment, updates_window, keep_alive_moment}
-use Rattle.tcp_model.specs.Segments.{segment}
-use Rattle.tcp_model.specs.States.{is_closed}
-use Rattle.tcp_model.specs.Timeout.{timeout_end, timeout_started, timed_out}
-use Rattle.tcp_model.specs.Value.{TcpValue, with_block, ended, queued_in, free_in, room_of, window_of}
-use Rattle.tcp_model.specs.declared.block.Block.{Block}
+use Rattle.socket_context.specs.Context.{ContextValue}
+use Rattle.socket_context.specs.declared.offer.Offer.{Offer}
+use Rattle.socket_context.specs.Offers.{Offered}
+use Rattle.tcp_block.specs.FourTuple.{FourTuple}
+use Rattle.tcp_block.specs.Moments.{is_due}
+use Rattle.tcp_block.specs.OfferKind.{OfferKind}
+use Rattle.tcp_block.specs.OfferKind.TheVariants as Kind
+use Rattle.tcp_block.specs.Offers.{offer_segment, offer_choice, silent, offer_ack, offer_reset, offer_keep_alive, offer_window_limited, last_rules, number_at, first_rules, backed_off, offer_between, offer_with}
+use Rattle.tcp_block.specs.Retries.{gives_up, given_up}
+use Rattle.tcp_block.specs.Probing.{probe_deadline}
+use Rattle.tcp_block.specs.Rules.{Choice, control_for, time_wait_end, ack_deadline, updates_window, keep_alive_deadline}
+use Rattle.tcp_block.specs.Segments.{segment}
+use Rattle.tcp_block.specs.States.{is_closed}
+use Rattle.tcp_block.specs.Timeout.{timeout_end, timeout_started, timed_out}
+use Rattle.tcp_block.specs.Value.{TcpValue, with_tcb, ended, queued_in, free_in, room_of, window_of}
+use Rattle.tcp_block.specs.declared.tcb.Tcb.{Tcb}
 
 -- what an offer answers, and what it leaves
 pub record Gives (o : Offered TcpValue) (answer : Offer) (socket : TcpValue) : Type 0 where
@@ -35,159 +35,159 @@ pub at_first : (test : Bool) (x y : Offered TcpValue) (answer : Offer) (socket :
 at_first true x y answer socket is gives = gives
 at_first false x y answer socket is gives = absurd cc
 
--- a test that was made of the same moments
-pub due_as : (t : Bool) (now now' : ℤ) (moment moment' : Option ℤ) (test : Bool) → now' ≡ now → moment' ≡ moment → test ≡ is_due now' moment' → test ≡ t →
-    is_due now moment ≡ t
-due_as t now now' moment moment' test at of is so = rw (← at, ← of, ← is) so
+-- a test that was made of the same instants
+pub due_as : (t : Bool) (now now' : ℤ) (instant instant' : Option ℤ) (test : Bool) → now' ≡ now → instant' ≡ instant → test ≡ is_due now' instant' → test ≡ t →
+    is_due now instant ≡ t
+due_as t now now' instant instant' test at of is so = rw (← at, ← of, ← is) so
 
 -- THE RULES BEFORE THE FIRST TEXT
 
-module _ (cx : ContextValue) (v : TcpValue) (pair : EndpointPair) (answer : Offer) (socket : TcpValue) where
+module _ (cx : ContextValue) (v : TcpValue) (pair : FourTuple) (answer : Offer) (socket : TcpValue) where
   abbrev started : TcpValue
-  started = with_block v (backed_off cx.moment (timeout_started cx.moment (queued_in v) v.block))
+  started = with_tcb v (backed_off cx.instant (timeout_started cx.instant (queued_in v) v.tcb))
 
   abbrev closed_rule : Offered TcpValue
-  closed_rule = if v.block.sender.reset_due then offer_reset cx v pair else silent false v
+  closed_rule = if v.tcb.sender.reset_due then offer_reset cx v pair else silent false v
 
   abbrev open_rule : Offered TcpValue
-  open_rule = if gives_up cx.moment v.block (queued_in v) then silent true (given_up v) else first_rules cx started pair
+  open_rule = if gives_up cx.instant v.tcb (queued_in v) then silent true (given_up v) else first_rules cx started pair
 
   abbrev timed_rule : Offered TcpValue
   timed_rule =
-      if is_due cx.moment (timeout_end v.block (queued_in v)) then silent true (with_block v (timed_out v.block))
-      else if is_closed v.block.state then closed_rule else open_rule
+      if is_due cx.instant (timeout_end v.tcb (queued_in v)) then silent true (with_tcb v (timed_out v.tcb))
+      else if is_closed v.tcb.state then closed_rule else open_rule
 
   -- TIME-WAIT ends
-  pub wait_ends : is_due cx.moment (time_wait_end v.block) ≡ true → Gives (silent true (ended v)) answer socket → Gives (offer_between cx v pair) answer socket
-  wait_ends ends gives = at_first (is_due cx.moment (time_wait_end v.block)) (silent true (ended v)) timed_rule answer socket ends gives
+  pub wait_ends : is_due cx.instant (time_wait_end v.tcb) ≡ true → Gives (silent true (ended v)) answer socket → Gives (offer_between cx v pair) answer socket
+  wait_ends ends gives = at_first (is_due cx.instant (time_wait_end v.tcb)) (silent true (ended v)) timed_rule answer socket ends gives
 
-  module _ (waiting : is_due cx.moment (time_wait_end v.block) ≡ false) where
-    behind_wait : Gives timed_rule answer socket → Gives (offer_between cx v pair) answer socket
-    behind_wait gives = otherwise (is_due cx.moment (time_wait_end v.block)) (silent true (ended v)) timed_rule answer socket waiting gives
+  module _ (waiting : is_due cx.instant (time_wait_end v.tcb) ≡ false) where
+    following_wait : Gives timed_rule answer socket → Gives (offer_between cx v pair) answer socket
+    following_wait gives = otherwise (is_due cx.instant (time_wait_end v.tcb)) (silent true (ended v)) timed_rule answer socket waiting gives
 
     -- the user timeout does
-    pub timeout_ends : is_due cx.moment (timeout_end v.block (queued_in v)) ≡ true → Gives (silent true (with_block v (timed_out v.block))) answer socket
+    pub timeout_ends : is_due cx.instant (timeout_end v.tcb (queued_in v)) ≡ true → Gives (silent true (with_tcb v (timed_out v.tcb))) answer socket
         → Gives (offer_between cx v pair) answer socket
     timeout_ends ends gives =
-        behind_wait (at_first (is_due cx.moment (timeout_end v.block (queued_in v))) (silent true (with_block v (timed_out v.block)))
-        (if is_closed v.block.state then closed_rule else open_rule) answer socket ends gives)
+        following_wait (at_first (is_due cx.instant (timeout_end v.tcb (queued_in v))) (silent true (with_tcb v (timed_out v.tcb)))
+        (if is_closed v.tcb.state then closed_rule else open_rule) answer socket ends gives)
 
-    module _ (timed : is_due cx.moment (timeout_end v.block (queued_in v)) ≡ false) where
-      behind_timeout : Gives (if is_closed v.block.state then closed_rule else open_rule) answer socket → Gives (offer_between cx v pair) answer socket
-      behind_timeout gives =
-          behind_wait (otherwise (is_due cx.moment (timeout_end v.block (queued_in v))) (silent true (with_block v (timed_out v.block)))
-          (if is_closed v.block.state then closed_rule else open_rule) answer socket timed gives)
+    module _ (timed : is_due cx.instant (timeout_end v.tcb (queued_in v)) ≡ false) where
+      following_timeout : Gives (if is_closed v.tcb.state then closed_rule else open_rule) answer socket → Gives (offer_between cx v pair) answer socket
+      following_timeout gives =
+          following_wait (otherwise (is_due cx.instant (timeout_end v.tcb (queued_in v))) (silent true (with_tcb v (timed_out v.tcb)))
+          (if is_closed v.tcb.state then closed_rule else open_rule) answer socket timed gives)
 
       -- there is no connection
-      pub is_over : is_closed v.block.state ≡ true → Gives closed_rule answer socket → Gives (offer_between cx v pair) answer socket
-      is_over closed gives = behind_timeout (at_first (is_closed v.block.state) closed_rule open_rule answer socket closed gives)
+      pub is_over : is_closed v.tcb.state ≡ true → Gives closed_rule answer socket → Gives (offer_between cx v pair) answer socket
+      is_over closed gives = following_timeout (at_first (is_closed v.tcb.state) closed_rule open_rule answer socket closed gives)
 
-      module _ (opened : is_closed v.block.state ≡ false) where
-        behind_state : Gives open_rule answer socket → Gives (offer_between cx v pair) answer socket
-        behind_state gives = behind_timeout (otherwise (is_closed v.block.state) closed_rule open_rule answer socket opened gives)
+      module _ (opened : is_closed v.tcb.state ≡ false) where
+        following_state : Gives open_rule answer socket → Gives (offer_between cx v pair) answer socket
+        following_state gives = following_timeout (otherwise (is_closed v.tcb.state) closed_rule open_rule answer socket opened gives)
 
         -- the connection gives up
-        pub is_given_up : gives_up cx.moment v.block (queued_in v) ≡ true → Gives (silent true (given_up v)) answer socket
+        pub is_given_up : gives_up cx.instant v.tcb (queued_in v) ≡ true → Gives (silent true (given_up v)) answer socket
             → Gives (offer_between cx v pair) answer socket
         is_given_up giving gives =
-            behind_state (at_first (gives_up cx.moment v.block (queued_in v)) (silent true (given_up v)) (first_rules cx started pair) answer socket giving gives)
+            following_state (at_first (gives_up cx.instant v.tcb (queued_in v)) (silent true (given_up v)) (first_rules cx started pair) answer socket giving gives)
 
         -- none of the four
-        pub goes_first : (w : TcpValue) → gives_up cx.moment v.block (queued_in v) ≡ false → w ≡ started → Gives (first_rules cx w pair) answer socket
+        pub goes_first : (w : TcpValue) → gives_up cx.instant v.tcb (queued_in v) ≡ false → w ≡ started → Gives (first_rules cx w pair) answer socket
             → Gives (offer_between cx v pair) answer socket
         goes_first w giving is gives =
-            behind_state (otherwise (gives_up cx.moment v.block (queued_in v)) (silent true (given_up v)) (first_rules cx started pair) answer socket giving
+            following_state (otherwise (gives_up cx.instant v.tcb (queued_in v)) (silent true (given_up v)) (first_rules cx started pair) answer socket giving
             (subst (λ (x : TcpValue). Gives (first_rules cx x pair) answer socket) is gives))
 
 -- a socket with two ends offers what its rules between them say
-pub goes_between : (cx : ContextValue) (v w : TcpValue) (o : Option EndpointPair) (pair : EndpointPair) (answer : Offer) (socket : TcpValue)
+pub goes_between : (cx : ContextValue) (v w : TcpValue) (o : Option FourTuple) (pair : FourTuple) (answer : Offer) (socket : TcpValue)
     → o ≡ Some pair → w ≡ v → Gives (offer_between cx w pair) answer socket → Gives (offer_with o cx v) answer socket
 goes_between cx v w o pair answer socket some is gives =
     rw some (subst (λ (x : TcpValue). Gives (offer_between cx x pair) answer socket) is gives)
 
 -- THE RULES BEHIND THE TEXT
 
-module _ (cx : ContextValue) (v : TcpValue) (pair : EndpointPair) (answer : Offer) (socket : TcpValue) where
+module _ (cx : ContextValue) (v : TcpValue) (pair : FourTuple) (answer : Offer) (socket : TcpValue) where
   abbrev alive_rule : Offered TcpValue
-  alive_rule = if is_due cx.moment (keep_alive_moment v.block) then offer_keep_alive cx v pair else silent false v
+  alive_rule = if is_due cx.instant (keep_alive_deadline v.tcb) then offer_keep_alive cx v pair else silent false v
 
   abbrev update_rule : Offered TcpValue
-  update_rule = if updates_window v.block (room_of v.received) (free_in v) then offer_ack Kind.WindowUpdate cx v pair else alive_rule
+  update_rule = if updates_window v.tcb (room_of v.received) (free_in v) then offer_ack Kind.WindowUpdate cx v pair else alive_rule
 
   abbrev ack_rule : Offered TcpValue
-  ack_rule = if is_due cx.moment (ack_moment v.block) then offer_ack Kind.Ack cx v pair else update_rule
+  ack_rule = if is_due cx.instant (ack_deadline v.tcb) then offer_ack Kind.Ack cx v pair else update_rule
 
   -- a small window held it back
-  pub goes_held_back : is_due cx.moment (probe_moment v.block (queued_in v)) ≡ true → Gives (offer_held_back cx v pair) answer socket
+  pub goes_window_limited : is_due cx.instant (probe_deadline v.tcb (queued_in v)) ≡ true → Gives (offer_window_limited cx v pair) answer socket
       → Gives (last_rules cx v pair) answer socket
-  goes_held_back due gives = at_first (is_due cx.moment (probe_moment v.block (queued_in v))) (offer_held_back cx v pair) ack_rule answer socket due gives
+  goes_window_limited due gives = at_first (is_due cx.instant (probe_deadline v.tcb (queued_in v))) (offer_window_limited cx v pair) ack_rule answer socket due gives
 
-  module _ (no_probe : is_due cx.moment (probe_moment v.block (queued_in v)) ≡ false) where
-    behind_probe : Gives ack_rule answer socket → Gives (last_rules cx v pair) answer socket
-    behind_probe gives =
-        otherwise (is_due cx.moment (probe_moment v.block (queued_in v))) (offer_held_back cx v pair) ack_rule answer socket no_probe gives
+  module _ (no_probe : is_due cx.instant (probe_deadline v.tcb (queued_in v)) ≡ false) where
+    following_probe : Gives ack_rule answer socket → Gives (last_rules cx v pair) answer socket
+    following_probe gives =
+        otherwise (is_due cx.instant (probe_deadline v.tcb (queued_in v))) (offer_window_limited cx v pair) ack_rule answer socket no_probe gives
 
     -- an acknowledgement is due
-    pub goes_ack : is_due cx.moment (ack_moment v.block) ≡ true → Gives (offer_ack Kind.Ack cx v pair) answer socket
+    pub goes_ack : is_due cx.instant (ack_deadline v.tcb) ≡ true → Gives (offer_ack Kind.Ack cx v pair) answer socket
         → Gives (last_rules cx v pair) answer socket
     goes_ack due gives =
-        behind_probe (at_first (is_due cx.moment (ack_moment v.block)) (offer_ack Kind.Ack cx v pair) update_rule answer socket due gives)
+        following_probe (at_first (is_due cx.instant (ack_deadline v.tcb)) (offer_ack Kind.Ack cx v pair) update_rule answer socket due gives)
 
-    module _ (no_ack : is_due cx.moment (ack_moment v.block) ≡ false) where
-      behind_ack : Gives update_rule answer socket → Gives (last_rules cx v pair) answer socket
-      behind_ack gives =
-          behind_probe (otherwise (is_due cx.moment (ack_moment v.block)) (offer_ack Kind.Ack cx v pair) update_rule answer socket no_ack gives)
+    module _ (no_ack : is_due cx.instant (ack_deadline v.tcb) ≡ false) where
+      following_ack : Gives update_rule answer socket → Gives (last_rules cx v pair) answer socket
+      following_ack gives =
+          following_probe (otherwise (is_due cx.instant (ack_deadline v.tcb)) (offer_ack Kind.Ack cx v pair) update_rule answer socket no_ack gives)
 
       -- the window is told
-      pub goes_update : updates_window v.block (room_of v.received) (free_in v) ≡ true → Gives (offer_ack Kind.WindowUpdate cx v pair) answer socket
+      pub goes_update : updates_window v.tcb (room_of v.received) (free_in v) ≡ true → Gives (offer_ack Kind.WindowUpdate cx v pair) answer socket
           → Gives (last_rules cx v pair) answer socket
       goes_update updates gives =
-          behind_ack (at_first (updates_window v.block (room_of v.received) (free_in v)) (offer_ack Kind.WindowUpdate cx v pair) alive_rule answer socket updates gives)
+          following_ack (at_first (updates_window v.tcb (room_of v.received) (free_in v)) (offer_ack Kind.WindowUpdate cx v pair) alive_rule answer socket updates gives)
 
-      module _ (no_update : updates_window v.block (room_of v.received) (free_in v) ≡ false) where
-        behind_update : Gives alive_rule answer socket → Gives (last_rules cx v pair) answer socket
-        behind_update gives =
-            behind_ack (otherwise (updates_window v.block (room_of v.received) (free_in v)) (offer_ack Kind.WindowUpdate cx v pair) alive_rule answer socket no_update gives)
+      module _ (no_update : updates_window v.tcb (room_of v.received) (free_in v) ≡ false) where
+        following_update : Gives alive_rule answer socket → Gives (last_rules cx v pair) answer socket
+        following_update gives =
+            following_ack (otherwise (updates_window v.tcb (room_of v.received) (free_in v)) (offer_ack Kind.WindowUpdate cx v pair) alive_rule answer socket no_update gives)
 
         -- a keep-alive is due
-        pub goes_alive : is_due cx.moment (keep_alive_moment v.block) ≡ true → Gives (offer_keep_alive cx v pair) answer socket
+        pub goes_alive : is_due cx.instant (keep_alive_deadline v.tcb) ≡ true → Gives (offer_keep_alive cx v pair) answer socket
             → Gives (last_rules cx v pair) answer socket
         goes_alive due gives =
-            behind_update (at_first (is_due cx.moment (keep_alive_moment v.block)) (offer_keep_alive cx v pair) (silent false v) answer socket due gives)
+            following_update (at_first (is_due cx.instant (keep_alive_deadline v.tcb)) (offer_keep_alive cx v pair) (silent false v) answer socket due gives)
 
         -- nothing is
-        pub goes_nothing : is_due cx.moment (keep_alive_moment v.block) ≡ false → Gives (silent false v) answer socket → Gives (last_rules cx v pair) answer socket
+        pub goes_nothing : is_due cx.instant (keep_alive_deadline v.tcb) ≡ false → Gives (silent false v) answer socket → Gives (last_rules cx v pair) answer socket
         goes_nothing none gives =
-            behind_update (otherwise (is_due cx.moment (keep_alive_moment v.block)) (offer_keep_alive cx v pair) (silent false v) answer socket none gives)
+            following_update (otherwise (is_due cx.instant (keep_alive_deadline v.tcb)) (offer_keep_alive cx v pair) (silent false v) answer socket none gives)
 
 -- A SEGMENT IS OFFERED
 
 -- a segment that is made of the same values
-pub made_of : (make : Block → ℤ → ℕ → TcpHeader) (v : TcpValue) (b : Block) (now moment : ℤ) (window : ℕ) (header : TcpHeader) → header ≡ make b now window
-    → b ≡ v.block → now ≡ moment → window ≡ window_of v → header ≡ make v.block moment (window_of v)
-made_of make v b now moment window header is of at with =
-    is ∙ ap (λ (x : Block). make x now window) of ∙ ap (λ (m : ℤ). make v.block m window) at ∙ ap (λ (n : ℕ). make v.block moment n) with
+pub made_of : (make : Tcb → ℤ → ℕ → TcpHeader) (v : TcpValue) (b : Tcb) (now instant : ℤ) (window : ℕ) (header : TcpHeader) → header ≡ make b now window
+    → b ≡ v.tcb → now ≡ instant → window ≡ window_of v → header ≡ make v.tcb instant (window_of v)
+made_of make v b now instant window header is of at with =
+    is ∙ ap (λ (x : Tcb). make x now window) of ∙ ap (λ (m : ℤ). make v.tcb m window) at ∙ ap (λ (n : ℕ). make v.tcb instant n) with
 
 -- a part of the send queue
-pub part_made : (v : TcpValue) (b : Block) (pair : EndpointPair) (now moment : ℤ) (window queued : ℕ) (control : TcpControl) (number : SeqNumber) (c : Choice)
-    (header : TcpHeader) → header ≡ segment b pair now window control number → b ≡ v.block → now ≡ moment → window ≡ window_of v
-    → control ≡ control_for c queued → queued ≡ queued_in v → number ≡ number_at b c.place
-    → header ≡ segment v.block pair moment (window_of v) (control_for c (queued_in v)) (number_at v.block c.place)
-part_made v b pair now moment window queued control number c header is of at with says all from =
-    made_of (λ (x : Block) (m : ℤ) (n : ℕ). segment x pair m n control number) v b now moment window header is of at with
-    ∙ ap (λ (t : TcpControl). segment v.block pair moment (window_of v) t number) (says ∙ ap (control_for c) all)
-    ∙ ap (λ (n : SeqNumber). segment v.block pair moment (window_of v) (control_for c (queued_in v)) n)
-    (from ∙ ap (λ (x : Block). number_at x c.place) of)
+pub part_made : (v : TcpValue) (b : Tcb) (pair : FourTuple) (now instant : ℤ) (window queued : ℕ) (control : TcpControl) (number : SeqNumber) (c : Choice)
+    (header : TcpHeader) → header ≡ segment b pair now window control number → b ≡ v.tcb → now ≡ instant → window ≡ window_of v
+    → control ≡ control_for c queued → queued ≡ queued_in v → number ≡ number_at b c.offset
+    → header ≡ segment v.tcb pair instant (window_of v) (control_for c (queued_in v)) (number_at v.tcb c.offset)
+part_made v b pair now instant window queued control number c header is of at with says all from =
+    made_of (λ (x : Tcb) (m : ℤ) (n : ℕ). segment x pair m n control number) v b now instant window header is of at with
+    ∙ ap (λ (t : TcpControl). segment v.tcb pair instant (window_of v) t number) (says ∙ ap (control_for c) all)
+    ∙ ap (λ (n : SeqNumber). segment v.tcb pair instant (window_of v) (control_for c (queued_in v)) n)
+    (from ∙ ap (λ (x : Tcb). number_at x c.offset) of)
 
 -- an offer of it
-pub gives_segment : (kind : OfferKind) (cx : ContextValue) (v w : TcpValue) (pair : EndpointPair) (header other : TcpHeader) (place len : ℕ) (answer : Offer)
-    → answer ≡ (offer_segment kind cx v pair header place len).answer → w ≡ (offer_segment kind cx v pair header place len).socket → header ≡ other
-    → Gives (offer_segment kind cx v pair other place len) answer w
-gives_segment kind cx v w pair header other place len answer answer_is w_is is =
-    record { answer_is = answer_is; socket_is = w_is ∙ ap (λ (h : TcpHeader). (offer_segment kind cx v pair h place len).socket) is }
+pub gives_segment : (kind : OfferKind) (cx : ContextValue) (v w : TcpValue) (pair : FourTuple) (header other : TcpHeader) (offset len : ℕ) (answer : Offer)
+    → answer ≡ (offer_segment kind cx v pair header offset len).answer → w ≡ (offer_segment kind cx v pair header offset len).socket → header ≡ other
+    → Gives (offer_segment kind cx v pair other offset len) answer w
+gives_segment kind cx v w pair header other offset len answer answer_is w_is is =
+    record { answer_is = answer_is; socket_is = w_is ∙ ap (λ (h : TcpHeader). (offer_segment kind cx v pair h offset len).socket) is }
 
 -- of a part of the send queue
-pub gives_choice : (kind : OfferKind) (cx : ContextValue) (v w : TcpValue) (pair : EndpointPair) (part other : Choice) (answer : Offer)
+pub gives_choice : (kind : OfferKind) (cx : ContextValue) (v w : TcpValue) (pair : FourTuple) (part other : Choice) (answer : Offer)
     → answer ≡ (offer_choice kind cx v pair part).answer → w ≡ (offer_choice kind cx v pair part).socket → part ≡ other
     → Gives (offer_choice kind cx v pair other) answer w
 gives_choice kind cx v w pair part other answer answer_is w_is is =

@@ -5,46 +5,46 @@ use Rattle.std.proofs.lemmas.Bool.Decides.{nat_tests}
 use Rattle.net_base.specs.Time.{IsMoment}
 use Rattle.ip_wire.specs.IpRepr.{IpRepr}
 use Rattle.ip_wire.specs.TcpHeader.{TcpHeader}
-use Rattle.tcp_model.specs.Acknowledged.{una_moved, in_state, ended_if, block_acknowledged, state_after_ack, names_window, windowed, window_set, ranges_taken}
-use Rattle.tcp_model.specs.Acknowledged.{counted}
-use Rattle.tcp_model.specs.Controls.{is_syn, is_zero, or_mss}
-use Rattle.tcp_model.specs.Opening.{is_first_syn, answering, connected, crossed, syn_answered}
-use Rattle.tcp_model.specs.States.{is_closed}
-use Rattle.tcp_model.specs.Text.{with_fin, fin_taken, takes_fin}
-use Rattle.tcp_model.specs.Timestamps.{believed}
-use Rattle.tcp_model.specs.Timeout.{timeout_restarted, timeout_runs}
-use Rattle.tcp_model.specs.Blocks.{forgotten}
-use Rattle.tcp_model.specs.declared.block.Block.{Block}
-use Rattle.tcp_model.specs.OpenOffer.{OpenOffer}
-use Rattle.tcp_model.specs.OfferKind.{OfferKind}
-use Rattle.tcp_model.specs.OfferKind.TheVariants as Kind
-use Rattle.tcp_model.specs.Moments.{is_over, timeout_from}
-use Rattle.tcp_model.specs.Retries.{asked, one_more}
-use Rattle.tcp_model.specs.Settled.{nxt_past_held, sent_as, recorded, probed, end_of}
-use Rattle.tcp_socket.specs.Socket.{IsBlock, IsOpen}
+use Rattle.tcp_block.specs.Acknowledged.{una_moved, in_state, ended_if, tcb_acknowledged, state_after_ack, names_window, windowed, window_set, ranges_taken}
+use Rattle.tcp_block.specs.Acknowledged.{counted}
+use Rattle.tcp_block.specs.Controls.{is_syn, is_zero, or_mss}
+use Rattle.tcp_block.specs.Opening.{is_first_syn, answering, connected, crossed, syn_answered}
+use Rattle.tcp_block.specs.States.{is_closed}
+use Rattle.tcp_block.specs.Payload.{with_fin, fin_taken, takes_fin}
+use Rattle.tcp_block.specs.Timestamps.{believed}
+use Rattle.tcp_block.specs.Timeout.{timeout_restarted, timeout_runs}
+use Rattle.tcp_block.specs.TcbRules.{forgotten}
+use Rattle.tcp_block.specs.declared.tcb.Tcb.{Tcb}
+use Rattle.tcp_block.specs.OpenOffer.{OpenOffer}
+use Rattle.tcp_block.specs.OfferKind.{OfferKind}
+use Rattle.tcp_block.specs.OfferKind.TheVariants as Kind
+use Rattle.tcp_block.specs.Moments.{is_over, timeout_from}
+use Rattle.tcp_block.specs.Retries.{asked, one_more}
+use Rattle.tcp_block.specs.Settled.{nxt_past_held, sent_as, recorded, probed, end_of}
+use Rattle.tcp_socket.specs.Socket.{IsTcb, IsOpen}
 
 -- nothing is offered
-pub none_open : (o : Option OpenOffer) (b : Block) → o ≡ None → IfSome o (IsOpen b)
+pub none_open : (o : Option OpenOffer) (b : Tcb) → o ≡ None → IfSome o (IsOpen b)
 none_open None b is = tt
 none_open (Some o) b is = absurd (cc)
 
-pub kept_forgotten : (b : Block) → IsBlock b → IsBlock (forgotten b)
+pub kept_forgotten : (b : Tcb) → IsTcb b → IsTcb (forgotten b)
 kept_forgotten b is = record { start = is.start; mss = is.mss }
 
-kept_ended : (t : Bool) (b : Block) → IsBlock b → IsBlock (ended_if t b)
+kept_ended : (t : Bool) (b : Tcb) → IsTcb b → IsTcb (ended_if t b)
 kept_ended true b is = kept_forgotten b is
 kept_ended false b is = is
 
-pub kept_acknowledged : (b : Block) (by queued : ℕ) (now : ℤ) → IsBlock b → IsBlock (block_acknowledged b by queued now)
+pub kept_acknowledged : (b : Tcb) (by queued : ℕ) (now : ℤ) → IsTcb b → IsTcb (tcb_acknowledged b by queued now)
 kept_acknowledged b by queued now is =
     kept_ended (is_closed (state_after_ack b by queued)) (in_state (una_moved b by queued now) (state_after_ack b by queued) now)
     (record { start = is.start; mss = is.mss })
 
-kept_if : (t : Bool) (a b : Block) → IsBlock a → IsBlock b → IsBlock (if t then a else b)
+kept_if : (t : Bool) (a b : Tcb) → IsTcb a → IsTcb b → IsTcb (if t then a else b)
 kept_if true a b is other = is
 kept_if false a b is other = other
 
-pub kept_fin : (b old : Block) (header : TcpHeader) (size advance : ℕ) (now : ℤ) → IsBlock b → IsBlock (with_fin b old header size advance now)
+pub kept_fin : (b old : Tcb) (header : TcpHeader) (size advance : ℕ) (now : ℤ) → IsTcb b → IsTcb (with_fin b old header size advance now)
 kept_fin b old header size advance now is =
     kept_if (takes_fin old header size advance) (fin_taken b now) b (record { start = is.start; mss = is.mss }) is
 
@@ -52,18 +52,18 @@ start_of : (t : Bool) (now : ℤ) → IsMoment now → IfSome (if t then Some no
 start_of true now is = is
 start_of false now is = tt
 
-pub kept_timeout : (b : Block) (now : ℤ) (queued : ℕ) → IsMoment now → 1 ≤ b.peer.mss → IsBlock (timeout_restarted b now queued)
+pub kept_timeout : (b : Tcb) (now : ℤ) (queued : ℕ) → IsMoment now → 1 ≤ b.peer.mss → IsTcb (timeout_restarted b now queued)
 kept_timeout b now queued is mss = record { start = start_of (timeout_runs b queued) now is; mss = mss }
 
-kept_window : (t : Bool) (b : Block) (header : TcpHeader) → 1 ≤ b.peer.mss → 1 ≤ (if t then windowed b header else b).peer.mss
+kept_window : (t : Bool) (b : Tcb) (header : TcpHeader) → 1 ≤ b.peer.mss → 1 ≤ (if t then windowed b header else b).peer.mss
 kept_window true b header mss = mss
 kept_window false b header mss = mss
 
-pub kept_told : (b : Block) (header : TcpHeader) (count queued : ℕ) (now : ℤ) → IsMoment now → IsBlock b
-    → IsBlock (timeout_restarted (nxt_past_held (counted (ranges_taken (window_set b header now) header now) count now) queued) now queued)
-kept_told b header count queued now is block =
+pub kept_told : (b : Tcb) (header : TcpHeader) (count queued : ℕ) (now : ℤ) → IsMoment now → IsTcb b
+    → IsTcb (timeout_restarted (nxt_past_held (counted (ranges_taken (window_set b header now) header now) count now) queued) now queued)
+kept_told b header count queued now is tcb =
     kept_timeout (nxt_past_held (counted (ranges_taken (window_set b header now) header now) count now) queued) now queued is
-    (kept_window (names_window b header) b header block.mss)
+    (kept_window (names_window b header) b header tcb.mss)
 
 -- a SYN that isn't dropped names no MSS of 0
 pub sized_syn : (syn zero_mss : Bool) → (syn && zero_mss) ≡ false → syn ≡ true → zero_mss ≡ false
@@ -74,7 +74,7 @@ pub sized_mss : (mss : Option ℕ) → is_zero mss ≡ false → 1 ≤ or_mss ms
 sized_mss None is = omega arith
 sized_mss (Some n) is = grind (arith, nat_tests, is)
 
-answered_mss : (t : Bool) (b : Block) (header : TcpHeader) (now : ℤ) → 1 ≤ or_mss header.options.max_seg_size →
+answered_mss : (t : Bool) (b : Tcb) (header : TcpHeader) (now : ℤ) → 1 ≤ or_mss header.options.max_seg_size →
     1 ≤ (if t then connected b header now else crossed b header).peer.mss
 answered_mss true b header now some = some
 answered_mss false b header now some = some
@@ -86,17 +86,17 @@ first_syn header is = both (is_syn header.control) (is_some header.ack_number) i
   both true some is = refl
   both false some is = absurd (cc)
 
-pub kept_opening : (b : Block) (ip : IpRepr) (header : TcpHeader) (number : ℕ) (now : ℤ) → IsMoment now → 1 ≤ or_mss header.options.max_seg_size
-    → IsBlock (timeout_restarted (believed (answering b ip header number) now) now 0)
-kept_opening b ip header number now moment some = kept_timeout (believed (answering b ip header number) now) now 0 moment some
+pub kept_opening : (b : Tcb) (ip : IpRepr) (header : TcpHeader) (number : ℕ) (now : ℤ) → IsMoment now → 1 ≤ or_mss header.options.max_seg_size
+    → IsTcb (timeout_restarted (believed (answering b ip header number) now) now 0)
+kept_opening b ip header number now instant some = kept_timeout (believed (answering b ip header number) now) now 0 instant some
 
 -- SYN-SENT takes a SYN
-pub kept_answer : (b : Block) (header : TcpHeader) (now : ℤ) (queued : ℕ) → IsMoment now → 1 ≤ or_mss header.options.max_seg_size
-    → IsBlock (timeout_restarted (syn_answered b header now) now queued)
-kept_answer b header now queued moment some =
-    kept_timeout (syn_answered b header now) now queued moment (answered_mss (is_some header.ack_number) b header now some)
+pub kept_answer : (b : Tcb) (header : TcpHeader) (now : ℤ) (queued : ℕ) → IsMoment now → 1 ≤ or_mss header.options.max_seg_size
+    → IsTcb (timeout_restarted (syn_answered b header now) now queued)
+kept_answer b header now queued instant some =
+    kept_timeout (syn_answered b header now) now queued instant (answered_mss (is_some header.ack_number) b header now some)
 
-kept_asked : (b : Block) (now : ℤ) → IsBlock b → IsBlock (asked b now)
+kept_asked : (b : Tcb) (now : ℤ) → IsTcb b → IsTcb (asked b now)
 kept_asked b now is =
     kept_if (is_over now b.timers.counts_from)
     (record b {
@@ -106,8 +106,8 @@ kept_asked b now is =
     b (record { start = is.start; mss = is.mss }) is
 
 -- what was offered went
-pub kept_sent : (kind : OfferKind) (b : Block) (o : OpenOffer) (capacity queued : ℕ) → IsBlock b → IsBlock (sent_as kind (recorded b o capacity) o queued)
+pub kept_sent : (kind : OfferKind) (b : Tcb) (o : OpenOffer) (capacity queued : ℕ) → IsTcb b → IsTcb (sent_as kind (recorded b o capacity) o queued)
 kept_sent Kind.Probe b o capacity queued is =
-    kept_asked (probed (recorded b o capacity) (end_of (recorded b o capacity) o) o.moment) o.moment (record { start = is.start; mss = is.mss })
-kept_sent Kind.KeepAlive b o capacity queued is = kept_asked (recorded b o capacity) o.moment (record { start = is.start; mss = is.mss })
+    kept_asked (probed (recorded b o capacity) (end_of (recorded b o capacity) o) o.instant) o.instant (record { start = is.start; mss = is.mss })
+kept_sent Kind.KeepAlive b o capacity queued is = kept_asked (recorded b o capacity) o.instant (record { start = is.start; mss = is.mss })
 kept_sent other b o capacity queued is = record { start = is.start; mss = is.mss }

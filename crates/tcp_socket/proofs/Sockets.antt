@@ -5,16 +5,16 @@ use Rattle.std.specs.Prelude.{IfSome, ℤ}
 use Rattle.std.proofs.lemmas.List.{length-take-le, length-take}
 use Rattle.net_base.specs.Ring.{Ring, capacity, rotated, cleared, anchored, overwritten, extended, enqueued, released, contiguous}
 use Rattle.net_base.specs.Time.{IsMoment}
-use Rattle.tcp_model.specs.Calls.{or_count}
-use Rattle.tcp_model.specs.Moments.{is_due}
-use Rattle.tcp_model.specs.LossRecovery.{loss_probe_moment, loss_probed, loss_probed_by}
-use Rattle.tcp_model.specs.Offers.{backed_off}
-use Rattle.tcp_model.specs.Rules.{backed_off_now}
-use Rattle.tcp_model.specs.declared.block.Block.{Block}
-use Rattle.tcp_model.specs.RecvError.{RecvError}
-use Rattle.tcp_model.specs.Timeout.{timeout_runs, timeout_kept, is_timeout_unset, timeout_started}
+use Rattle.tcp_block.specs.Calls.{or_count}
+use Rattle.tcp_block.specs.Moments.{is_due}
+use Rattle.tcp_block.specs.LossRecovery.{loss_probe_deadline, loss_probed, loss_probed_by}
+use Rattle.tcp_block.specs.Offers.{backed_off}
+use Rattle.tcp_block.specs.Rules.{backed_off_now}
+use Rattle.tcp_block.specs.declared.tcb.Tcb.{Tcb}
+use Rattle.tcp_block.specs.RecvError.{RecvError}
+use Rattle.tcp_block.specs.Timeout.{timeout_runs, timeout_kept, is_timeout_unset, timeout_started}
 use Rattle.tcp_socket.specs.Receive.{FitsBuffer, or_done}
-use Rattle.tcp_socket.specs.Socket.{IsBlock, if_open}
+use Rattle.tcp_socket.specs.Socket.{IsTcb, if_open}
 
 length-rotated : (n : ℕ) (xs : List ℕ) → length (rotated n xs) ≡ length xs
 length-rotated n xs = rw (length-append, length-drop, length-take) (omega arith)
@@ -63,7 +63,7 @@ fits_sent r left n size fits =
 
 -- THE CONTROL BLOCK
 
--- a start that is kept or forgotten is a moment where it was one
+-- a start that is kept or forgotten is an instant where it was one
 pub start_kept : (test : Bool) (since : Option ℤ) → IfSome since IsMoment → IfSome (if test then since else None) IsMoment
 start_kept true since is = is
 start_kept false since is = tt
@@ -76,22 +76,22 @@ pub start_made : (test : Bool) (now : ℤ) (since : Option ℤ) → IsMoment now
 start_made true now since is old = is
 start_made false now since is old = old
 
-pub kept_timeout : (b : Block) (queued : ℕ) → IsBlock b → IsBlock (timeout_kept b queued)
+pub kept_timeout : (b : Tcb) (queued : ℕ) → IsTcb b → IsTcb (timeout_kept b queued)
 kept_timeout b queued is = record { start = start_kept (timeout_runs b queued) b.timers.timeout_since is.start; mss = is.mss }
 
-kept_if : (test : Bool) (a b : Block) → IsBlock a → IsBlock b → IsBlock (if test then a else b)
+kept_if : (test : Bool) (a b : Tcb) → IsTcb a → IsTcb b → IsTcb (if test then a else b)
 kept_if true a b is other = is
 kept_if false a b is other = other
 
 -- the user timeout starts, and the retransmission timer may have run out, or a loss probe be due
-pub kept_going : (b : Block) (now : ℤ) (queued : ℕ) → IsMoment now → IsBlock b → IsBlock (backed_off now (timeout_started now queued b))
-kept_going b now queued moment is =
-    let started : IsBlock (timeout_started now queued b) =
-    record { start = start_made (is_timeout_unset b queued) now b.timers.timeout_since moment is.start; mss = is.mss } in
-    let went : IsBlock (backed_off_now (timeout_started now queued b)) = record { start = started.start; mss = is.mss } in
-    let probed : IsBlock (loss_probed (timeout_started now queued b)) = record { start = started.start; mss = is.mss } in
-    kept_if (is_due now b.timers.retransmit_at) (backed_off_now (timeout_started now queued b)) (loss_probed_by now (timeout_started now queued b)) went
-    (kept_if (is_due now (loss_probe_moment b)) (loss_probed (timeout_started now queued b)) (timeout_started now queued b) probed started)
+pub kept_going : (b : Tcb) (now : ℤ) (queued : ℕ) → IsMoment now → IsTcb b → IsTcb (backed_off now (timeout_started now queued b))
+kept_going b now queued instant is =
+    let started : IsTcb (timeout_started now queued b) =
+    record { start = start_made (is_timeout_unset b queued) now b.timers.timeout_since instant is.start; mss = is.mss } in
+    let was_sent : IsTcb (backed_off_now (timeout_started now queued b)) = record { start = started.start; mss = is.mss } in
+    let probed : IsTcb (loss_probed (timeout_started now queued b)) = record { start = started.start; mss = is.mss } in
+    kept_if (is_due now b.timers.retransmit_at) (backed_off_now (timeout_started now queued b)) (loss_probed_by now (timeout_started now queued b)) was_sent
+    (kept_if (is_due now (loss_probe_deadline b)) (loss_probed (timeout_started now queued b)) (timeout_started now queued b) probed started)
 
 -- ANSWERS
 

@@ -6,49 +6,49 @@ use Rattle.std.proofs.lemmas.Bool.Decides.{nat_tests}
 use Rattle.std.proofs.lemmas.List.{drop_min, length-drop, take_all}
 use Rattle.net_base.specs.Ring.{Ring}
 use Rattle.ip_wire.specs.IpRepr.{IpRepr}
-use Rattle.held_bytes.specs.Held.{runs_of}
+use Rattle.tcp_ranges.specs.OutOfOrder.{runs_of}
 use Rattle.ip_wire.specs.SeqNumber.{SeqNumber}
 use Rattle.ip_wire.specs.Tcp.{header_of}
 use Rattle.ip_wire.specs.TcpHeader.{TcpHeader}
 use Rattle.ip_wire.specs.TcpRepr.{TcpRepr}
-use Rattle.socket_base.specs.Context.{ContextValue}
-use Rattle.socket_base.specs.Packet.{IsSendable, packet_of}
-use Rattle.socket_base.specs.Packet as Carried
-use Rattle.held_bytes.specs.ReceiveMap.{store, front}
-use Rattle.tcp_model.specs.Acknowledged.{acknowledged, duplicates_after}
-use Rattle.tcp_model.specs.Answers.{ack_recorded, acked, drawn, ack_due, answers_at_once, answer_for}
-use Rattle.tcp_model.specs.Arrival.{waiting_anew, outside, passed_outside, tells_news, comes_again, finished, with_content, told, echo_heard}
-use Rattle.tcp_model.specs.Arrival.{checked, reset_comes, draws_first, received, arrives_in}
-use Rattle.tcp_model.specs.Checks.{acknowledgement_check, is_in_window}
-use Rattle.tcp_model.specs.Checks.Check.{Old}
-use Rattle.tcp_model.specs.Controls.{is_syn, is_rst}
-use Rattle.tcp_model.specs.Opening.{acks_syn, syn_answered, takes_answer}
-use Rattle.tcp_model.specs.Probing.{probe_kept}
-use Rattle.tcp_model.specs.Retries.{heard}
-use Rattle.tcp_model.specs.Segments.{rst_reply, no_ranges, has_length}
-use Rattle.tcp_model.specs.States.{is_closed, takes_text}
-use Rattle.tcp_model.specs.Text.{Texted, texted, laid, has_new_text, with_text, with_text_at, with_bytes_at, taken_in_order, held_early, with_fin}
-use Rattle.tcp_model.specs.Timeout.{timeout_restarted}
-use Rattle.tcp_model.specs.Timestamps.{stamp_taken}
-use Rattle.tcp_model.specs.Offsets.{past_by, before_by}
-use Rattle.tcp_model.specs.Value.{TcpValue, Received, Arrived, received_of, room_of, window_of, with_block, dropped, answered_with, ended, queued_in, free_in}
-use Rattle.tcp_model.specs.declared.block.Block.{Block}
-use Rattle.tcp_model.specs.OpenOffer.{OpenOffer}
-use Rattle.tcp_model.specs.Reply.{Reply}
-use Rattle.tcp_model.specs.State.{State}
-use Rattle.tcp_model.specs.State.TheVariants as In
+use Rattle.socket_context.specs.Context.{ContextValue}
+use Rattle.socket_context.specs.Packet.{IsSendable, packet_of}
+use Rattle.socket_context.specs.Packet as Carried
+use Rattle.tcp_ranges.specs.ReceiveMap.{store, front}
+use Rattle.tcp_block.specs.Acknowledged.{acknowledged, duplicates_after}
+use Rattle.tcp_block.specs.Answers.{ack_recorded, acked, drawn, ack_due, answers_at_once, answer_for}
+use Rattle.tcp_block.specs.Arrival.{waiting_anew, outside, passed_outside, is_before_window, is_repeated, finished, with_content, told, tsecr_heard}
+use Rattle.tcp_block.specs.Arrival.{checked, reset_arrives, challenges_first, received, arrives_in}
+use Rattle.tcp_block.specs.Checks.{acknowledgement_check, is_in_window}
+use Rattle.tcp_block.specs.Checks.Check.{Old}
+use Rattle.tcp_block.specs.Controls.{is_syn, is_rst}
+use Rattle.tcp_block.specs.Opening.{acks_syn, syn_answered, takes_answer}
+use Rattle.tcp_block.specs.Probing.{probe_kept}
+use Rattle.tcp_block.specs.Retries.{heard}
+use Rattle.tcp_block.specs.Segments.{rst_reply, no_ranges, has_length}
+use Rattle.tcp_block.specs.States.{is_closed, accepts_data}
+use Rattle.tcp_block.specs.Payload.{DataStored, data_stored, laid, has_new_payload, with_payload, with_payload_at, with_bytes_at, taken_in_order, out_of_order, with_fin}
+use Rattle.tcp_block.specs.Timeout.{timeout_restarted}
+use Rattle.tcp_block.specs.Timestamps.{tsval_taken}
+use Rattle.tcp_block.specs.Offsets.{distance_after, distance_before}
+use Rattle.tcp_block.specs.Value.{TcpValue, Received, Arrived, received_of, room_of, window_of, with_tcb, dropped, answered_with, ended, queued_in, free_in}
+use Rattle.tcp_block.specs.declared.tcb.Tcb.{Tcb}
+use Rattle.tcp_block.specs.OpenOffer.{OpenOffer}
+use Rattle.tcp_block.specs.Reply.{Reply}
+use Rattle.tcp_block.specs.State.{State}
+use Rattle.tcp_block.specs.State.TheVariants as In
 use Rattle.tcp_socket.proofs.Answered.{received_draws, takes_answer_draws, later_arrives}
 use Rattle.tcp_socket.proofs.Arrivals.{length-store, length-front, stored_cut}
 use Rattle.tcp_socket.specs.Answering.{next_at, reply_of}
-use Rattle.tcp_socket.specs.OnePass.{text_by, content_by, rest_by, taken_by}
-use Rattle.tcp_socket.specs.declared.arrival.Due.TheVariants as Is
+use Rattle.tcp_socket.specs.FastPath.{payload_by, content_by, rest_by, taken_by}
+use Rattle.tcp_socket.specs.declared.on_segment.Due.TheVariants as Is
 use Rattle.tcp_socket.specs.Replies.{replies_in, packet_in, packet_with}
 
-abbrev pub value_of : Block → Received → Ring ℕ → Option OpenOffer → TcpValue
-value_of b r q o = record { block = b; received = r; queued = q; offered = o }
+abbrev pub value_of : Tcb → Received → Ring ℕ → Option OpenOffer → TcpValue
+value_of b r q o = record { tcb = b; received = r; queued = q; offered = o }
 
 -- RCV.NXT rises by no more than there is room for
-pub advance_small : (v : TcpValue) (r : Received) (b : Block) (q : Ring ℕ) (o : Option OpenOffer) (bytes : List ℕ) (n : ℕ) → value_of b r q o ≡ v →
+pub advance_small : (v : TcpValue) (r : Received) (b : Tcb) (q : Ring ℕ) (o : Option OpenOffer) (bytes : List ℕ) (n : ℕ) → value_of b r q o ≡ v →
     length v.received.map ≤ 2 ^ 30 → n ≡ length (front (store r.map 0 bytes)) → n ≤ 2 ^ 30
 advance_small v r b q o bytes n is small count =
     let room : length r.map ≤ 2 ^ 30 = subst (λ (w : TcpValue). length w.received.map ≤ 2 ^ 30) (sym is) small in
@@ -56,37 +56,37 @@ advance_small v r b q o bytes n is small count =
     let read = length-front (store r.map 0 bytes) in
     omega (arith, room, laid, read, count)
 
-new_text : (takes empty fits : Bool) (a b : Texted) → takes ≡ true → empty ≡ false → fits ≡ true → a ≡ (if takes && (not empty && fits) then a else b)
-new_text true false true a b takes empty fits = refl
-new_text true false false a b takes empty fits = absurd (cc)
-new_text true true fits' a b takes empty fits = absurd (cc)
-new_text false empty' fits' a b takes empty fits = absurd (cc)
+new_payload : (takes empty fits : Bool) (a b : DataStored) → takes ≡ true → empty ≡ false → fits ≡ true → a ≡ (if takes && (not empty && fits) then a else b)
+new_payload true false true a b takes empty fits = refl
+new_payload true false false a b takes empty fits = absurd (cc)
+new_payload true true fits' a b takes empty fits = absurd (cc)
+new_payload false empty' fits' a b takes empty fits = absurd (cc)
 
-below : (place free : ℕ) → place < free → nat_lt place free ≡ true
-below place free h = grind (arith, nat_tests, h)
+below : (offset free : ℕ) → offset < free → nat_lt offset free ≡ true
+below offset free h = grind (arith, nat_tests, h)
 
 -- what lies before RCV.NXT is cut off
-pub text_leads : (v : TcpValue) (next : SeqNumber) (place before n : ℕ) (header : TcpHeader) (bytes : List ℕ) (t : Texted) → next ≡ v.block.receiver.next
-    → place ≡ past_by next header.seq_number → before ≡ before_by next header.seq_number → n ≡ min before (length bytes)
-    → t ≡ with_text_at v place (take (length bytes - n) (drop n bytes)) → t ≡ with_text v header bytes
-text_leads v next place before n header bytes t next_is place_is before_is n_is is =
-    let far : place ≡ past_by v.block.receiver.next header.seq_number = place_is ∙ ap (λ (x : SeqNumber). past_by x header.seq_number) next_is in
-    let old : before ≡ before_by v.block.receiver.next header.seq_number = before_is ∙ ap (λ (x : SeqNumber). before_by x header.seq_number) next_is in
-    let left : take (length bytes - n) (drop n bytes) ≡ drop (before_by v.block.receiver.next header.seq_number) bytes =
+pub payload_leads : (v : TcpValue) (next : SeqNumber) (offset before n : ℕ) (header : TcpHeader) (bytes : List ℕ) (t : DataStored) → next ≡ v.tcb.receiver.next
+    → offset ≡ distance_after next header.seq_number → before ≡ distance_before next header.seq_number → n ≡ min before (length bytes)
+    → t ≡ with_payload_at v offset (take (length bytes - n) (drop n bytes)) → t ≡ with_payload v header bytes
+payload_leads v next offset before n header bytes t next_is offset_is before_is n_is is =
+    let far : offset ≡ distance_after v.tcb.receiver.next header.seq_number = offset_is ∙ ap (λ (x : SeqNumber). distance_after x header.seq_number) next_is in
+    let old : before ≡ distance_before v.tcb.receiver.next header.seq_number = before_is ∙ ap (λ (x : SeqNumber). distance_before x header.seq_number) next_is in
+    let left : take (length bytes - n) (drop n bytes) ≡ drop (distance_before v.tcb.receiver.next header.seq_number) bytes =
     take_all (length bytes - n) (drop n bytes) (omega (arith, length-drop n bytes)) ∙ ap (λ (k : ℕ). drop k bytes) n_is ∙ drop_min before bytes
     ∙ ap (λ (k : ℕ). drop k bytes) old
     in
-    is ∙ ap (λ (k : ℕ). with_text_at v k (take (length bytes - n) (drop n bytes))) far
-    ∙ ap (λ (xs : List ℕ). with_text_at v (past_by v.block.receiver.next header.seq_number) xs) left
+    is ∙ ap (λ (k : ℕ). with_payload_at v k (take (length bytes - n) (drop n bytes))) far
+    ∙ ap (λ (xs : List ℕ). with_payload_at v (distance_after v.tcb.receiver.next header.seq_number) xs) left
 
 -- bytes that are cut at the end of the window
-pub text_at : (v : TcpValue) (place n : ℕ) (bytes : List ℕ) (t : Texted) → takes_text v.block.state ≡ true → (length bytes == 0) ≡ false → place < free_in v →
-    n ≡ min (length bytes) (free_in v - place) → t ≡ with_bytes_at v place (take n bytes) → t ≡ with_text_at v place bytes
-text_at v place n bytes t takes some fits n_is is =
+pub payload_at : (v : TcpValue) (offset n : ℕ) (bytes : List ℕ) (t : DataStored) → accepts_data v.tcb.state ≡ true → (length bytes == 0) ≡ false → offset < free_in v →
+    n ≡ min (length bytes) (free_in v - offset) → t ≡ with_bytes_at v offset (take n bytes) → t ≡ with_payload_at v offset bytes
+payload_at v offset n bytes t takes some fits n_is is =
     is
-    ∙ ap (λ (map : List (Option ℕ)). if place == 0 then taken_in_order v map else held_early v place map) (stored_cut v.received.map place n bytes n_is)
-    ∙ new_text (takes_text v.block.state) (length bytes == 0) (nat_lt place (free_in v)) (with_bytes_at v place bytes) (texted v 0 false None) takes some
-    (below place (free_in v) fits)
+    ∙ ap (λ (map : List (Option ℕ)). if offset == 0 then taken_in_order v map else out_of_order v offset map) (stored_cut v.received.map offset n bytes n_is)
+    ∙ new_payload (accepts_data v.tcb.state) (length bytes == 0) (nat_lt offset (free_in v)) (with_bytes_at v offset bytes) (data_stored v 0 false None) takes some
+    (below offset (free_in v) fits)
 
 -- what a step answers and leaves
 pub record Leads (a : Arrived) (reply : Option Reply) (after : TcpValue) : Type 0 where
@@ -97,125 +97,125 @@ pub leads_to : (F : TcpValue → Arrived) (w w' : TcpValue) (answer : Option Rep
     Leads (F w') answer socket
 leads_to F w w' answer socket is a s = subst (λ (x : TcpValue). Leads (F x) answer socket) is (record { answer = a; socket = s })
 
--- the FIN is taken, and then the probe's moment may end
-pub finish_leads : (cx : ContextValue) (next : SeqNumber) (b b2 : Block) (r : Received) (q : Ring ℕ) (o : Option OpenOffer) (v w : TcpValue) (advance : ℕ)
+-- the FIN is taken, and then the probe's instant may end
+pub finish_leads : (cx : ContextValue) (next : SeqNumber) (b b2 : Tcb) (r : Received) (q : Ring ℕ) (o : Option OpenOffer) (v w : TcpValue) (advance : ℕ)
     (fills : Bool) (early : Option ℕ) (ip : IpRepr) (header : TcpHeader) (size n : ℕ) (now : ℤ) (answer : Option Reply) (socket : TcpValue)
-    → value_of b r q o ≡ w → now ≡ cx.moment → n ≡ length q.queue → w ≡ with_block v (with_fin v.block (next_at v.block next) header size advance now) →
+    → value_of b r q o ≡ w → now ≡ cx.instant → n ≡ length q.queue → w ≡ with_tcb v (with_fin v.tcb (next_at v.tcb next) header size advance now) →
     b2 ≡ probe_kept b n
     → answer ≡ (answer_for cx (value_of b2 r q o) ip header size fills early).answer →
     socket ≡ (answer_for cx (value_of b2 r q o) ip header size fills early).socket
-    → Leads (finished cx (next_at v.block next) (texted v advance fills early) ip header size) answer socket
+    → Leads (finished cx (next_at v.tcb next) (data_stored v advance fills early) ip header size) answer socket
 finish_leads cx next b b2 r q o v w advance fills early ip header size n now answer socket is now_is n_is w_is b2_is a s =
     let moved : b2 ≡ probe_kept b (length q.queue) = rw (b2_is, n_is) refl in
-    let F = λ (x : TcpValue). answer_for cx (with_block x (probe_kept x.block (queued_in x))) ip header size fills early in
+    let F = λ (x : TcpValue). answer_for cx (with_tcb x (probe_kept x.tcb (queued_in x))) ip header size fills early in
     let first : Leads (F (value_of b r q o)) answer socket =
-    subst (λ (x : Block). Leads (answer_for cx (value_of x r q o) ip header size fills early) answer socket) moved (record { answer = a; socket = s })
+    subst (λ (x : Tcb). Leads (answer_for cx (value_of x r q o) ip header size fills early) answer socket) moved (record { answer = a; socket = s })
     in
-    let all : value_of b r q o ≡ with_block v (with_fin v.block (next_at v.block next) header size advance cx.moment) =
-    is ∙ w_is ∙ ap (λ (m : ℤ). with_block v (with_fin v.block (next_at v.block next) header size advance m)) now_is
+    let all : value_of b r q o ≡ with_tcb v (with_fin v.tcb (next_at v.tcb next) header size advance cx.instant) =
+    is ∙ w_is ∙ ap (λ (m : ℤ). with_tcb v (with_fin v.tcb (next_at v.tcb next) header size advance m)) now_is
     in
     subst (λ (x : TcpValue). Leads (F x) answer socket) all first
 
 -- TEXT LEAVES THE STATE
 
-state_held : (v : TcpValue) (place : ℕ) (map : List (Option ℕ)) → (held_early v place map).socket.block.state ≡ v.block.state
-state_held v place map =
+state_held : (v : TcpValue) (offset : ℕ) (map : List (Option ℕ)) → (out_of_order v offset map).socket.tcb.state ≡ v.tcb.state
+state_held v offset map =
     elim (nat_le (length (runs_of map)) 32) as
-    (λ t. (if t then texted (record v { received = received_of v.received.waiting map v.received.start }) 0 false (Some place) else texted v 0 false
-    None).socket.block.state ≡ v.block.state) [ true ↦ refl | false ↦ refl ]
+    (λ t. (if t then data_stored (record v { received = received_of v.received.waiting map v.received.start }) 0 false (Some offset) else data_stored v 0 false
+    None).socket.tcb.state ≡ v.tcb.state) [ true ↦ refl | false ↦ refl ]
 
-state_bytes : (v : TcpValue) (place : ℕ) (bytes : List ℕ) → (with_bytes_at v place bytes).socket.block.state ≡ v.block.state
-state_bytes v place bytes =
-    let map = laid v place bytes in
-    elim (place == 0) as (λ t. (if t then taken_in_order v map else held_early v place map).socket.block.state ≡
-    v.block.state) [ true ↦ refl | false ↦ state_held v place map ]
+state_bytes : (v : TcpValue) (offset : ℕ) (bytes : List ℕ) → (with_bytes_at v offset bytes).socket.tcb.state ≡ v.tcb.state
+state_bytes v offset bytes =
+    let map = laid v offset bytes in
+    elim (offset == 0) as (λ t. (if t then taken_in_order v map else out_of_order v offset map).socket.tcb.state ≡
+    v.tcb.state) [ true ↦ refl | false ↦ state_held v offset map ]
 
-state_text : (v : TcpValue) (place : ℕ) (bytes : List ℕ) → (with_text_at v place bytes).socket.block.state ≡ v.block.state
-state_text v place bytes =
-    elim (takes_text v.block.state && has_new_text v place bytes) as
-    (λ t. (if t then with_bytes_at v place bytes else texted v 0 false None).socket.block.state ≡
-    v.block.state) [ true ↦ state_bytes v place bytes | false ↦ refl ]
+state_payload : (v : TcpValue) (offset : ℕ) (bytes : List ℕ) → (with_payload_at v offset bytes).socket.tcb.state ≡ v.tcb.state
+state_payload v offset bytes =
+    elim (accepts_data v.tcb.state && has_new_payload v offset bytes) as
+    (λ t. (if t then with_bytes_at v offset bytes else data_stored v 0 false None).socket.tcb.state ≡
+    v.tcb.state) [ true ↦ state_bytes v offset bytes | false ↦ refl ]
 
 -- the FIN is taken by the state and RCV.NXT alone
-abbrev fin_by : ContextValue → State → SeqNumber → Texted → IpRepr → TcpHeader → ℕ → Arrived
+abbrev fin_by : ContextValue → State → SeqNumber → DataStored → IpRepr → TcpHeader → ℕ → Arrived
 fin_by cx state next t ip header size =
-    finished cx (record (next_at t.socket.block next) { state = state }) t ip header size
+    finished cx (record (next_at t.socket.tcb next) { state = state }) t ip header size
 
-state_by : (stored : Option ℕ) (v : TcpValue) (header : TcpHeader) (bytes : List ℕ) → (text_by stored v header bytes).socket.block.state ≡ v.block.state
-state_by None v header bytes = state_text v (past_by v.block.receiver.next header.seq_number) (drop (before_by v.block.receiver.next header.seq_number) bytes)
+state_by : (stored : Option ℕ) (v : TcpValue) (header : TcpHeader) (bytes : List ℕ) → (payload_by stored v header bytes).socket.tcb.state ≡ v.tcb.state
+state_by None v header bytes = state_payload v (distance_after v.tcb.receiver.next header.seq_number) (drop (distance_before v.tcb.receiver.next header.seq_number) bytes)
 state_by (Some count) v header bytes = refl
 
--- the text is taken, then the FIN
+-- the payload is taken, then the FIN
 pub content_leads : (stored : Option ℕ) (cx : ContextValue) (next : SeqNumber) (v w : TcpValue) (advance : ℕ) (fills : Bool) (early : Option ℕ) (ip : IpRepr)
     (header : TcpHeader) (bytes : List ℕ) (answer : Option Reply) (socket : TcpValue)
-    → next ≡ v.block.receiver.next → texted w advance fills early ≡ text_by stored v header bytes
-    → answer ≡ (finished cx (next_at w.block next) (texted w advance fills early) ip header (length bytes)).answer →
-    socket ≡ (finished cx (next_at w.block next) (texted w advance fills early) ip header (length bytes)).socket
+    → next ≡ v.tcb.receiver.next → data_stored w advance fills early ≡ payload_by stored v header bytes
+    → answer ≡ (finished cx (next_at w.tcb next) (data_stored w advance fills early) ip header (length bytes)).answer →
+    socket ≡ (finished cx (next_at w.tcb next) (data_stored w advance fills early) ip header (length bytes)).socket
     → Leads (content_by stored cx v ip header bytes) answer socket
-content_leads stored cx next v w advance fills early ip header bytes answer socket next_is text a s =
+content_leads stored cx next v w advance fills early ip header bytes answer socket next_is payload a s =
     let size = length bytes in
-    let t = text_by stored v header bytes in
-    let first : Leads (fin_by cx t.socket.block.state next t ip header size) answer socket =
-    subst (λ (x : Texted). Leads (fin_by cx x.socket.block.state next x ip header size) answer socket) text (record { answer = a; socket = s })
+    let t = payload_by stored v header bytes in
+    let first : Leads (fin_by cx t.socket.tcb.state next t ip header size) answer socket =
+    subst (λ (x : DataStored). Leads (fin_by cx x.socket.tcb.state next x ip header size) answer socket) payload (record { answer = a; socket = s })
     in
-    let second : Leads (fin_by cx t.socket.block.state v.block.receiver.next t ip header size) answer socket =
-    subst (λ (n : SeqNumber). Leads (fin_by cx t.socket.block.state n t ip header size) answer socket) next_is first
+    let second : Leads (fin_by cx t.socket.tcb.state v.tcb.receiver.next t ip header size) answer socket =
+    subst (λ (n : SeqNumber). Leads (fin_by cx t.socket.tcb.state n t ip header size) answer socket) next_is first
     in
-    subst (λ (x : State). Leads (fin_by cx x v.block.receiver.next t ip header size) answer socket) (state_by stored v header bytes) second
+    subst (λ (x : State). Leads (fin_by cx x v.tcb.receiver.next t ip header size) answer socket) (state_by stored v header bytes) second
 
 if_open : (closed : Bool) (a b : Arrived) (answer : Option Reply) (socket : TcpValue) → closed ≡ false → Leads b answer socket →
     Leads (if closed then a else b) answer socket
 if_open true a b answer socket is leads = absurd (cc)
 if_open false a b answer socket is leads = leads
 
--- the window is taken, then text and FIN
+-- the window is taken, then payload and FIN
 pub rest_leads : (stored : Option ℕ) (cx : ContextValue) (duplicates : ℕ) (v w : TcpValue) (ip : IpRepr) (header : TcpHeader) (bytes : List ℕ)
     (answer : Option Reply) (socket : TcpValue)
-    → is_closed v.block.state ≡ false → w ≡ told v header duplicates cx.moment
+    → is_closed v.tcb.state ≡ false → w ≡ told v header duplicates cx.instant
     → answer ≡ (content_by stored cx w ip header bytes).answer → socket ≡ (content_by stored cx w ip header bytes).socket
     → Leads (rest_by stored cx duplicates v ip header bytes) answer socket
 rest_leads stored cx duplicates v w ip header bytes answer socket opened w_is a s =
-    let counts = told v header duplicates cx.moment in
+    let counts = told v header duplicates cx.instant in
     let first = leads_to (λ (x : TcpValue). content_by stored cx x ip header bytes) w counts answer socket w_is a s in
-    if_open (is_closed v.block.state) (dropped v) (content_by stored cx counts ip header bytes) answer socket opened first
+    if_open (is_closed v.tcb.state) (dropped v) (content_by stored cx counts ip header bytes) answer socket opened first
 
 -- the acknowledgement is taken, then the rest
 pub taken_leads : (stored : Option ℕ) (cx : ContextValue) (duplicates : ℕ) (v w : TcpValue) (now : ℤ) (ip : IpRepr) (header : TcpHeader) (bytes : List ℕ) (by : ℕ)
     (answer : Option Reply) (socket : TcpValue)
-    → duplicates ≡ duplicates_after v.block header (length bytes) by → now ≡ cx.moment → w ≡ acknowledged (echo_heard v header by now) by now
+    → duplicates ≡ duplicates_after v.tcb header (length bytes) by → now ≡ cx.instant → w ≡ acknowledged (tsecr_heard v header by now) by now
     → answer ≡ (rest_by stored cx duplicates w ip header bytes).answer → socket ≡ (rest_by stored cx duplicates w ip header bytes).socket
     → Leads (taken_by stored cx v ip header bytes by) answer socket
 taken_leads stored cx duplicates v w now ip header bytes by answer socket count now_is w_is a s =
-    let acked : w ≡ acknowledged (echo_heard v header by cx.moment) by cx.moment =
-    w_is ∙ ap (λ (m : ℤ). acknowledged (echo_heard v header by m) by m) now_is
+    let acked : w ≡ acknowledged (tsecr_heard v header by cx.instant) by cx.instant =
+    w_is ∙ ap (λ (m : ℤ). acknowledged (tsecr_heard v header by m) by m) now_is
     in
-    let first : Leads (rest_by stored cx (duplicates_after v.block header (length bytes) by) w ip header bytes) answer socket =
+    let first : Leads (rest_by stored cx (duplicates_after v.tcb header (length bytes) by) w ip header bytes) answer socket =
     subst (λ (n : ℕ). Leads (rest_by stored cx n w ip header bytes) answer socket) count (record { answer = a; socket = s })
     in
-    leads_to (λ (x : TcpValue). rest_by stored cx (duplicates_after v.block header (length bytes) by) x ip header bytes) w
-    (acknowledged (echo_heard v header by cx.moment) by cx.moment) answer socket acked first.answer first.socket
+    leads_to (λ (x : TcpValue). rest_by stored cx (duplicates_after v.tcb header (length bytes) by) x ip header bytes) w
+    (acknowledged (tsecr_heard v header by cx.instant) by cx.instant) answer socket acked first.answer first.socket
 
 -- of two arrivals the first, or the second
 pub so_leads : (t : Bool) (a b : Arrived) (answer : Option Reply) (socket : TcpValue) → t ≡ true → Leads a answer socket → Leads (if t then a else b) answer socket
 so_leads true a b answer socket is leads = leads
 so_leads false a b answer socket is leads = absurd (cc)
 
--- an acknowledgement that is old: text and FIN are taken
-pub old_leads : (cx : ContextValue) (b b1 b2 : Block) (r : Received) (q : Ring ℕ) (o : Option OpenOffer) (v : TcpValue) (now : ℤ) (ip : IpRepr)
+-- an acknowledgement that is old: payload and FIN are taken
+pub old_leads : (cx : ContextValue) (b b1 b2 : Tcb) (r : Received) (q : Ring ℕ) (o : Option OpenOffer) (v : TcpValue) (now : ℤ) (ip : IpRepr)
     (header : TcpHeader) (bytes : List ℕ) (answer : Option Reply) (socket : TcpValue)
-    → value_of b r q o ≡ v → is_in_window b (length r.map) header (length bytes) ≡ true → b1 ≡ heard b → b2 ≡ stamp_taken b1 header now → now ≡ cx.moment
+    → value_of b r q o ≡ v → is_in_window b (length r.map) header (length bytes) ≡ true → b1 ≡ heard b → b2 ≡ tsval_taken b1 header now → now ≡ cx.instant
     → answer ≡ (with_content cx (value_of b2 r q o) ip header bytes).answer → socket ≡ (with_content cx (value_of b2 r q o) ip header bytes).socket
     → Leads (checked Old cx v ip header bytes) answer socket
-old_leads cx b b1 b2 r q o v now ip header bytes answer socket is window heard_is stamp_is now_is a s =
-    let stamped : b2 ≡ stamp_taken (heard b) header cx.moment =
-    stamp_is ∙ ap (λ (x : Block). stamp_taken x header now) heard_is ∙ ap (λ (m : ℤ). stamp_taken (heard b) header m) now_is
+old_leads cx b b1 b2 r q o v now ip header bytes answer socket is window heard_is tsval_is now_is a s =
+    let stamped : b2 ≡ tsval_taken (heard b) header cx.instant =
+    tsval_is ∙ ap (λ (x : Tcb). tsval_taken x header now) heard_is ∙ ap (λ (m : ℤ). tsval_taken (heard b) header m) now_is
     in
-    let first : Leads (with_content cx (value_of (stamp_taken (heard b) header cx.moment) r q o) ip header bytes) answer socket =
-    subst (λ (x : Block). Leads (with_content cx (value_of x r q o) ip header bytes) answer socket) stamped (record { answer = a; socket = s })
+    let first : Leads (with_content cx (value_of (tsval_taken (heard b) header cx.instant) r q o) ip header bytes) answer socket =
+    subst (λ (x : Tcb). Leads (with_content cx (value_of x r q o) ip header bytes) answer socket) stamped (record { answer = a; socket = s })
     in
     let second : Leads (checked Old cx (value_of b r q o) ip header bytes) answer socket =
-    so_leads (is_in_window b (length r.map) header (length bytes)) (with_content cx (value_of (stamp_taken (heard b) header cx.moment) r q o) ip header bytes)
-    (outside cx (value_of b r q o) ip header (comes_again (value_of b r q o) header (length bytes))) answer socket window
+    so_leads (is_in_window b (length r.map) header (length bytes)) (with_content cx (value_of (tsval_taken (heard b) header cx.instant) r q o) ip header bytes)
+    (outside cx (value_of b r q o) ip header (is_repeated (value_of b r q o) header (length bytes))) answer socket window
     first
     in
     subst (λ (x : TcpValue). Leads (checked Old cx x ip header bytes) answer socket) is second
@@ -223,20 +223,20 @@ old_leads cx b b1 b2 r q o v now ip header bytes answer socket is window heard_i
 -- outside the window, with an acknowledgement that is taken
 pub outside_leads : (cx : ContextValue) (v w : TcpValue) (now : ℤ) (ip : IpRepr) (header : TcpHeader) (size by : ℕ) (tells again : Bool)
     (answer : Option Reply) (socket : TcpValue)
-    → tells ≡ true → tells ≡ tells_news v header size → again ≡ has_length header size → now ≡ cx.moment
-    → w ≡ acknowledged (echo_heard v header by now) by now
+    → tells ≡ true → tells ≡ is_before_window v header size → again ≡ has_length header size → now ≡ cx.instant
+    → w ≡ acknowledged (tsecr_heard v header by now) by now
     → answer ≡ (outside cx w ip header again).answer → socket ≡ (outside cx w ip header again).socket
     → Leads (passed_outside cx v ip header size by) answer socket
 outside_leads cx v w now ip header size by tells again answer socket is tells_is again_is now_is w_is a s =
-    let told_of : TcpValue = acknowledged (echo_heard v header by cx.moment) by cx.moment in
-    let acked : w ≡ told_of = w_is ∙ ap (λ (m : ℤ). acknowledged (echo_heard v header by m) by m) now_is in
+    let told_of : TcpValue = acknowledged (tsecr_heard v header by cx.instant) by cx.instant in
+    let acked : w ≡ told_of = w_is ∙ ap (λ (m : ℤ). acknowledged (tsecr_heard v header by m) by m) now_is in
     let first : Leads (outside cx w ip header (has_length header size)) answer socket =
     subst (λ (b : Bool). Leads (outside cx w ip header b) answer socket) again_is (record { answer = a; socket = s })
     in
     let second : Leads (outside cx told_of ip header (has_length header size)) answer socket =
     leads_to (λ (x : TcpValue). outside cx x ip header (has_length header size)) w told_of answer socket acked first.answer first.socket
     in
-    so_leads (tells_news v header size) (outside cx told_of ip header (has_length header size)) (outside cx v ip header false) answer socket
+    so_leads (is_before_window v header size) (outside cx told_of ip header (has_length header size)) (outside cx v ip header false) answer socket
     (sym tells_is ∙ is) second
 
 -- IN SYN-SENT
@@ -247,16 +247,16 @@ either_dropped true a b w is = record { answer = refl; socket = is }
 either_dropped false a b w is = record { answer = refl; socket = is }
 
 abbrev refused : TcpValue → TcpHeader → Arrived
-refused v header = if acks_syn v.block.sender.una header.ack_number then dropped (ended v) else dropped v
+refused v header = if acks_syn v.tcb.sender.una header.ack_number then dropped (ended v) else dropped v
 
 abbrev with_syn : ContextValue → TcpValue → TcpHeader → TcpValue
-with_syn cx v header = with_block v (timeout_restarted (syn_answered v.block header cx.moment) cx.moment (queued_in v))
+with_syn cx v header = with_tcb v (timeout_restarted (syn_answered v.tcb header cx.instant) cx.instant (queued_in v))
 
 abbrev taken_if : Bool → ContextValue → TcpValue → TcpHeader → Arrived
 taken_if syn cx v header = if syn then dropped (with_syn cx v header) else dropped v
 
 abbrev acks_another : TcpValue → TcpHeader → Bool
-acks_another v header = is_some header.ack_number && not (acks_syn v.block.sender.una header.ack_number)
+acks_another v header = is_some header.ack_number && not (acks_syn v.tcb.sender.una header.ack_number)
 
 abbrev no_reset : ContextValue → TcpValue → IpRepr → TcpHeader → List ℕ → Arrived
 no_reset cx v ip header bytes =
@@ -264,10 +264,10 @@ no_reset cx v ip header bytes =
 
 -- a reset comes
 pub refusal_leads : (cx : ContextValue) (v w : TcpValue) (ip : IpRepr) (header : TcpHeader) (bytes : List ℕ) → is_rst header.control ≡ true
-    → w ≡ (if acks_syn v.block.sender.una header.ack_number then ended v else v) → Leads (takes_answer cx v ip header bytes) None w
+    → w ≡ (if acks_syn v.tcb.sender.una header.ack_number then ended v else v) → Leads (takes_answer cx v ip header bytes) None w
 refusal_leads cx v w ip header bytes is w_is =
     so_leads (is_rst header.control) (refused v header) (no_reset cx v ip header bytes) None w is
-    (either_dropped (acks_syn v.block.sender.una header.ack_number) (ended v) v w w_is)
+    (either_dropped (acks_syn v.tcb.sender.una header.ack_number) (ended v) v w w_is)
 
 -- something else is acknowledged
 pub reset_leads : (cx : ContextValue) (v : TcpValue) (ip : IpRepr) (header : TcpHeader) (bytes : List ℕ) → is_rst header.control ≡ false
@@ -286,11 +286,11 @@ taken_leads_to cx v w ip header bytes no_rst no_other leads =
 
 -- a SYN comes
 pub syn_leads : (cx : ContextValue) (v w : TcpValue) (now : ℤ) (ip : IpRepr) (header : TcpHeader) (bytes : List ℕ) → is_rst header.control ≡ false
-    → acks_another v header ≡ false → is_syn header.control ≡ true → now ≡ cx.moment
-    → w ≡ with_block v (timeout_restarted (syn_answered v.block header now) now (queued_in v)) → Leads (takes_answer cx v ip header bytes) None w
+    → acks_another v header ≡ false → is_syn header.control ≡ true → now ≡ cx.instant
+    → w ≡ with_tcb v (timeout_restarted (syn_answered v.tcb header now) now (queued_in v)) → Leads (takes_answer cx v ip header bytes) None w
 syn_leads cx v w now ip header bytes no_rst no_other syn now_is w_is =
     let answered : w ≡ with_syn cx v header =
-    w_is ∙ ap (λ (m : ℤ). with_block v (timeout_restarted (syn_answered v.block header m) m (queued_in v))) now_is
+    w_is ∙ ap (λ (m : ℤ). with_tcb v (timeout_restarted (syn_answered v.tcb header m) m (queued_in v))) now_is
     in
     taken_leads_to cx v w ip header bytes no_rst no_other
     (so_leads (is_syn header.control) (dropped (with_syn cx v header)) (dropped v) None w syn (record { answer = refl; socket = answered }))
@@ -303,85 +303,85 @@ nothing_leads cx v ip header bytes no_rst no_other no_syn =
     (if_open (is_syn header.control) (dropped (with_syn cx v header)) (dropped v) None v no_syn (record { answer = refl; socket = refl }))
 
 -- a SYN is taken by the block, and the user timeout starts
-pub syn_taken : (b b1 b2 : Block) (r : Received) (q : Ring ℕ) (o : Option OpenOffer) (v : TcpValue) (now : ℤ) (n : ℕ) (header : TcpHeader)
+pub syn_taken : (b b1 b2 : Tcb) (r : Received) (q : Ring ℕ) (o : Option OpenOffer) (v : TcpValue) (now : ℤ) (n : ℕ) (header : TcpHeader)
     → value_of b r q o ≡ v → b1 ≡ syn_answered b header now → b2 ≡ timeout_restarted b1 now n → n ≡ length q.queue
-    → value_of b2 r q o ≡ with_block v (timeout_restarted (syn_answered v.block header now) now (queued_in v))
+    → value_of b2 r q o ≡ with_tcb v (timeout_restarted (syn_answered v.tcb header now) now (queued_in v))
 syn_taken b b1 b2 r q o v now n header is answered restarted n_is =
     let all : b2 ≡ timeout_restarted (syn_answered b header now) now (length q.queue) =
-    restarted ∙ ap (λ (x : Block). timeout_restarted x now n) answered
+    restarted ∙ ap (λ (x : Tcb). timeout_restarted x now n) answered
     ∙ ap (λ (k : ℕ). timeout_restarted (syn_answered b header now) now k) n_is
     in
-    ap (λ (x : Block). value_of x r q o) all
-    ∙ ap (λ (x : TcpValue). with_block x (timeout_restarted (syn_answered x.block header now) now (queued_in x))) is
+    ap (λ (x : Tcb). value_of x r q o) all
+    ∙ ap (λ (x : TcpValue). with_tcb x (timeout_restarted (syn_answered x.tcb header now) now (queued_in x))) is
 
 -- WHAT ANSWERS A SEGMENT
 
 abbrev told_all : TcpValue → TcpValue
-told_all v = with_block v (ack_recorded v.block (room_of v.received) (window_of v))
+told_all v = with_tcb v (ack_recorded v.tcb (room_of v.received) (window_of v))
 
 -- an acknowledgement of all that came
 pub acked_leads : (cx : ContextValue) (v w : TcpValue) (window : ℕ) (ip : IpRepr) (header : TcpHeader) (size : ℕ) → window ≡ window_of v → w ≡ told_all v
-    → Leads (acked cx v ip header no_ranges) (Some (reply_of (Is.Ack window) cx.moment w ip header size)) w
+    → Leads (acked cx v ip header no_ranges) (Some (reply_of (Is.Ack window) cx.instant w ip header size)) w
 acked_leads cx v w window ip header size window_is w_is =
-    let all : Leads (acked cx v ip header no_ranges) (Some (reply_of (Is.Ack (window_of v)) cx.moment (told_all v) ip header size)) (told_all v) =
+    let all : Leads (acked cx v ip header no_ranges) (Some (reply_of (Is.Ack (window_of v)) cx.instant (told_all v) ip header size)) (told_all v) =
     record { answer = refl; socket = refl }
     in
-    subst (λ (x : TcpValue). Leads (acked cx v ip header no_ranges) (Some (reply_of (Is.Ack window) cx.moment x ip header size)) x) (sym w_is)
-    (subst (λ (n : ℕ). Leads (acked cx v ip header no_ranges) (Some (reply_of (Is.Ack n) cx.moment (told_all v) ip header size)) (told_all v)) (sym window_is) all)
+    subst (λ (x : TcpValue). Leads (acked cx v ip header no_ranges) (Some (reply_of (Is.Ack window) cx.instant x ip header size)) x) (sym w_is)
+    (subst (λ (n : ℕ). Leads (acked cx v ip header no_ranges) (Some (reply_of (Is.Ack n) cx.instant (told_all v) ip header size)) (told_all v)) (sym window_is) all)
 
--- the same of text that is held early
-pub held_leads : (cx : ContextValue) (v w : TcpValue) (window place : ℕ) (early : Option ℕ) (ip : IpRepr) (header : TcpHeader) (size : ℕ) (fills : Bool)
-    → early ≡ Some place → window ≡ window_of v → w ≡ told_all v
-    → Leads (answer_for cx v ip header size fills early) (Some (reply_of (Is.AckHeld window place) cx.moment w ip header size)) w
-held_leads cx v w window place early ip header size fills early_is window_is w_is =
-    let at = answer_for cx v ip header size fills (Some place) in
-    let all : Leads at (Some (reply_of (Is.AckHeld (window_of v) place) cx.moment (told_all v) ip header size)) (told_all v) =
+-- the same of payload that is held early
+pub held_leads : (cx : ContextValue) (v w : TcpValue) (window offset : ℕ) (early : Option ℕ) (ip : IpRepr) (header : TcpHeader) (size : ℕ) (fills : Bool)
+    → early ≡ Some offset → window ≡ window_of v → w ≡ told_all v
+    → Leads (answer_for cx v ip header size fills early) (Some (reply_of (Is.AckWithSack window offset) cx.instant w ip header size)) w
+held_leads cx v w window offset early ip header size fills early_is window_is w_is =
+    let at = answer_for cx v ip header size fills (Some offset) in
+    let all : Leads at (Some (reply_of (Is.AckWithSack (window_of v) offset) cx.instant (told_all v) ip header size)) (told_all v) =
     record { answer = refl; socket = refl }
     in
-    let with_window : Leads at (Some (reply_of (Is.AckHeld window place) cx.moment (told_all v) ip header size)) (told_all v) =
-    subst (λ (n : ℕ). Leads at (Some (reply_of (Is.AckHeld n place) cx.moment (told_all v) ip header size)) (told_all v)) (sym window_is) all
+    let with_window : Leads at (Some (reply_of (Is.AckWithSack window offset) cx.instant (told_all v) ip header size)) (told_all v) =
+    subst (λ (n : ℕ). Leads at (Some (reply_of (Is.AckWithSack n offset) cx.instant (told_all v) ip header size)) (told_all v)) (sym window_is) all
     in
-    let with_socket : Leads at (Some (reply_of (Is.AckHeld window place) cx.moment w ip header size)) w =
-    subst (λ (x : TcpValue). Leads at (Some (reply_of (Is.AckHeld window place) cx.moment x ip header size)) x) (sym w_is) with_window
+    let with_socket : Leads at (Some (reply_of (Is.AckWithSack window offset) cx.instant w ip header size)) w =
+    subst (λ (x : TcpValue). Leads at (Some (reply_of (Is.AckWithSack window offset) cx.instant x ip header size)) x) (sym w_is) with_window
     in
-    subst (λ (o : Option ℕ). Leads (answer_for cx v ip header size fills o) (Some (reply_of (Is.AckHeld window place) cx.moment w ip header size)) w)
+    subst (λ (o : Option ℕ). Leads (answer_for cx v ip header size fills o) (Some (reply_of (Is.AckWithSack window offset) cx.instant w ip header size)) w)
     (sym early_is) with_socket
 
 -- what was taken is acknowledged at once, where so much came
 pub at_once_leads : (cx : ContextValue) (v w : TcpValue) (window : ℕ) (at_once : Bool) (ip : IpRepr) (header : TcpHeader) (size : ℕ) (fills : Bool)
-    → at_once ≡ true → at_once ≡ answers_at_once cx v.block ip header size → window ≡ window_of v → w ≡ told_all v
-    → Leads (answer_for cx v ip header size fills None) (Some (reply_of (Is.Ack window) cx.moment w ip header size)) w
+    → at_once ≡ true → at_once ≡ answers_at_once cx v.tcb ip header size → window ≡ window_of v → w ≡ told_all v
+    → Leads (answer_for cx v ip header size fills None) (Some (reply_of (Is.Ack window) cx.instant w ip header size)) w
 at_once_leads cx v w window at_once ip header size fills is at_once_is window_is w_is =
-    so_leads (answers_at_once cx v.block ip header size) (acked cx v ip header no_ranges)
-    (dropped (with_block v (ack_due v.block header size fills cx.moment))) _ _ (sym at_once_is ∙ is)
+    so_leads (answers_at_once cx v.tcb ip header size) (acked cx v ip header no_ranges)
+    (dropped (with_tcb v (ack_due v.tcb header size fills cx.instant))) _ _ (sym at_once_is ∙ is)
     (acked_leads cx v w window ip header size window_is w_is)
 
 -- else later
 pub delayed_leads : (cx : ContextValue) (v w : TcpValue) (now : ℤ) (at_once : Bool) (ip : IpRepr) (header : TcpHeader) (size : ℕ) (fills : Bool)
-    → at_once ≡ false → at_once ≡ answers_at_once cx v.block ip header size → now ≡ cx.moment
-    → w ≡ with_block v (ack_due v.block header size fills now) → Leads (answer_for cx v ip header size fills None) None w
+    → at_once ≡ false → at_once ≡ answers_at_once cx v.tcb ip header size → now ≡ cx.instant
+    → w ≡ with_tcb v (ack_due v.tcb header size fills now) → Leads (answer_for cx v ip header size fills None) None w
 delayed_leads cx v w now at_once ip header size fills is at_once_is now_is w_is =
-    if_open (answers_at_once cx v.block ip header size) (acked cx v ip header no_ranges)
-    (dropped (with_block v (ack_due v.block header size fills cx.moment))) None w (sym at_once_is ∙ is)
-    (record { answer = refl; socket = w_is ∙ ap (λ (m : ℤ). with_block v (ack_due v.block header size fills m)) now_is })
+    if_open (answers_at_once cx v.tcb ip header size) (acked cx v ip header no_ranges)
+    (dropped (with_tcb v (ack_due v.tcb header size fills cx.instant))) None w (sym at_once_is ∙ is)
+    (record { answer = refl; socket = w_is ∙ ap (λ (m : ℤ). with_tcb v (ack_due v.tcb header size fills m)) now_is })
 
--- outside the window: what comes again is acknowledged, of other segments an acknowledgement may be drawn
+-- outside the window: what arrives again is acknowledged, of other segments an acknowledgement may be drawn
 pub again_leads : (cx : ContextValue) (v w : TcpValue) (again : Bool) (now : ℤ) (ip : IpRepr) (header : TcpHeader) (answer : Option Reply) (socket : TcpValue)
-    → is_closed v.block.state ≡ false → now ≡ cx.moment → w ≡ waiting_anew v header now
+    → is_closed v.tcb.state ≡ false → now ≡ cx.instant → w ≡ waiting_anew v header now
     → answer ≡ (if again then acked cx w ip header no_ranges else drawn cx w ip header).answer
     → socket ≡ (if again then acked cx w ip header no_ranges else drawn cx w ip header).socket
     → Leads (outside cx v ip header again) answer socket
 again_leads cx v w again now ip header answer socket opened now_is w_is a s =
-    let waits = waiting_anew v header cx.moment in
+    let waits = waiting_anew v header cx.instant in
     let all : w ≡ waits = w_is ∙ ap (λ (m : ℤ). waiting_anew v header m) now_is in
-    if_open (is_closed v.block.state) (dropped v) (if again then acked cx waits ip header no_ranges else drawn cx waits ip header) answer socket opened
+    if_open (is_closed v.tcb.state) (dropped v) (if again then acked cx waits ip header no_ranges else drawn cx waits ip header) answer socket opened
     (leads_to (λ (x : TcpValue). if again then acked cx x ip header no_ranges else drawn cx x ip header) w waits answer socket all a s)
 
-pub closed_leads : (cx : ContextValue) (v : TcpValue) (again : Bool) (ip : IpRepr) (header : TcpHeader) → is_closed v.block.state ≡ true
+pub closed_leads : (cx : ContextValue) (v : TcpValue) (again : Bool) (ip : IpRepr) (header : TcpHeader) → is_closed v.tcb.state ≡ true
     → Leads (outside cx v ip header again) None v
 closed_leads cx v again ip header closed =
-    let waits = waiting_anew v header cx.moment in
-    so_leads (is_closed v.block.state) (dropped v) (if again then acked cx waits ip header no_ranges else drawn cx waits ip header) None v closed
+    let waits = waiting_anew v header cx.instant in
+    so_leads (is_closed v.tcb.state) (dropped v) (if again then acked cx waits ip header no_ranges else drawn cx waits ip header) None v closed
     (record { answer = refl; socket = refl })
 
 -- no word is drawn but in LISTEN
@@ -398,43 +398,43 @@ not_drawn cx drawn false is = refl
 
 -- from SYN-RECEIVED on
 pub later_leads : (cx : ContextValue) (v : TcpValue) (ip : IpRepr) (header : TcpHeader) (bytes : List ℕ) (answer : Option Reply) (socket : TcpValue)
-    → (v.block.state ≡ In.Closed → ⊥) → (v.block.state ≡ In.Listen → ⊥) → (v.block.state ≡ In.SynSent → ⊥)
+    → (v.tcb.state ≡ In.Closed → ⊥) → (v.tcb.state ≡ In.Listen → ⊥) → (v.tcb.state ≡ In.SynSent → ⊥)
     → answer ≡ (received cx v ip header bytes).answer → socket ≡ (received cx v ip header bytes).socket
-    → Leads (arrives_in v.block.state cx v ip header bytes) answer socket
+    → Leads (arrives_in v.tcb.state cx v ip header bytes) answer socket
 later_leads cx v ip header bytes answer socket closed listens opens a s =
-    subst (λ (x : Arrived). Leads x answer socket) (sym (later_arrives v.block.state cx v ip header bytes closed listens opens))
+    subst (λ (x : Arrived). Leads x answer socket) (sym (later_arrives v.tcb.state cx v ip header bytes closed listens opens))
     (record { answer = a; socket = s })
 
 abbrev no_reset_received : ContextValue → TcpValue → IpRepr → TcpHeader → List ℕ → Arrived
 no_reset_received cx v ip header bytes =
-    if draws_first v.block header cx.moment then drawn cx v ip header
-    else checked (acknowledgement_check v.block header.ack_number) cx v ip header bytes
+    if challenges_first v.tcb header cx.instant then drawn cx v ip header
+    else checked (acknowledgement_check v.tcb header.ack_number) cx v ip header bytes
 
--- of these: a reset, what draws an acknowledgement first, and what is checked
+-- of these: a reset, what elicits an acknowledgement first, and what is checked
 pub reset_received : (cx : ContextValue) (v : TcpValue) (ip : IpRepr) (header : TcpHeader) (bytes : List ℕ) (answer : Option Reply) (socket : TcpValue)
-    → is_rst header.control ≡ true → answer ≡ (reset_comes cx v ip header (length bytes)).answer → socket ≡ (reset_comes cx v ip header (length bytes)).socket
+    → is_rst header.control ≡ true → answer ≡ (reset_arrives cx v ip header (length bytes)).answer → socket ≡ (reset_arrives cx v ip header (length bytes)).socket
     → Leads (received cx v ip header bytes) answer socket
 reset_received cx v ip header bytes answer socket is a s =
-    so_leads (is_rst header.control) (reset_comes cx v ip header (length bytes)) (no_reset_received cx v ip header bytes) answer socket is
+    so_leads (is_rst header.control) (reset_arrives cx v ip header (length bytes)) (no_reset_received cx v ip header bytes) answer socket is
     (record { answer = a; socket = s })
 
 pub drawn_received : (cx : ContextValue) (v : TcpValue) (ip : IpRepr) (header : TcpHeader) (bytes : List ℕ) (now : ℤ) (answer : Option Reply) (socket : TcpValue)
-    → is_rst header.control ≡ false → draws_first v.block header now ≡ true → now ≡ cx.moment
+    → is_rst header.control ≡ false → challenges_first v.tcb header now ≡ true → now ≡ cx.instant
     → answer ≡ (drawn cx v ip header).answer → socket ≡ (drawn cx v ip header).socket → Leads (received cx v ip header bytes) answer socket
 drawn_received cx v ip header bytes now answer socket no_rst draws now_is a s =
-    if_open (is_rst header.control) (reset_comes cx v ip header (length bytes)) (no_reset_received cx v ip header bytes) answer socket no_rst
-    (so_leads (draws_first v.block header cx.moment) (drawn cx v ip header) (checked (acknowledgement_check v.block header.ack_number) cx v ip header bytes)
-    answer socket (subst (λ (m : ℤ). draws_first v.block header m ≡ true) now_is draws) (record { answer = a; socket = s }))
+    if_open (is_rst header.control) (reset_arrives cx v ip header (length bytes)) (no_reset_received cx v ip header bytes) answer socket no_rst
+    (so_leads (challenges_first v.tcb header cx.instant) (drawn cx v ip header) (checked (acknowledgement_check v.tcb header.ack_number) cx v ip header bytes)
+    answer socket (subst (λ (m : ℤ). challenges_first v.tcb header m ≡ true) now_is draws) (record { answer = a; socket = s }))
 
 pub checked_received : (cx : ContextValue) (v : TcpValue) (ip : IpRepr) (header : TcpHeader) (bytes : List ℕ) (now : ℤ) (answer : Option Reply)
     (socket : TcpValue)
-    → is_rst header.control ≡ false → draws_first v.block header now ≡ false → now ≡ cx.moment
-    → answer ≡ (checked (acknowledgement_check v.block header.ack_number) cx v ip header bytes).answer
-    → socket ≡ (checked (acknowledgement_check v.block header.ack_number) cx v ip header bytes).socket → Leads (received cx v ip header bytes) answer socket
+    → is_rst header.control ≡ false → challenges_first v.tcb header now ≡ false → now ≡ cx.instant
+    → answer ≡ (checked (acknowledgement_check v.tcb header.ack_number) cx v ip header bytes).answer
+    → socket ≡ (checked (acknowledgement_check v.tcb header.ack_number) cx v ip header bytes).socket → Leads (received cx v ip header bytes) answer socket
 checked_received cx v ip header bytes now answer socket no_rst draws now_is a s =
-    if_open (is_rst header.control) (reset_comes cx v ip header (length bytes)) (no_reset_received cx v ip header bytes) answer socket no_rst
-    (if_open (draws_first v.block header cx.moment) (drawn cx v ip header) (checked (acknowledgement_check v.block header.ack_number) cx v ip header bytes)
-    answer socket (subst (λ (m : ℤ). draws_first v.block header m ≡ false) now_is draws) (record { answer = a; socket = s }))
+    if_open (is_rst header.control) (reset_arrives cx v ip header (length bytes)) (no_reset_received cx v ip header bytes) answer socket no_rst
+    (if_open (challenges_first v.tcb header cx.instant) (drawn cx v ip header) (checked (acknowledgement_check v.tcb header.ack_number) cx v ip header bytes)
+    answer socket (subst (λ (m : ℤ). challenges_first v.tcb header m ≡ false) now_is draws) (record { answer = a; socket = s }))
 
 -- an answer that is handed out
 some_reply : (x y : Reply) → Some x ≡ Some y → x ≡ y

@@ -1,11 +1,11 @@
 -- A segment that is offered and handed to a closure.
 use Rattle.std.specs.Prelude.{◌≡◌, Some, Result, Ok, is_ok, MatchOption}
 use Rattle.std.specs.Fn.{Once}
-use Rattle.socket_base.specs.Packet.{PacketValue, packet_value}
-use Rattle.socket_base.specs.declared.packet.Packet.{Packet}
-use Rattle.tcp_model.specs.Offers.{offered_packet}
-use Rattle.tcp_model.specs.Settled.{settled}
-use Rattle.tcp_model.specs.Value.{TcpValue}
+use Rattle.socket_context.specs.Packet.{PacketValue, packet_value}
+use Rattle.socket_context.specs.declared.packet.Packet.{Packet}
+use Rattle.tcp_block.specs.Offers.{offered_packet}
+use Rattle.tcp_block.specs.Settled.{settled}
+use Rattle.tcp_block.specs.Value.{TcpValue}
 
 -- f was called at a packet of this value, and gave r
 abbrev pub GivesAt : {F R : Type 0} → Once F (Packet × Unit {0}) R → F → PacketValue → R → Type 0

@@ -5,10 +5,10 @@ pub mod Dispatch
 pub mod Offered
 pub mod Opening
 pub mod Answering
-pub mod OnePass
-pub use Rattle.socket_base.specs.Addresses
-pub use Rattle.socket_base.specs.Text
-pub use Rattle.socket_base.specs.WellFormed
-pub use Rattle.socket_base.specs.declared.packet.IpPayload
-pub use Rattle.socket_base.specs.declared.packet.Packet
-pub use Rattle.socket_base.specs.declared.poll_at.PollAt
+pub mod FastPath
+pub use Rattle.socket_context.specs.Addresses
+pub use Rattle.socket_context.specs.SegmentPayload
+pub use Rattle.socket_context.specs.WellFormed
+pub use Rattle.socket_context.specs.declared.packet.IpPayload
+pub use Rattle.socket_context.specs.declared.packet.Packet
+pub use Rattle.socket_context.specs.declared.poll_at.PollAt

@@ -1,12 +1,12 @@
 -- The packet of an open offer, lent from where it lies.
 use Rattle.std.specs.Prelude.{Option, None, Some}
-use Rattle.socket_base.specs.Packet.{PacketValue, Segment, packet_of}
-use Rattle.socket_base.specs.Text.{text_bytes}
+use Rattle.socket_context.specs.Packet.{PacketValue, Segment, packet_of}
+use Rattle.socket_context.specs.SegmentPayload.{payload_bytes}
 use Rattle.tcp_socket.specs.declared.offer.OfferedSegment.{OfferedSegment}
 
--- its headers and its text as one value
+-- its headers and its payload as one value
 abbrev pub segment_value : OfferedSegment → PacketValue
-segment_value s = packet_of s.header.now (Segment s.segment.now (text_bytes s.text))
+segment_value s = packet_of s.header.now (Segment s.segment.now (payload_bytes s.payload))
 
 -- the packet, if there is one
 abbrev pub lent_value : Option OfferedSegment → Option PacketValue

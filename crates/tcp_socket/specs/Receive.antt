@@ -1,13 +1,13 @@
--- What came to a socket: the bytes that wait to be read, and the receive map behind them.
+-- What came to a socket: the bytes that wait to be read, and the receive map after them.
 use Rattle.std.specs.Prelude.{ℕ, ◌+◌, ◌-◌, ◌%◌, ◌^◌, ◌≤◌, nat_le, min, Bool, List, ◌++◌, length, take, Option, if◌then◌else◌, Some, None, Result, Ok, Err}
 use Rattle.net_base.specs.Ring.{Ring}
 use Rattle.net_base.specs.Assembler.{AreRuns, Holds}
-use Rattle.held_bytes.specs.ReceiveMap.{store, front, behind}
-use Rattle.tcp_model.specs.RecvError.{RecvError}
-use Rattle.tcp_model.specs.Value.{Received, room_of}
-use Rattle.held_bytes.specs.Held.{map_from, runs_of, EndsBy}
+use Rattle.tcp_ranges.specs.ReceiveMap.{store, front, following}
+use Rattle.tcp_block.specs.RecvError.{RecvError}
+use Rattle.tcp_block.specs.Value.{Received, room_of}
+use Rattle.tcp_ranges.specs.OutOfOrder.{map_from, runs_of, EndsBy}
 
--- how a buffer keeps them: in a ring whose free places hold what came out of order, and as the runs of these places
+-- how a buffer keeps them: in a ring whose free offsets hold what came out of order, and as the runs of these offsets
 abbrev pub received : Ring ℕ → List (ℕ × ℕ) → Received
 received ring held = record { waiting = ring.queue; map = map_from held 0 ring.free; start = ring.start }
 
@@ -28,7 +28,7 @@ pub record IsHeldBy (ring : Ring ℕ) (held : List (ℕ × ℕ)) : Type 0 where
 -- bytes at RCV.NXT: they wait to be read, with the held bytes that follow without a gap
 abbrev pub in_order : Received → List ℕ → Received
 in_order r bytes =
-    record r { waiting = r.waiting ++ front (store r.map 0 bytes); map = behind (store r.map 0 bytes) }
+    record r { waiting = r.waiting ++ front (store r.map 0 bytes); map = following (store r.map 0 bytes) }
 
 -- so many runs of bytes out of order are kept
 abbrev pub most_runs : ℕ
@@ -41,7 +41,7 @@ can_hold r past bytes = nat_le (length (runs_of (store r.map past bytes))) most_
 abbrev pub early : Received → ℕ → List ℕ → Received
 early r past bytes = if can_hold r past bytes then record r { map = store r.map past bytes } else r
 
--- how many waiting bytes from the offset on lie behind one another, of at most so many
+-- how many waiting bytes from the offset on lie after one another, of at most so many
 abbrev pub unbroken : Received → ℕ → ℕ → ℕ
 unbroken r offset size =
     min size (min (length r.waiting - offset) (room_of r - (r.start + offset) % room_of r))

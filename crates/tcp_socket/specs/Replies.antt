@@ -3,9 +3,9 @@ use Rattle.std.specs.Prelude.{[], Option, Some, None}
 use Rattle.ip_wire.specs.IpRepr.{IpRepr}
 use Rattle.ip_wire.specs.Tcp.{header_of}
 use Rattle.ip_wire.specs.TcpRepr.{TcpRepr}
-use Rattle.socket_base.specs.Packet.{PacketValue, packet_of}
-use Rattle.socket_base.specs.Packet as Carried
-use Rattle.tcp_model.specs.Reply.{Reply}
+use Rattle.socket_context.specs.Packet.{PacketValue, packet_of}
+use Rattle.socket_context.specs.Packet as Carried
+use Rattle.tcp_block.specs.Reply.{Reply}
 
 -- a header and a segment without payload
 abbrev pub replies_in : Option (IpRepr × TcpRepr) → Option Reply

@@ -3,25 +3,25 @@ ghost use Rattle.std.specs.Prelude.{◌≡◌, ◌≤◌, ℕ, List, ◌++◌, l
 ghost use Rattle.std.specs.Prelude.{if◌then◌else◌};
 ghost use Rattle.std.specs.Fn.{FnOnceTakesAt, FnOnceReturnsAt, FnOnceTakesAtMut, FnOnceReturnsAtMut};
 ghost use Rattle.net_base.specs.Ring.{anchored, extended, overwritten, contiguous, offered};
-ghost use Rattle.socket_base.specs.Context.{ContextValue};
+ghost use Rattle.socket_context.specs.Context.{ContextValue};
 ghost use Rattle.ip_wire.specs.IpEndpoint.{IpEndpoint};
 ghost use Rattle.ip_wire.specs.IpListenEndpoint.{IpListenEndpoint};
-ghost use Rattle.tcp_model.specs.Blocks.{fresh_block};
-ghost use Rattle.tcp_model.specs.Calls.{listening, listen_answer, listen_after, source_by, pair_for, connect_answer, connect_after, connect_draws, send_answer};
-ghost use Rattle.tcp_model.specs.Calls.{sent_more, send_after, recv_refusal, recv_answer, recv_after, close_after, abort_after};
-ghost use Rattle.tcp_model.specs.States.{takes_writes};
-ghost use Rattle.tcp_model.specs.Value.{opened, unoffered};
+ghost use Rattle.tcp_block.specs.TcbRules.{initial_tcb};
+ghost use Rattle.tcp_block.specs.Calls.{listening, listen_answer, listen_after, source_by, four_tuple_for, connect_answer, connect_after, connect_draws, send_answer};
+ghost use Rattle.tcp_block.specs.Calls.{sent_more, send_after, recv_refusal, recv_answer, recv_after, close_after, abort_after};
+ghost use Rattle.tcp_block.specs.States.{takes_writes};
+ghost use Rattle.tcp_block.specs.Value.{opened, unoffered};
 ghost use Rattle.tcp_socket.specs.Receive.{unbroken, lent, or_done};
 ghost use Rattle.tcp_socket.specs.Socket.{if_open, takes_all};
 
 use crate::Socket;
 use ip_wire::{IpAddress, IpEndpoint, IpListenEndpoint, SeqNumber};
-use socket_base::Context;
-use socket_base::addresses::is_unspecified;
+use socket_context::Context;
+use socket_context::addresses::is_unspecified;
 use std::fmt;
-use tcp_model::{
-    AddressPair, Block, ConnectError, EndpointPair, ListenError, Names, RecvError, SendError,
-    Sender, State, first_number, is_same_listener,
+use tcp_block::{
+    AddressPair, ConnectError, FourTuple, ListenError, Names, RecvError, SendError, Sender, State,
+    Tcb, is_same_listener, isn,
 };
 
 /// The source of what is sent to this address: the one that is named, else the interface's, if it is
@@ -37,19 +37,19 @@ fn source_for<C: Context>(cx: &C, named: Option<IpAddress>, remote: &IpAddress) 
 }
 
 /// The endpoints of a connection, if both have a port and a specified address, of one family.
-fn pair_for<C: Context>(
+fn four_tuple_for<C: Context>(
     cx: &C,
     remote: &IpEndpoint,
     local: &IpListenEndpoint,
-) -> Option<EndpointPair>
-    ensures { result ≡ pair_for (C.context cx.now) remote.now local.now }
+) -> Option<FourTuple>
+    ensures { result ≡ four_tuple_for (C.context cx.now) remote.now local.now }
 {
     if remote.port == 0 || is_unspecified(&remote.addr) || local.port == 0 {
         return None;
     }
     let source = source_for(cx, local.addr, &remote.addr)?;
     let addresses = AddressPair::new(source, remote.addr)?;
-    Some(EndpointPair {
+    Some(FourTuple {
         addresses,
         local_port: local.port,
         remote_port: remote.port,
@@ -59,14 +59,14 @@ fn pair_for<C: Context>(
 impl Socket {
     /// Drops all of an earlier connection.
     fn open(&mut self, state: State, names: Names, sender: Sender)
-        ensures { self.new ≡ opened self.old (record (fresh_block self.old.block.settings) { state = state; names = names; sender = sender }) }
+        ensures { self.new ≡ opened self.old (record (initial_tcb self.old.tcb.settings) { state = state; names = names; sender = sender }) }
     {
         self.offered = None;
-        self.block = Block {
+        self.tcb = Tcb {
             state,
             names,
             sender,
-            ..Block::new(self.block.settings)
+            ..Tcb::new(self.tcb.settings)
         };
         self.received.clear();
         self.queued.clear();
@@ -102,13 +102,11 @@ impl Socket {
         if endpoint.port == 0 {
             return Err(ListenError::Unaddressable);
         }
-        if self.block.state.is_closed() {
+        if self.tcb.state.is_closed() {
             self.listen_on(endpoint);
             return Ok(());
         }
-        if self.block.state.is_listening()
-            && is_same_listener(&self.block.names.listen, &endpoint)
-        {
+        if self.tcb.state.is_listening() && is_same_listener(&self.tcb.names.listen, &endpoint) {
             return Ok(());
         }
         Err(ListenError::InvalidState)
@@ -140,13 +138,13 @@ impl Socket {
         ensures drawn { cx.new ≡ (if connect_draws (C.context cx.old) self.old remote local then C.drawn cx.old else cx.old) }
     {
         self.offered = None;
-        if !self.block.state.is_closed() {
+        if !self.tcb.state.is_closed() {
             return Err(ConnectError::InvalidState);
         }
-        let Some(pair) = pair_for(cx, &remote, &local) else {
+        let Some(pair) = four_tuple_for(cx, &remote, &local) else {
             return Err(ConnectError::Unaddressable);
         };
-        let number = first_number(cx, &pair);
+        let number = isn(cx, &pair);
         let names = Names {
             pair: Some(pair),
             ..Names::NONE
@@ -155,15 +153,15 @@ impl Socket {
         Ok(())
     }
 
-    /// Closes the way out: what is queued still goes, and then a FIN.
+    /// Closes the egress path: what is queued still goes, and then a FIN.
     pub fn close(&mut self)
         ensures { self.new ≡ close_after self.old }
     {
         self.offered = None;
-        if self.block.state.is_opening() {
-            self.block.forget();
+        if self.tcb.state.is_opening() {
+            self.tcb.forget();
         } else {
-            self.block.state = self.block.state.after_close();
+            self.tcb.state = self.tcb.state.after_close();
         }
     }
 
@@ -173,25 +171,25 @@ impl Socket {
         ensures { self.new ≡ abort_after self.old }
     {
         self.offered = None;
-        if self.block.state.is_time_wait() {
-            self.block.forget();
+        if self.tcb.state.is_time_wait() {
+            self.tcb.forget();
         } else {
-            self.block.state = State::Closed;
-            self.block.sender.reset_due = self.block.names.pair.is_some();
+            self.tcb.state = State::Closed;
+            self.tcb.sender.reset_due = self.tcb.names.pair.is_some();
         }
     }
 
     fn check_send(&self) -> Result<(), SendError>
-        ensures { result ≡ if_open (takes_writes self.now.block.state) }
+        ensures { result ≡ if_open (takes_writes self.now.tcb.state) }
     {
-        if self.block.state.takes_writes() {
+        if self.tcb.state.takes_writes() {
             Ok(())
         } else {
             Err(SendError::InvalidState)
         }
     }
 
-    /// Lends free bytes behind those that are queued, as many as lie behind one another. `f` writes to
+    /// Lends free bytes after those that are queued, as many as lie after one another. `f` writes to
     /// them and answers how many are to be queued, and a value that is passed on.
     pub fn send<R, F: FnOnce(&mut [u8]) -> (usize, R)>(&mut self, f: F) -> Result<R, SendError>
     where
@@ -199,8 +197,8 @@ impl Socket {
         requires callable { FnOnceTakesAtMut F.FnOnce f (offered self.old.queued) }
         requires within { (answer : _) (left : List ℕ) → FnOnceReturnsAtMut F.FnOnce f (offered self.old.queued) answer left
             → answer.0 ≤ contiguous (anchored self.old.queued) }
-        ensures refused { OnErr result ((takes_writes self.old.block.state ≡ false) × (self.new ≡ unoffered self.old)) }
-        ensures sent { IfOk result (λ answer. (takes_writes self.old.block.state ≡ true) × ((left : List ℕ) × ((count : ℕ)
+        ensures refused { OnErr result ((takes_writes self.old.tcb.state ≡ false) × (self.new ≡ unoffered self.old)) }
+        ensures sent { IfOk result (λ answer. (takes_writes self.old.tcb.state ≡ true) × ((left : List ℕ) × ((count : ℕ)
             × (length left ≡ contiguous (anchored self.old.queued))
             × FnOnceReturnsAtMut F.FnOnce f (offered self.old.queued) (record { 0 = count; 1 = answer }) left
             × (self.new ≡ sent_more self.old (extended (overwritten (anchored self.old.queued) 0 left) count))))) }
@@ -225,16 +223,16 @@ impl Socket {
     fn check_recv(&self) -> Result<(), RecvError>
         ensures { result ≡ or_done (recv_refusal self.now) }
     {
-        if self.block.state.takes_text() || self.can_recv() {
+        if self.tcb.state.accepts_data() || self.can_recv() {
             Ok(())
-        } else if self.block.receiver.took_fin {
+        } else if self.tcb.receiver.took_fin {
             Err(RecvError::Finished)
         } else {
             Err(RecvError::InvalidState)
         }
     }
 
-    /// Lends the bytes that wait, as many as lie behind one another. `f` answers how many of them are
+    /// Lends the bytes that wait, as many as lie after one another. `f` answers how many of them are
     /// read, and a value that is passed on.
     pub fn recv<R, F: FnOnce(&[u8]) -> (usize, R)>(&mut self, f: F) -> Result<R, RecvError>
     where
@@ -265,7 +263,7 @@ impl Socket {
         Ok(count)
     }
 
-    /// Returns the first waiting bytes, at most so many and as many as lie behind one another.
+    /// Returns the first waiting bytes, at most so many and as many as lie after one another.
     pub fn peek(&self, size: usize) -> Result<&[u8], RecvError>
         ensures refused { IfErr result (λ e. recv_refusal self.now ≡ Some e) }
         ensures bytes { IfOk result (λ bytes. (recv_refusal self.now ≡ None)
@@ -287,13 +285,13 @@ impl Socket {
 }
 
 impl fmt::Write for Socket {
-    ghost use Rattle.tcp_model.specs.Calls.{send_after};
+    ghost use Rattle.tcp_block.specs.Calls.{send_after};
     ghost use Rattle.tcp_socket.specs.Socket.{takes_all};
     ghost use Rattle.std.specs.Prelude.{length, ◌≡◌, true};
 
-    ghost write_str_gives = { λ v text v'. (takes_all v (length text) ≡ true) × (v' ≡ send_after v text) };
+    ghost write_str_gives = { λ v payload v'. (takes_all v (length payload) ≡ true) × (v' ≡ send_after v payload) };
 
-    /// Queues the text. It fails where there is no room for all of it; then a part is queued.
+    /// Queues the payload. It fails where there is no room for all of it; then a part is queued.
     fn write_str(&mut self, s: &str) -> fmt::Result
         ensures ok { IsOk result → (takes_all self.old (length s.now) ≡ true) × (self.new ≡ send_after self.old s.now) }
         ensures answer { is_ok result ≡ takes_all self.old (length s.now) }

@@ -1,38 +1,38 @@
 //! What a socket tells of itself.
 ghost use Rattle.std.specs.Prelude.{◌≡◌, ◌+◌, length, is_some};
-ghost use Rattle.tcp_model.specs.Blocks.{unacked};
-ghost use Rattle.tcp_model.specs.Probing.{probe_moment};
-ghost use Rattle.tcp_model.specs.States.{takes_writes, is_listening};
-ghost use Rattle.tcp_model.specs.Settings.{is_open, is_active, can_send, can_recv, may_recv};
-ghost use Rattle.tcp_model.specs.Value.{room_of, queued_in};
+ghost use Rattle.tcp_block.specs.TcbRules.{unacked};
+ghost use Rattle.tcp_block.specs.Probing.{probe_deadline};
+ghost use Rattle.tcp_block.specs.States.{takes_writes, is_listening};
+ghost use Rattle.tcp_block.specs.Settings.{is_open, is_active, can_send, can_recv, may_recv};
+ghost use Rattle.tcp_block.specs.Value.{room_of, queued_in};
 ghost use Rattle.tcp_socket.specs.Socket.{local_in, remote_in, is_pair, is_unacked_at, has_sent};
 
 use crate::Socket;
 use ip_wire::{IpEndpoint, IpListenEndpoint, SeqNumber};
 use net_base::{Duration, Instant};
-use socket_base::addresses::is_same_address;
-use tcp_model::{Block, CongestionControl, EndpointPair, State, before_by, past_by};
+use socket_context::addresses::is_same_address;
+use tcp_block::{CongestionControl, FourTuple, State, Tcb, distance_after, distance_before};
 
 impl Socket {
     /// The state of the connection.
     pub fn state(&self) -> State
-        ensures { result ≡ self.now.block.state }
+        ensures { result ≡ self.now.tcb.state }
     {
-        self.block.state
+        self.tcb.state
     }
 
     /// What the socket listens on, or listened on before a SYN came. Its port is 0 for nothing.
     pub fn listen_endpoint(&self) -> IpListenEndpoint
-        ensures { result ≡ self.now.block.names.listen }
+        ensures { result ≡ self.now.tcb.names.listen }
     {
-        self.block.names.listen
+        self.tcb.names.listen
     }
 
     /// The own endpoint of the connection.
     pub fn local_endpoint(&self) -> Option<IpEndpoint>
-        ensures { result ≡ local_in self.now.block.names.pair }
+        ensures { result ≡ local_in self.now.tcb.names.pair }
     {
-        match self.block.names.pair {
+        match self.tcb.names.pair {
             None => None,
             Some(pair) => Some(IpEndpoint {
                 addr: pair.addresses.local(),
@@ -43,9 +43,9 @@ impl Socket {
 
     /// The remote's endpoint of the connection.
     pub fn remote_endpoint(&self) -> Option<IpEndpoint>
-        ensures { result ≡ remote_in self.now.block.names.pair }
+        ensures { result ≡ remote_in self.now.tcb.names.pair }
     {
-        match self.block.names.pair {
+        match self.tcb.names.pair {
             None => None,
             Some(pair) => Some(IpEndpoint {
                 addr: pair.addresses.remote(),
@@ -56,47 +56,47 @@ impl Socket {
 
     /// Whether the socket listens.
     pub fn is_listening(&self) -> bool
-        ensures { result ≡ is_listening self.now.block.state }
+        ensures { result ≡ is_listening self.now.tcb.state }
     {
-        self.block.state.is_listening()
+        self.tcb.state.is_listening()
     }
 
     /// Whether the socket may take segments of a connection: in all states but CLOSED and TIME-WAIT.
     pub fn is_open(&self) -> bool
-        ensures { result ≡ is_open self.now.block.state }
+        ensures { result ≡ is_open self.now.tcb.state }
     {
-        !matches!(self.block.state, State::Closed | State::TimeWait)
+        !matches!(self.tcb.state, State::Closed | State::TimeWait)
     }
 
     /// Whether a connection exists or is being opened.
     pub fn is_active(&self) -> bool
-        ensures { result ≡ is_active self.now.block.state }
+        ensures { result ≡ is_active self.now.tcb.state }
     {
         !matches!(
-            self.block.state,
+            self.tcb.state,
             State::Closed | State::TimeWait | State::Listen
         )
     }
 
     /// Whether the user may send.
     pub fn may_send(&self) -> bool
-        ensures { result ≡ takes_writes self.now.block.state }
+        ensures { result ≡ takes_writes self.now.tcb.state }
     {
-        self.block.state.takes_writes()
+        self.tcb.state.takes_writes()
     }
 
     /// Whether bytes may still come, or wait to be read.
     pub fn may_recv(&self) -> bool
         ensures { result ≡ may_recv self.now }
     {
-        self.block.state.takes_text() || self.can_recv()
+        self.tcb.state.accepts_data() || self.can_recv()
     }
 
     /// Whether bytes can be queued.
     pub fn can_send(&self) -> bool
         ensures { result ≡ can_send self.now }
     {
-        self.block.state.takes_writes() && self.queued.window() != 0
+        self.tcb.state.takes_writes() && self.queued.window() != 0
     }
 
     /// Whether bytes wait to be read.
@@ -116,24 +116,24 @@ impl Socket {
     /// How many positions aren't acknowledged, sent or not: the own SYN, the queued bytes, and the FIN once
     /// the user has closed.
     pub fn unacked(&self) -> usize
-        ensures { result ≡ unacked self.now.block (queued_in self.now) }
+        ensures { result ≡ unacked self.now.tcb (queued_in self.now) }
     {
-        self.block.unacked(self.queued.len())
+        self.tcb.unacked(self.queued.len())
     }
 
-    /// The moment at which the retransmission timer runs out, if it runs.
+    /// The instant at which the retransmission timer runs out, if it runs.
     pub fn retransmit_at(&self) -> Option<Instant>
-        ensures { result ≡ self.now.block.timers.retransmit_at }
+        ensures { result ≡ self.now.tcb.timers.retransmit_at }
     {
-        self.block.timers.retransmit_at
+        self.tcb.timers.retransmit_at
     }
 
-    /// The moment at which what is queued goes though a closed or small window holds it back, if one does and
-    /// that moment is set.
+    /// The instant at which what is queued goes though a closed or small window holds it back, if one does and
+    /// that instant is set.
     pub fn probe_at(&self) -> Option<Instant>
-        ensures { result ≡ probe_moment self.now.block (queued_in self.now) }
+        ensures { result ≡ probe_deadline self.now.tcb (queued_in self.now) }
     {
-        self.block.probe_moment(self.queued.len())
+        self.tcb.probe_deadline(self.queued.len())
     }
 
     /// How many bytes wait to be read.
@@ -159,77 +159,77 @@ impl Socket {
 
     /// The user timeout.
     pub fn timeout(&self) -> Option<Duration>
-        ensures { result ≡ self.now.block.settings.timeout }
+        ensures { result ≡ self.now.tcb.settings.timeout }
     {
-        self.block.settings.timeout
+        self.tcb.settings.timeout
     }
 
     /// The delay of an acknowledgement.
     pub fn ack_delay(&self) -> Option<Duration>
-        ensures { result ≡ self.now.block.settings.ack_delay }
+        ensures { result ≡ self.now.tcb.settings.ack_delay }
     {
-        self.block.settings.ack_delay
+        self.tcb.settings.ack_delay
     }
 
     /// The least retransmission timeout, as it counts.
     pub fn min_rto(&self) -> Duration
-        ensures { result ≡ self.now.block.round_trip.least }
+        ensures { result ≡ self.now.tcb.round_trip.least }
     {
-        self.block.round_trip.least()
+        self.tcb.round_trip.least()
     }
 
     /// Whether round trips are taken in microseconds.
     pub fn fine_timer(&self) -> bool
-        ensures { result ≡ self.now.block.settings.fine_timer }
+        ensures { result ≡ self.now.tcb.settings.fine_timer }
     {
-        self.block.settings.fine_timer
+        self.tcb.settings.fine_timer
     }
 
     /// Whether small segments wait while others are in flight.
     pub fn nagle_enabled(&self) -> bool
-        ensures { result ≡ self.now.block.settings.nagle }
+        ensures { result ≡ self.now.tcb.settings.nagle }
     {
-        self.block.settings.nagle
+        self.tcb.settings.nagle
     }
 
     /// The interval of keep-alives.
     pub fn keep_alive(&self) -> Option<Duration>
-        ensures { result ≡ self.now.block.settings.keep_alive }
+        ensures { result ≡ self.now.tcb.settings.keep_alive }
     {
-        self.block.settings.keep_alive
+        self.tcb.settings.keep_alive
     }
 
     /// The hop limit that was set. Without one it is 64.
     pub fn hop_limit(&self) -> Option<u8>
-        ensures { result ≡ self.now.block.settings.hop_limit }
+        ensures { result ≡ self.now.tcb.settings.hop_limit }
     {
-        self.block.settings.hop_limit
+        self.tcb.settings.hop_limit
     }
 
     /// How what is sent is held back where congestion may be.
     pub fn congestion_control(&self) -> CongestionControl
-        ensures { result ≡ self.now.block.settings.congestion_control }
+        ensures { result ≡ self.now.tcb.settings.congestion_control }
     {
-        self.block.settings.congestion_control
+        self.tcb.settings.congestion_control
     }
 
     /// Whether there is a generator of timestamps.
     pub fn timestamp_enabled(&self) -> bool
-        ensures { result ≡ is_some self.now.block.settings.timestamps }
+        ensures { result ≡ is_some self.now.tcb.settings.timestamps }
     {
-        self.block.settings.timestamps.is_some()
+        self.tcb.settings.timestamps.is_some()
     }
 
     /// Whether a segment that begins at this number was sent between these endpoints, and isn't acknowledged.
     pub fn has_sent(&self, local: &IpEndpoint, remote: &IpEndpoint, number: SeqNumber) -> bool
-        ensures { result ≡ has_sent self.now.block local.now remote.now number }
+        ensures { result ≡ has_sent self.now.tcb local.now remote.now number }
     {
-        is_pair(&self.block.names.pair, local, remote) && is_unacked_at(&self.block, number)
+        is_pair(&self.tcb.names.pair, local, remote) && is_unacked_at(&self.tcb, number)
     }
 }
 
 /// Whether a connection is between these endpoints.
-fn is_pair(pair: &Option<EndpointPair>, local: &IpEndpoint, remote: &IpEndpoint) -> bool
+fn is_pair(pair: &Option<FourTuple>, local: &IpEndpoint, remote: &IpEndpoint) -> bool
     ensures { result ≡ is_pair pair.now local.now remote.now }
 {
     match pair {
@@ -244,8 +244,9 @@ fn is_pair(pair: &Option<EndpointPair>, local: &IpEndpoint, remote: &IpEndpoint)
 }
 
 /// Whether a segment that begins at this number was sent and isn't acknowledged.
-fn is_unacked_at(block: &Block, number: SeqNumber) -> bool
-    ensures { result ≡ is_unacked_at block.now number }
+fn is_unacked_at(tcb: &Tcb, number: SeqNumber) -> bool
+    ensures { result ≡ is_unacked_at tcb.now number }
 {
-    before_by(block.sender.una, number) == 0 && past_by(block.sender.una, number) < block.sender.top
+    distance_before(tcb.sender.una, number) == 0
+        && distance_after(tcb.sender.una, number) < tcb.sender.snd_max
 }

@@ -1,22 +1,22 @@
 //! A TCP socket (RFC 9293).
 #![tactic(auto)]
 
-mod arrival;
 mod calls;
+mod fast_path;
 mod getters;
 mod offer;
-mod one_pass;
+mod on_segment;
+mod payload;
 mod receive_buffer;
 mod settings;
 mod socket;
-mod text;
 
-pub use arrival::Due;
+pub use fast_path::NotInFastPath;
 pub use offer::OfferedSegment;
-pub use one_pass::NotInOnePass;
+pub use on_segment::Due;
 pub use receive_buffer::ReceiveBuffer;
 pub use socket::{Socket, SocketBuffer};
-pub use socket_base::SegmentText;
-pub use tcp_model::{
+pub use socket_context::SegmentPayload;
+pub use tcp_block::{
     CongestionControl, ConnectError, ListenError, RecvError, Reno, Reply, SendError, State,
 };

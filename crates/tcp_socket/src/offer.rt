@@ -1,33 +1,33 @@
 //! What a socket offers when it is asked for a segment.
 ghost use Rattle.std.specs.Prelude.{◌≡◌, ◌<◌, ◌^◌, true, false, None, is_some, IfSome, if◌then◌else◌, take, drop};
-ghost use Rattle.socket_base.specs.Context.{ContextValue};
-ghost use Rattle.tcp_model.specs.Choices.{choice_of};
-ghost use Rattle.tcp_model.specs.Due.{poll_open, poll_between, poll_of};
-ghost use Rattle.tcp_model.specs.Offers.{offer_segment, silent, offer_choice, offer_ack, offer_syn, offer_reset, offer_keep_alive, offer_held_back, last_rules};
-ghost use Rattle.tcp_model.specs.Offers.{first_rules, offer_between, offer_of, payload_of, offered_packet};
-ghost use Rattle.tcp_model.specs.Moments.{is_due};
-ghost use Rattle.tcp_model.specs.Probing.{probe_moment};
-ghost use Rattle.tcp_model.specs.Retries.{given_up};
-ghost use Rattle.tcp_model.specs.Rules.{text_choice, has_text, resend_choice, updates_window};
-ghost use Rattle.tcp_model.specs.Settled.{settled};
-ghost use Rattle.tcp_model.specs.Value.{unoffered, queued_in, free_in, room_of};
+ghost use Rattle.socket_context.specs.Context.{ContextValue};
+ghost use Rattle.tcp_block.specs.Choices.{choice_of};
+ghost use Rattle.tcp_block.specs.Due.{poll_open, poll_between, poll_of};
+ghost use Rattle.tcp_block.specs.Offers.{offer_segment, silent, offer_choice, offer_ack, offer_syn, offer_reset, offer_keep_alive, offer_window_limited, last_rules};
+ghost use Rattle.tcp_block.specs.Offers.{first_rules, offer_between, offer_of, payload_of, offered_packet};
+ghost use Rattle.tcp_block.specs.Moments.{is_due};
+ghost use Rattle.tcp_block.specs.Probing.{probe_deadline};
+ghost use Rattle.tcp_block.specs.Retries.{given_up};
+ghost use Rattle.tcp_block.specs.Rules.{payload_choice, has_payload, resend_choice, updates_window};
+ghost use Rattle.tcp_block.specs.Settled.{settled};
+ghost use Rattle.tcp_block.specs.Value.{unoffered, queued_in, free_in, room_of};
 ghost use Rattle.tcp_socket.specs.Dispatch.{TakesOffered, Hands};
 ghost use Rattle.tcp_socket.specs.Offered.{lent_value};
 ghost use Rattle.tcp_socket.specs.Opening.{open_offer, MayOpen, IsPartOf};
-ghost use Rattle.socket_base.specs.Packet.{option_value, IsSendable};
-ghost use Rattle.socket_base.specs.Text.{text_bytes};
+ghost use Rattle.socket_context.specs.Packet.{option_value, IsSendable};
+ghost use Rattle.socket_context.specs.SegmentPayload.{payload_bytes};
 
 use crate::Socket;
 use ip_wire::{IpRepr, TcpHeader};
-use socket_base::{Context, IpPayload, Offer, Packet, PollAt, SegmentText};
-use tcp_model::{AddressPair, EndpointPair, OfferKind, OpenOffer, PROBE, Part, is_due};
+use socket_context::{Context, IpPayload, Offer, Packet, PollAt, SegmentPayload};
+use tcp_block::{AddressPair, FourTuple, OfferKind, OpenOffer, PROBE, Part, is_due};
 
 /// The packet of an open offer, whose headers are lent from where they lie in the socket.
 #[derive(Clone, Copy, Debug)]
 pub struct OfferedSegment<'a> {
     pub header: &'a IpRepr,
     pub segment: &'a TcpHeader,
-    pub text: SegmentText<'a>,
+    pub payload: SegmentPayload<'a>,
 }
 
 impl Socket {
@@ -45,35 +45,35 @@ impl Socket {
         ensures socket { self.new ≡ (offer_of (C.context cx.now) self.old).socket }
     {
         self.unoffer();
-        match self.block.names.pair {
+        match self.tcb.names.pair {
             None => Offer::Silent { changed: false },
             Some(pair) => self.offer_between(cx, &pair),
         }
     }
 
-    fn offer_between<C: Context>(&mut self, cx: &C, pair: &EndpointPair) -> Offer
+    fn offer_between<C: Context>(&mut self, cx: &C, pair: &FourTuple) -> Offer
         requires unoffered { self.old.offered ≡ None }
         ensures answer { result ≡ (offer_between (C.context cx.now) self.old pair.now).answer }
         ensures socket { self.new ≡ (offer_between (C.context cx.now) self.old pair.now).socket }
     {
         let (now, queued) = (cx.now(), self.queued.len());
-        if is_due(now, self.block.time_wait_end()) {
-            self.block.forget();
+        if is_due(now, self.tcb.time_wait_end()) {
+            self.tcb.forget();
             return Offer::Silent { changed: true };
         }
-        if is_due(now, self.block.timeout_end(queued)) {
-            self.block.time_out();
+        if is_due(now, self.tcb.timeout_end(queued)) {
+            self.tcb.time_out();
             return Offer::Silent { changed: true };
         }
-        if self.block.state.is_closed() {
+        if self.tcb.state.is_closed() {
             return self.offer_reset(cx, pair);
         }
-        if self.block.gives_up(now, queued) {
+        if self.tcb.gives_up(now, queued) {
             self.give_up();
             return Offer::Silent { changed: true };
         }
-        self.block.start_timeout(now, queued);
-        self.block.back_off(now);
+        self.tcb.start_timeout(now, queued);
+        self.tcb.back_off(now);
         self.offer_first(cx, pair)
     }
 
@@ -83,63 +83,63 @@ impl Socket {
         requires unoffered { self.old.offered ≡ None }
         ensures { self.new ≡ given_up self.old }
     {
-        if self.block.falls_back() {
-            self.listen_on(self.block.names.listen);
+        if self.tcb.falls_back() {
+            self.listen_on(self.tcb.names.listen);
         } else {
-            self.block.time_out();
+            self.tcb.time_out();
         }
     }
 
-    fn offer_reset<C: Context>(&mut self, cx: &C, pair: &EndpointPair) -> Offer
-        ensures answer { result ≡ (if self.old.block.sender.reset_due then offer_reset (C.context cx.now) self.old pair.now else silent false self.old).answer }
+    fn offer_reset<C: Context>(&mut self, cx: &C, pair: &FourTuple) -> Offer
+        ensures answer { result ≡ (if self.old.tcb.sender.reset_due then offer_reset (C.context cx.now) self.old pair.now else silent false self.old).answer }
         ensures socket { self.new ≡
-            (if self.old.block.sender.reset_due then offer_reset (C.context cx.now) self.old pair.now else silent false self.old).socket }
+            (if self.old.tcb.sender.reset_due then offer_reset (C.context cx.now) self.old pair.now else silent false self.old).socket }
     {
-        if !self.block.sender.reset_due {
+        if !self.tcb.sender.reset_due {
             return Offer::Silent { changed: false };
         }
         let window = self.window();
-        let header = self.block.reset_segment(pair, cx.now(), window);
+        let header = self.tcb.reset_segment(pair, cx.now(), window);
         self.offer_segment(OfferKind::Reset, cx, pair, &header, 0, 0)
     }
 
-    /// The SYN, the segment at SND.UNA after the third duplicate, text from SND.NXT on.
-    fn offer_first<C: Context>(&mut self, cx: &C, pair: &EndpointPair) -> Offer
+    /// The SYN, the segment at SND.UNA after the third duplicate, payload from SND.NXT on.
+    fn offer_first<C: Context>(&mut self, cx: &C, pair: &FourTuple) -> Offer
         requires unoffered { self.old.offered ≡ None }
         ensures answer { result ≡ (first_rules (C.context cx.now) self.old pair.now).answer }
         ensures socket { self.new ≡ (first_rules (C.context cx.now) self.old pair.now).socket }
     {
-        if self.block.owes_syn() {
+        if self.tcb.owes_syn() {
             return self.offer_syn(cx, pair);
         }
-        if self.block.resends_first() {
+        if self.tcb.resends_first() {
             let part = self.resend_part(&pair.addresses, cx.ip_mtu());
             return self.offer_part(OfferKind::FastRetransmission, cx, pair, &part);
         }
-        if let Some(part) = self.text_part(&pair.addresses, cx.ip_mtu()) {
-            return self.offer_part(OfferKind::Text, cx, pair, &part);
+        if let Some(part) = self.payload_part(&pair.addresses, cx.ip_mtu()) {
+            return self.offer_part(OfferKind::Payload, cx, pair, &part);
         }
-        if self.block.resends_last() {
+        if self.tcb.resends_last() {
             let part = self.resend_part(&pair.addresses, cx.ip_mtu());
             return self.offer_part(OfferKind::FastRetransmission, cx, pair, &part);
         }
-        self.block.start_probe(cx.now(), self.queued.len());
+        self.tcb.start_probe(cx.now(), self.queued.len());
         self.offer_last(cx, pair)
     }
 
     /// A probe, a due acknowledgement, a window update, a keep-alive.
-    fn offer_last<C: Context>(&mut self, cx: &C, pair: &EndpointPair) -> Offer
+    fn offer_last<C: Context>(&mut self, cx: &C, pair: &FourTuple) -> Offer
         ensures answer { result ≡ (last_rules (C.context cx.now) self.old pair.now).answer }
         ensures socket { self.new ≡ (last_rules (C.context cx.now) self.old pair.now).socket }
     {
         let now = cx.now();
-        if is_due(now, self.block.probe_moment(self.queued.len())) {
-            self.offer_held_back(cx, pair)
-        } else if is_due(now, self.block.ack_moment()) {
+        if is_due(now, self.tcb.probe_deadline(self.queued.len())) {
+            self.offer_window_limited(cx, pair)
+        } else if is_due(now, self.tcb.ack_deadline()) {
             self.offer_ack(OfferKind::Ack, cx, pair)
         } else if self.updates_window() {
             self.offer_ack(OfferKind::WindowUpdate, cx, pair)
-        } else if is_due(now, self.block.keep_alive_moment()) {
+        } else if is_due(now, self.tcb.keep_alive_deadline()) {
             self.offer_keep_alive(cx, pair)
         } else {
             Offer::Silent { changed: false }
@@ -148,53 +148,53 @@ impl Socket {
 
     /// What the remote's window held back: the byte at SND.UNA where it is closed, else as much as it
     /// takes.
-    fn offer_held_back<C: Context>(&mut self, cx: &C, pair: &EndpointPair) -> Offer
-        requires due { is_due (C.context cx.now).moment (probe_moment self.old.block (queued_in self.old)) ≡ true }
-        ensures answer { result ≡ (offer_held_back (C.context cx.now) self.old pair.now).answer }
-        ensures socket { self.new ≡ (offer_held_back (C.context cx.now) self.old pair.now).socket }
+    fn offer_window_limited<C: Context>(&mut self, cx: &C, pair: &FourTuple) -> Offer
+        requires due { is_due (C.context cx.now).instant (probe_deadline self.old.tcb (queued_in self.old)) ≡ true }
+        ensures answer { result ≡ (offer_window_limited (C.context cx.now) self.old pair.now).answer }
+        ensures socket { self.new ≡ (offer_window_limited (C.context cx.now) self.old pair.now).socket }
     {
-        if self.block.peer.window == 0 {
+        if self.tcb.peer.window == 0 {
             self.offer_part(OfferKind::Probe, cx, pair, &PROBE)
         } else {
             let part = self.ready_part(&pair.addresses, cx.ip_mtu());
-            self.offer_part(OfferKind::Text, cx, pair, &part)
+            self.offer_part(OfferKind::Payload, cx, pair, &part)
         }
     }
 
     /// Whether so much space came free that it is worth a segment of its own.
     fn updates_window(&self) -> bool
-        ensures { result ≡ updates_window self.now.block (room_of self.now.received) (free_in self.now) }
+        ensures { result ≡ updates_window self.now.tcb (room_of self.now.received) (free_in self.now) }
     {
-        self.block
+        self.tcb
             .updates_window(self.received.capacity(), self.received.window())
     }
 
-    fn offer_syn<C: Context>(&mut self, cx: &C, pair: &EndpointPair) -> Offer
+    fn offer_syn<C: Context>(&mut self, cx: &C, pair: &FourTuple) -> Offer
         ensures answer { result ≡ (offer_syn (C.context cx.now) self.old pair.now).answer }
         ensures socket { self.new ≡ (offer_syn (C.context cx.now) self.old pair.now).socket }
     {
         let (capacity, free) = (self.received.capacity(), self.received.window());
         let header = self
-            .block
+            .tcb
             .syn_segment(pair, cx.now(), cx.ip_mtu(), capacity, free);
         self.offer_segment(OfferKind::Syn, cx, pair, &header, 0, 0)
     }
 
-    fn offer_ack<C: Context>(&mut self, kind: OfferKind, cx: &C, pair: &EndpointPair) -> Offer
+    fn offer_ack<C: Context>(&mut self, kind: OfferKind, cx: &C, pair: &FourTuple) -> Offer
         ensures answer { result ≡ (offer_ack kind (C.context cx.now) self.old pair.now).answer }
         ensures socket { self.new ≡ (offer_ack kind (C.context cx.now) self.old pair.now).socket }
     {
         let window = self.window();
-        let header = self.block.ack_segment(pair, cx.now(), window);
+        let header = self.tcb.ack_segment(pair, cx.now(), window);
         self.offer_segment(kind, cx, pair, &header, 0, 0)
     }
 
-    fn offer_keep_alive<C: Context>(&mut self, cx: &C, pair: &EndpointPair) -> Offer
+    fn offer_keep_alive<C: Context>(&mut self, cx: &C, pair: &FourTuple) -> Offer
         ensures answer { result ≡ (offer_keep_alive (C.context cx.now) self.old pair.now).answer }
         ensures socket { self.new ≡ (offer_keep_alive (C.context cx.now) self.old pair.now).socket }
     {
         let window = self.window();
-        let header = self.block.keep_alive_segment(pair, cx.now(), window);
+        let header = self.tcb.keep_alive_segment(pair, cx.now(), window);
         self.offer_segment(OfferKind::KeepAlive, cx, pair, &header, 0, 1)
     }
 
@@ -203,7 +203,7 @@ impl Socket {
         &mut self,
         kind: OfferKind,
         cx: &C,
-        pair: &EndpointPair,
+        pair: &FourTuple,
         part: &Part,
     ) -> Offer
         requires part { IsPartOf self.old (choice_of part.now) }
@@ -211,10 +211,10 @@ impl Socket {
         ensures socket { self.new ≡ (offer_choice kind (C.context cx.now) self.old pair.now (choice_of part.now)).socket }
     {
         let control = part.control(self.queued.len());
-        let number = self.block.number_at(part.place);
+        let number = self.tcb.number_at(part.offset);
         let window = self.window();
-        let header = self.block.segment(pair, cx.now(), window, control, number);
-        self.offer_segment(kind, cx, pair, &header, part.place, part.len)
+        let header = self.tcb.segment(pair, cx.now(), window, control, number);
+        self.offer_segment(kind, cx, pair, &header, part.offset, part.len)
     }
 
     /// Offers this segment, whose payload is this part of the send queue. Inlined, it makes the header
@@ -224,25 +224,25 @@ impl Socket {
         &mut self,
         kind: OfferKind,
         cx: &C,
-        pair: &EndpointPair,
+        pair: &FourTuple,
         segment: &TcpHeader,
-        place: usize,
+        offset: usize,
         len: usize,
     ) -> Offer
-        requires open { MayOpen self.old (open_offer kind (C.context cx.now) self.old pair.now segment.now place len) }
+        requires open { MayOpen self.old (open_offer kind (C.context cx.now) self.old pair.now segment.now offset len) }
         requires small { len < 2 ^ 32 }
-        ensures answer { result ≡ (offer_segment kind (C.context cx.now) self.old pair.now segment.now place len).answer }
-        ensures socket { self.new ≡ (offer_segment kind (C.context cx.now) self.old pair.now segment.now place len).socket }
+        ensures answer { result ≡ (offer_segment kind (C.context cx.now) self.old pair.now segment.now offset len).answer }
+        ensures socket { self.new ≡ (offer_segment kind (C.context cx.now) self.old pair.now segment.now offset len).socket }
     {
         let header = pair
             .addresses
-            .header_for(self.block.hops(), segment.header_len() + len);
+            .header_for(self.tcb.hop_limit(), segment.header_len() + len);
         self.offered = Some(OpenOffer {
             kind,
-            moment: cx.now(),
+            instant: cx.now(),
             header,
             segment: *segment,
-            place,
+            offset,
             len,
         });
         Offer::Packet { changed: false }
@@ -250,54 +250,54 @@ impl Socket {
 
     /// What may go from SND.NXT on.
     fn ready_part(&self, addresses: &AddressPair, ip_mtu: usize) -> Part
-        ensures { choice_of result ≡ text_choice self.now.block addresses.now ip_mtu self.now.queued }
+        ensures { choice_of result ≡ payload_choice self.now.tcb addresses.now ip_mtu self.now.queued }
     {
-        self.block.text_part(addresses, ip_mtu, self.queued.len())
+        self.tcb.payload_part(addresses, ip_mtu, self.queued.len())
     }
 
     /// What may go from SND.NXT on, if it is worth it.
-    fn text_part(&self, addresses: &AddressPair, ip_mtu: usize) -> Option<Part>
-        ensures has { is_some result ≡ has_text self.now.block addresses.now ip_mtu self.now.queued }
-        ensures value { IfSome result (λ part. choice_of part ≡ text_choice self.now.block addresses.now ip_mtu self.now.queued) }
+    fn payload_part(&self, addresses: &AddressPair, ip_mtu: usize) -> Option<Part>
+        ensures has { is_some result ≡ has_payload self.now.tcb addresses.now ip_mtu self.now.queued }
+        ensures value { IfSome result (λ part. choice_of part ≡ payload_choice self.now.tcb addresses.now ip_mtu self.now.queued) }
         ensures part { IfSome result (λ part. IsPartOf self.now (choice_of part)) }
     {
         let part = self.ready_part(addresses, ip_mtu);
-        let limit = self.block.size_limit(addresses, ip_mtu);
-        if self.block.sends_part(self.queued.len(), limit, &part) {
+        let limit = self.tcb.size_limit(addresses, ip_mtu);
+        if self.tcb.sends_part(self.queued.len(), limit, &part) {
             Some(part)
         } else {
             None
         }
     }
 
-    /// What is to go again.
+    /// What is to are retransmitted.
     fn resend_part(&self, addresses: &AddressPair, ip_mtu: usize) -> Part
         ensures part { IsPartOf self.now (choice_of result) }
-        ensures value { choice_of result ≡ resend_choice self.now.block addresses.now ip_mtu self.now.queued }
+        ensures value { choice_of result ≡ resend_choice self.now.tcb addresses.now ip_mtu self.now.queued }
     {
         let queued = self.queued.len();
-        let place = self.block.resend_place(addresses, ip_mtu, queued);
-        self.block.sent_part(addresses, ip_mtu, place, queued)
+        let offset = self.tcb.resend_offset(addresses, ip_mtu, queued);
+        self.tcb.sent_part(addresses, ip_mtu, offset, queued)
     }
 
     /// A part of the send queue, in one piece or round the end of its storage.
-    fn queued_text(&self, place: usize, len: usize) -> SegmentText<'_>
-        ensures { text_bytes result ≡ take len (drop place self.now.queued.queue) }
+    fn queued_payload(&self, offset: usize, len: usize) -> SegmentPayload<'_>
+        ensures { payload_bytes result ≡ take len (drop offset self.now.queued.queue) }
     {
-        let first = self.queued.get_allocated(place, len);
+        let first = self.queued.get_allocated(offset, len);
         let rest = self
             .queued
-            .get_allocated(place + first.len(), len - first.len());
-        SegmentText { first, rest }
+            .get_allocated(offset + first.len(), len - first.len());
+        SegmentPayload { first, rest }
     }
 
-    /// The text of an open offer.
-    fn text_of(&self, offer: &OpenOffer) -> SegmentText<'_>
-        ensures { text_bytes result ≡ payload_of offer.now offer.now.kind self.now.queued.queue }
+    /// The payload of an open offer.
+    fn data_of(&self, offer: &OpenOffer) -> SegmentPayload<'_>
+        ensures { payload_bytes result ≡ payload_of offer.now offer.now.kind self.now.queued.queue }
     {
         match offer.kind {
-            OfferKind::KeepAlive => SegmentText::whole(&[0]),
-            _ => self.queued_text(offer.place, offer.len),
+            OfferKind::KeepAlive => SegmentPayload::whole(&[0]),
+            _ => self.queued_payload(offer.offset, offer.len),
         }
     }
 
@@ -310,7 +310,7 @@ impl Socket {
             Some(offer) => Some(OfferedSegment {
                 header: &offer.header,
                 segment: &offer.segment,
-                text: self.text_of(offer),
+                payload: self.data_of(offer),
             }),
         }
     }
@@ -322,7 +322,7 @@ impl Socket {
         match self.offered_segment() {
             None => None,
             Some(lent) => {
-                let payload = IpPayload::Tcp(*lent.segment, lent.text);
+                let payload = IpPayload::Tcp(*lent.segment, lent.payload);
                 Some(Packet::new(*lent.header, payload))
             }
         }
@@ -346,7 +346,7 @@ impl Socket {
     {
         if let Some(offer) = &self.offered {
             let capacity = self.received.capacity();
-            self.block.sent(offer, self.queued.len(), capacity);
+            self.tcb.sent(offer, self.queued.len(), capacity);
             self.offered = None;
         }
     }
@@ -385,18 +385,18 @@ impl Socket {
     pub fn poll_at<C: Context>(&self, cx: &C) -> PollAt
         ensures { result ≡ poll_of (C.context cx.now).ip_mtu self.now }
     {
-        match &self.block.names.pair {
+        match &self.tcb.names.pair {
             None => PollAt::Ingress,
             Some(pair) => self.poll_between(pair, cx.ip_mtu()),
         }
     }
 
-    fn poll_between(&self, pair: &EndpointPair, ip_mtu: usize) -> PollAt
+    fn poll_between(&self, pair: &FourTuple, ip_mtu: usize) -> PollAt
         ensures { result ≡ poll_between ip_mtu self.now pair.now }
     {
-        if !self.block.state.is_closed() {
+        if !self.tcb.state.is_closed() {
             self.poll_open(pair, ip_mtu)
-        } else if self.block.sender.reset_due {
+        } else if self.tcb.sender.reset_due {
             PollAt::Now
         } else {
             PollAt::Ingress
@@ -404,18 +404,18 @@ impl Socket {
     }
 
     /// When a socket that isn't closed wants to be polled.
-    fn poll_open(&self, pair: &EndpointPair, ip_mtu: usize) -> PollAt
+    fn poll_open(&self, pair: &FourTuple, ip_mtu: usize) -> PollAt
         ensures { result ≡ poll_open ip_mtu self.now pair.now }
     {
         let queued = self.queued.len();
-        let has_text = self.text_part(&pair.addresses, ip_mtu).is_some();
+        let has_payload = self.payload_part(&pair.addresses, ip_mtu).is_some();
         let (capacity, free) = (self.received.capacity(), self.received.window());
-        if self.block.has_wish(has_text, queued, capacity, free) {
+        if self.tcb.has_wish(has_payload, queued, capacity, free) {
             return PollAt::Now;
         }
-        match self.block.earliest_moment(queued) {
+        match self.tcb.earliest_deadline(queued) {
             None => PollAt::Ingress,
-            Some(moment) => PollAt::Time(moment),
+            Some(instant) => PollAt::Time(instant),
         }
     }
 }

@@ -2,11 +2,11 @@
 ghost use Rattle.std.specs.Prelude.{◌≡◌, ℕ, ◌==◌, ◌↔◌, ◌+◌, ◌≤◌, ◌<◌, ◌^◌, ◌++◌, not, IsTrue, is_ok, is_some, IfSome, OnSome, None, length, take, drop, min, []};
 ghost use Rattle.std.specs.Fn.{FnOnceTakesAt, FnOnceReturnsAt};
 ghost use Rattle.tcp_socket.specs.Receive.{most_bytes, FitsBuffer, in_order, can_hold, early, unbroken, lent};
-ghost use Rattle.tcp_model.specs.Value.{received_of, room_of, emptied};
-ghost use Rattle.tcp_model.specs.Calls.{read_from};
-ghost use Rattle.tcp_model.specs.Answers.{run_at, others, first_two};
-ghost use Rattle.held_bytes.specs.ReceiveMap.{space, store, front};
-ghost use Rattle.held_bytes.specs.Held.{runs_of};
+ghost use Rattle.tcp_block.specs.Value.{received_of, room_of, emptied};
+ghost use Rattle.tcp_block.specs.Calls.{read_from};
+ghost use Rattle.tcp_block.specs.Answers.{run_at, others, first_two};
+ghost use Rattle.tcp_ranges.specs.ReceiveMap.{space, store, front};
+ghost use Rattle.tcp_ranges.specs.OutOfOrder.{runs_of};
 ghost use Rattle.ip_wire.specs.Sum.{word_sum, folded};
 ghost use Rattle.net_base.specs.Ring.{overwritten, unbroken_free};
 
@@ -18,7 +18,7 @@ use std::marker::Model;
 const MOST_BYTES: usize = 1 << 30;
 
 /// What came to a socket. Bytes that came in order wait in the ring. Those that came out of order
-/// lie in its free places, and the assembler keeps which.
+/// lie in its free offsets, and the assembler keeps which.
 #[derive(Debug, Drop)]
 pub struct ReceiveBuffer {
     ring: RingBuffer<u8>,
@@ -27,7 +27,7 @@ pub struct ReceiveBuffer {
 
 impl Model for ReceiveBuffer {
     ghost use Rattle.tcp_socket.specs.Receive.{received, IsHeldBy};
-    ghost use Rattle.tcp_model.specs.Value.{Received};
+    ghost use Rattle.tcp_block.specs.Value.{Received};
 
     ghost Value = { Received };
 
@@ -79,7 +79,7 @@ impl ReceiveBuffer {
         self.ring.len()
     }
 
-    /// How many bytes there is room for behind those that wait.
+    /// How many bytes there is room for after those that wait.
     pub fn window(&self) -> usize
         ensures value { result ≡ length self.now.map }
         ensures small { result ≤ most_bytes }
@@ -110,7 +110,7 @@ impl ReceiveBuffer {
         self.ring.dequeue_allocated(count);
     }
 
-    /// Lends the waiting bytes, as many as lie behind one another, and gives up as many as `f` answers. The
+    /// Lends the waiting bytes, as many as lie after one another, and gives up as many as `f` answers. The
     /// other value of its answer is passed on.
     pub(crate) fn read_with<R, F: FnOnce(&[u8]) -> (usize, R)>(&mut self, f: F) -> R
         requires callable { FnOnceTakesAt F.FnOnce f (lent self.old) }
@@ -169,24 +169,24 @@ impl ReceiveBuffer {
     }
 
     /// Whether bytes are held out of order.
-    pub fn is_holding(&self) -> bool
+    pub fn has_out_of_order(&self) -> bool
         ensures { result ≡ not (length (runs_of self.now.map) == 0) }
     {
         !self.held.is_empty()
     }
 
-    /// The run of held bytes with this place, from its first place to the one behind its last.
-    pub fn run_at(&self, place: usize) -> Option<(usize, usize)>
-        ensures { result ≡ run_at (runs_of self.now.map) place }
+    /// The run of held bytes with this offset, from its first offset to the one after its last.
+    pub fn run_at(&self, offset: usize) -> Option<(usize, usize)>
+        ensures { result ≡ run_at (runs_of self.now.map) offset }
     {
-        run_at(&self.held, place)
+        run_at(&self.held, offset)
     }
 
-    /// Of the runs without this place the two highest, the highest first.
-    pub fn others_than(&self, place: usize) -> [Option<(usize, usize)>; 2]
-        ensures { result ≡ first_two (others place (runs_of self.now.map)) }
+    /// Of the runs without this offset the two highest, the highest first.
+    pub fn others_than(&self, offset: usize) -> [Option<(usize, usize)>; 2]
+        ensures { result ≡ first_two (others offset (runs_of self.now.map)) }
     {
-        others_than(&self.held, place)
+        others_than(&self.held, offset)
     }
 }
 
@@ -207,7 +207,7 @@ fn copy_summed(ring: &mut RingBuffer<u8>, bytes: &[u8]) -> u16
     checksum::join(front, first, back)
 }
 
-/// The same of bytes from an offset on, whose places lie behind one another.
+/// The same of bytes from an offset on, whose offsets lie after one another.
 #[inline(always)]
 fn copy_unbroken(ring: &mut RingBuffer<u8>, offset: usize, bytes: &[u8]) -> u16
     requires unbroken { unbroken_free ring.old offset (length bytes.now) ≡ length bytes.now }
@@ -218,26 +218,26 @@ fn copy_unbroken(ring: &mut RingBuffer<u8>, offset: usize, bytes: &[u8]) -> u16
     checksum::copy(ring.get_unallocated(offset, bytes.len()), bytes)
 }
 
-/// The run with this place.
-fn run_at(held: &Assembler<32>, place: usize) -> Option<(usize, usize)>
-    ensures { result ≡ run_at held.now place }
+/// The run with this offset.
+fn run_at(held: &Assembler<32>, offset: usize) -> Option<(usize, usize)>
+    ensures { result ≡ run_at held.now offset }
 {
     for (start, end) in held.iter_data() {
-        if start <= place && place < end {
+        if start <= offset && offset < end {
             return Some((start, end));
         }
     }
     None
 }
 
-/// The two highest runs without this place, the highest first.
+/// The two highest runs without this offset, the highest first.
 #[tactic(auto, using(crate::proofs::Others::told_is))]
-fn others_than(held: &Assembler<32>, place: usize) -> [Option<(usize, usize)>; 2]
-    ensures { result ≡ first_two (others place held.now) }
+fn others_than(held: &Assembler<32>, offset: usize) -> [Option<(usize, usize)>; 2]
+    ensures { result ≡ first_two (others offset held.now) }
 {
     let (mut highest, mut second) = (None, None);
     for (start, end) in held.iter_data() {
-        let is_met = start <= place && place < end;
+        let is_met = start <= offset && offset < end;
         if !is_met {
             second = highest;
             highest = Some((start, end));

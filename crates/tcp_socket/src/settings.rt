@@ -1,13 +1,13 @@
 //! What a user may set. Each setting first settles an open offer as not sent.
 ghost use Rattle.std.specs.Prelude.{◌≡◌, ◌≢◌, Some};
-ghost use Rattle.tcp_model.specs.Settings.{with_timeout_kept, set_timeout, set_keep_alive, set_ack_delay, set_nagle_enabled, set_hop_limit};
-ghost use Rattle.tcp_model.specs.Settings.{set_tsval_generator, pause_synack, set_retries, set_min_rto, set_fine_timer, set_congestion_control};
-ghost use Rattle.tcp_model.specs.Value.{unoffered};
+ghost use Rattle.tcp_block.specs.Settings.{with_timeout_kept, set_timeout, set_keep_alive, set_ack_delay, set_nagle_enabled, set_hop_limit};
+ghost use Rattle.tcp_block.specs.Settings.{set_tsval_generator, pause_synack, set_retries, set_min_rto, set_fine_timer, set_congestion_control};
+ghost use Rattle.tcp_block.specs.Value.{unoffered};
 
 use crate::Socket;
 use ip_wire::TcpTimestampGenerator;
 use net_base::{Duration, Instant};
-use tcp_model::CongestionControl;
+use tcp_block::CongestionControl;
 
 impl Socket {
     /// Forgets the start of the user timeout where it doesn't run any more.
@@ -15,7 +15,7 @@ impl Socket {
         ensures { self.new ≡ with_timeout_kept (unoffered self.old) }
     {
         self.offered = None;
-        self.block.keep_timeout(self.queued.len());
+        self.tcb.keep_timeout(self.queued.len());
     }
 
     /// Sets the user timeout: how long the remote may be silent while something waits for it.
@@ -23,7 +23,7 @@ impl Socket {
         ensures { self.new ≡ set_timeout self.old duration }
     {
         self.offered = None;
-        self.block.settings.timeout = duration;
+        self.tcb.settings.timeout = duration;
         self.keep_timeout();
     }
 
@@ -32,7 +32,7 @@ impl Socket {
         ensures { self.new ≡ set_ack_delay self.old duration }
     {
         self.offered = None;
-        self.block.settings.ack_delay = duration;
+        self.tcb.settings.ack_delay = duration;
     }
 
     /// Sets whether small segments wait while others are in flight.
@@ -40,7 +40,7 @@ impl Socket {
         ensures { self.new ≡ set_nagle_enabled self.old enabled }
     {
         self.offered = None;
-        self.block.settings.nagle = enabled;
+        self.tcb.settings.nagle = enabled;
     }
 
     /// Sets the interval of keep-alives. With one, a keep-alive is due at once.
@@ -53,8 +53,8 @@ impl Socket {
         } else {
             None
         };
-        self.block.settings.keep_alive = interval;
-        self.block.settings.keep_alive_at = first;
+        self.tcb.settings.keep_alive = interval;
+        self.tcb.settings.keep_alive_at = first;
         self.keep_timeout();
     }
 
@@ -64,7 +64,7 @@ impl Socket {
         ensures { self.new ≡ set_hop_limit self.old hop_limit }
     {
         self.offered = None;
-        self.block.settings.hop_limit = hop_limit;
+        self.tcb.settings.hop_limit = hop_limit;
     }
 
     /// Sets where timestamps come from.
@@ -72,7 +72,7 @@ impl Socket {
         ensures { self.new ≡ set_tsval_generator self.old generator }
     {
         self.offered = None;
-        self.block.settings.timestamps = generator;
+        self.tcb.settings.timestamps = generator;
     }
 
     /// Sets after how many timeouts without an answer the connection gives up: `None` for never. As long
@@ -81,8 +81,8 @@ impl Socket {
         ensures { self.new ≡ set_retries self.old limit }
     {
         self.offered = None;
-        self.block.settings.opening_retries = limit;
-        self.block.settings.retries = limit;
+        self.tcb.settings.opening_retries = limit;
+        self.tcb.settings.retries = limit;
     }
 
     /// Sets the least retransmission timeout. It counts in whole milliseconds, of which the rest is
@@ -94,8 +94,8 @@ impl Socket {
         ensures { self.new ≡ set_min_rto self.old duration }
     {
         self.offered = None;
-        self.block.settings.min_rto = duration;
-        self.block.round_trip.set_least(duration);
+        self.tcb.settings.min_rto = duration;
+        self.tcb.round_trip.set_least(duration);
     }
 
     /// Sets whether round trips are taken in microseconds, from the next one on. As long as nothing is set
@@ -104,7 +104,7 @@ impl Socket {
         ensures { self.new ≡ set_fine_timer self.old fine }
     {
         self.offered = None;
-        self.block.settings.fine_timer = fine;
+        self.tcb.settings.fine_timer = fine;
     }
 
     /// Sets whether the answer to a SYN waits.
@@ -112,23 +112,23 @@ impl Socket {
         ensures { self.new ≡ pause_synack self.old pause }
     {
         self.offered = None;
-        self.block.settings.synack_paused = pause;
+        self.tcb.settings.synack_paused = pause;
     }
 
-    /// Sets how what is sent is held back where congestion may be, and starts that anew.
+    /// Sets how what is sent is held back where congestion may be, and starts that again.
     pub fn set_congestion_control(&mut self, congestion_control: CongestionControl)
         ensures { self.new ≡ set_congestion_control self.old congestion_control }
     {
         self.offered = None;
-        self.block.settings.congestion_control = congestion_control;
-        let mut reno = congestion_control.fresh_window();
-        if self.block.receiver.took_syn {
-            reno.set_mss(self.block.peer.mss);
-            if !self.block.sender.syn_unacked {
+        self.tcb.settings.congestion_control = congestion_control;
+        let mut reno = congestion_control.initial_window();
+        if self.tcb.receiver.took_syn {
+            reno.set_mss(self.tcb.peer.mss);
+            if !self.tcb.sender.syn_unacked {
                 reno.start(false);
             }
         }
-        self.block.reno = reno;
-        self.block.loss.undo = None;
+        self.tcb.reno = reno;
+        self.tcb.loss.undo = None;
     }
 }

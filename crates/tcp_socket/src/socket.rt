@@ -1,34 +1,34 @@
 //! The socket as a whole.
 ghost use Rattle.std.specs.Prelude.{◌≡◌, ◌+◌, ◌↔◌, length, IsTrue};
-ghost use Rattle.tcp_model.specs.Value.{new_socket, unoffered};
+ghost use Rattle.tcp_block.specs.Value.{new_socket, unoffered};
 ghost use Rattle.tcp_socket.specs.Receive.{FitsBuffer};
 
 use crate::receive_buffer::ReceiveBuffer;
 use net_base::RingBuffer;
 use std::marker::Model;
-use tcp_model::{Block, OpenOffer, Settings};
+use tcp_block::{OpenOffer, Settings, Tcb};
 
 /// A buffer of a socket.
 pub type SocketBuffer = RingBuffer<u8>;
 
-/// A TCP socket: its control block, a buffer for each way, and the offer that isn't settled.
+/// A TCP socket: its TCB, a buffer for each way, and the offer that isn't settled.
 #[derive(Debug, Drop)]
 pub struct Socket {
-    pub(crate) block: Block,
+    pub(crate) tcb: Tcb,
     pub(crate) received: ReceiveBuffer,
     pub(crate) queued: SocketBuffer,
     pub(crate) offered: Option<OpenOffer>,
 }
 
 impl Model for Socket {
-    ghost use Rattle.tcp_model.specs.Value.{TcpValue};
+    ghost use Rattle.tcp_block.specs.Value.{TcpValue};
     ghost use Rattle.tcp_socket.specs.Socket.{IsSocket};
 
     ghost Value = { TcpValue };
 
-    ghost view = { λ s. record { block = s.block; received = s.received; queued = s.queued; offered = s.offered } };
+    ghost view = { λ s. record { tcb = s.tcb; received = s.received; queued = s.queued; offered = s.offered } };
 
-    ghost invariant = { λ s. IsSocket s.block s.queued s.offered };
+    ghost invariant = { λ s. IsSocket s.tcb s.queued s.offered };
 }
 
 impl Socket {
@@ -47,7 +47,7 @@ impl Socket {
     {
         tx_buffer.clear();
         Socket {
-            block: Block::new(Settings::new()),
+            tcb: Tcb::new(Settings::new()),
             received: ReceiveBuffer::new(rx_buffer),
             queued: tx_buffer,
             offered: None,

@@ -1,7 +1,7 @@
--- Calls of the host behind a handle, which is taken out and put back.
+-- Calls of the host after a handle, which is taken out and put back.
 use Rattle.std.proofs.Common.{◌≡◌, List, ℕ, Result, Err, Option, Some, sym, ap, subst, ◌∙◌}
 use Rattle.std.specs.Str.{IsUtf8}
-use Rattle.dns_wire.specs.declared.codes.DnsQueryType.{DnsQueryType}
+use Rattle.wire_dns.specs.declared.codes.DnsQueryType.{DnsQueryType}
 use Rattle.c_calls.specs.declared.code.Code.{Code}
 use Rattle.c_calls.specs.declared.code.Code.TheVariants as Is
 use Rattle.c_calls.specs.Configuring.{AsksName}

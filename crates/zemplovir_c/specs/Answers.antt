@@ -1,4 +1,4 @@
--- What C gets of a call: a number, and what it asked for behind a pointer.
+-- What C gets of a call: a number, and what it asked for after a pointer.
 use Rattle.std.specs.Prelude.{◌≡◌, ℕ, ◌^◌, ◌-◌, ◌==◌, if◌then◌else◌, Option, None, Some, Result, Ok, Err}
 use Rattle.c_calls.specs.Host.{StackValue}
 use Rattle.c_calls.specs.Codes.{number_of}
@@ -18,7 +18,7 @@ module _ {A : Type 0} where
   number_by (Ok answer) = 0
   number_by (Err code) = number_of code
 
-  -- what stands behind a pointer: the answer, or what stood there before
+  -- what stands after a pointer: the answer, or what stood there before
   abbrev pub given : Result A Code → A → A
   given (Ok answer) before = answer
   given (Err code) before = before
@@ -46,7 +46,7 @@ module _ {A : Type 0} where
   checked (Ok argument) after before = after argument
   checked (Err code) after before = before
 
--- the host behind a handle after a call, where there is one
+-- the host after a handle after a call, where there is one
 abbrev pub after_by : Option StackValue → (StackValue → StackValue) → Option StackValue
 after_by None after = None
 after_by (Some host) after = Some (after host)
@@ -64,7 +64,7 @@ Acts Does None result after = (result ≡ no_host) × (after ≡ None)
 Acts Does (Some host) result after =
     (answer : Result (Unit {0}) Code) × ((left : StackValue) × Does host answer left × (result ≡ number_by answer) × (after ≡ Some left))
 
--- a call whose answer stands behind a pointer, which had a value before
+-- a call whose answer stands after a pointer, which had a value before
 abbrev pub Gives : {A : Type 0} → (StackValue → Result A Code → StackValue → Type 0) → Option StackValue → ℕ → A → A → Option StackValue → Type 0
 Gives Does None result before written after = (result ≡ no_host) × (written ≡ before) × (after ≡ None)
 Gives {A} Does (Some host) result before written after =

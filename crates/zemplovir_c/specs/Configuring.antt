@@ -1,11 +1,11 @@
 -- What C gets of the clients of DHCP and DNS.
 use Rattle.std.specs.Prelude.{◌≡◌, ℕ, ◌==◌, ◌-◌, ◌^◌, ℤ, pos, if◌then◌else◌, List, [], ◌∷◌, slice_index_or, Option, None, Some, Result, Ok, Err}
 use Rattle.std.specs.Str.{IsUtf8}
-use Rattle.sockets.specs.declared.dhcpv4.config.Config.{Config}
-use Rattle.sockets.specs.declared.dhcpv4.config.Event.{Event}
-use Rattle.sockets.specs.declared.dhcpv4.config.Event.TheVariants.{Configured, Deconfigured}
-use Rattle.dns_wire.specs.declared.codes.DnsQueryType.{DnsQueryType}
-use Rattle.dns_wire.specs.declared.codes.DnsQueryType.TheVariants as Query
+use Rattle.socket_datagram.specs.declared.dhcpv4.config.Config.{Config}
+use Rattle.socket_datagram.specs.declared.dhcpv4.config.Event.{Event}
+use Rattle.socket_datagram.specs.declared.dhcpv4.config.Event.TheVariants.{Configured, Deconfigured}
+use Rattle.wire_dns.specs.declared.codes.DnsQueryType.{DnsQueryType}
+use Rattle.wire_dns.specs.declared.codes.DnsQueryType.TheVariants as Query
 use Rattle.ip_wire.specs.IpAddress.{IpAddress}
 use Rattle.ip_wire.specs.IpAddress.TheVariants as Ip
 use Rattle.ip_wire.specs.Ipv4Address.{Ipv4Address}
@@ -59,10 +59,10 @@ lease_out None = without_lease 0
 lease_out (Some (Configured config)) = configured_out config
 lease_out (Some Deconfigured) = without_lease 2
 
--- the moment, 0 for now, the largest number for never
+-- the instant, 0 for now, the largest number for never
 abbrev pub due_out : PollAt → ℤ
 due_out At.Now = pos 0
-due_out (At.Time moment) = moment
+due_out (At.Time instant) = instant
 due_out At.Ingress = pos (2 ^ 63 - 1)
 
 -- A NAME

@@ -1,4 +1,4 @@
-pub mod Held
+pub mod BoxAtPointer
 pub mod Answers
 pub mod Values
 pub mod Hosts

@@ -14,7 +14,7 @@ use Rattle.ip_wire.specs.Protocol.{protocol_of}
 use Rattle.ip_wire.specs.TcpTimestampGenerator.{TcpTimestampGenerator}
 use Rattle.sockets.specs.CongestionControl.{CongestionControl}
 use Rattle.sockets.specs.CongestionControl.TheVariants as Control
-use Rattle.sockets.specs.declared.udp.UdpMetadata.{UdpMetadata}
+use Rattle.socket_datagram.specs.declared.udp.UdpMetadata.{UdpMetadata}
 use Rattle.sockets.specs.State.{State}
 use Rattle.sockets.specs.State.TheVariants as At
 use Rattle.c_calls.specs.declared.code.Code.{Code}
@@ -92,10 +92,10 @@ abbrev pub bit : Bool → ℕ
 bit true = 1
 bit false = 0
 
--- the moment, or the largest number for never
-abbrev pub moment_or_never : Option ℤ → ℤ
-moment_or_never None = pos (2 ^ 63 - 1)
-moment_or_never (Some moment) = moment
+-- the instant, or the largest number for never
+abbrev pub instant_or_never : Option ℤ → ℤ
+instant_or_never None = pos (2 ^ 63 - 1)
+instant_or_never (Some instant) = instant
 
 -- above 255 stands for none
 abbrev pub byte_or_none : ℕ → Option ℕ
@@ -150,7 +150,7 @@ hardware_in s =
     else if s.medium == 2 then Ok None
     else Err Is.BadArgument
 
--- the key of first numbers, where it counts
+-- the key of initial sequence numbers, where it counts
 abbrev pub key_in : Settings → Option (List ℕ)
 key_in s = if s.keyed == 0 then None else Some s.isn_key
 

@@ -2,7 +2,7 @@
 ghost use Rattle.std.specs.Prelude.{◌≡◌};
 ghost use Rattle.sockets.specs.AnySocket.{as_tcp, as_udp, as_icmp};
 ghost use Rattle.sockets.specs.declared.socket.Socket.TheVariants as Kind;
-ghost use Rattle.c_calls.specs.Places.{answer_at, after_at};
+ghost use Rattle.c_calls.specs.Slots.{answer_at, after_at};
 ghost use Rattle.c_calls.specs.Streams as Streams;
 ghost use Rattle.c_calls.specs.Datagrams as Datagrams;
 ghost use Rattle.c_calls.specs.Controls as Controls;
@@ -15,9 +15,9 @@ use std::alloc::Global;
 
 /// A call of a TCP socket that answers nothing but whether it was done.
 pub(crate) fn tcp_act(alloc: Global, handle: &mut Handle, socket: usize, act: streams::Act) -> u32
-    ensures answer { result ≡ answer_by handle.old.inside (λ host. answer_at as_tcp (Streams.act_answer act) host.places socket) }
+    ensures answer { result ≡ answer_by handle.old.inside (λ host. answer_at as_tcp (Streams.act_answer act) host.slots socket) }
     ensures after { handle.new.inside ≡
-        after_by handle.old.inside (λ host. record host { places = after_at as_tcp Kind.Tcp (Streams.act_after act) host.places socket }) }
+        after_by handle.old.inside (λ host. record host { slots = after_at as_tcp Kind.Tcp (Streams.act_after act) host.slots socket }) }
 {
     let Some(mut host) = handle.take(alloc) else {
         return NO_HOST;
@@ -29,9 +29,9 @@ pub(crate) fn tcp_act(alloc: Global, handle: &mut Handle, socket: usize, act: st
 
 /// A call of a UDP socket that answers nothing but whether it was done.
 pub(crate) fn udp_act(alloc: Global, handle: &mut Handle, socket: usize, act: datagrams::Act) -> u32
-    ensures answer { result ≡ answer_by handle.old.inside (λ host. answer_at as_udp (Datagrams.act_answer act) host.places socket) }
+    ensures answer { result ≡ answer_by handle.old.inside (λ host. answer_at as_udp (Datagrams.act_answer act) host.slots socket) }
     ensures after { handle.new.inside ≡
-        after_by handle.old.inside (λ host. record host { places = after_at as_udp Kind.Udp (Datagrams.act_after act) host.places socket }) }
+        after_by handle.old.inside (λ host. record host { slots = after_at as_udp Kind.Udp (Datagrams.act_after act) host.slots socket }) }
 {
     let Some(mut host) = handle.take(alloc) else {
         return NO_HOST;
@@ -43,9 +43,9 @@ pub(crate) fn udp_act(alloc: Global, handle: &mut Handle, socket: usize, act: da
 
 /// A call of an ICMP socket that answers nothing but whether it was done.
 pub(crate) fn icmp_act(alloc: Global, handle: &mut Handle, socket: usize, act: control::Act) -> u32
-    ensures answer { result ≡ answer_by handle.old.inside (λ host. answer_at as_icmp (Controls.act_answer act) host.places socket) }
+    ensures answer { result ≡ answer_by handle.old.inside (λ host. answer_at as_icmp (Controls.act_answer act) host.slots socket) }
     ensures after { handle.new.inside ≡
-        after_by handle.old.inside (λ host. record host { places = after_at as_icmp Kind.Icmp (Controls.act_after act) host.places socket }) }
+        after_by handle.old.inside (λ host. record host { slots = after_at as_icmp Kind.Icmp (Controls.act_after act) host.slots socket }) }
 {
     let Some(mut host) = handle.take(alloc) else {
         return NO_HOST;

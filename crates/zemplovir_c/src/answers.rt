@@ -1,4 +1,4 @@
-//! Answers as C has them: a number, 0 for done, and what was asked for behind a pointer, which stays as it was where the call is refused.
+//! Answers as C has them: a number, 0 for done, and what was asked for after a pointer, which stays as it was where the call is refused.
 ghost use Rattle.std.specs.Prelude.{◌≡◌};
 ghost use Rattle.zemplovir_c.specs.Answers.{no_host, number_by, given};
 

@@ -80,13 +80,13 @@ fn told(answer: Result<Option<Event>, Code>) -> Result<Lease, Code>
     }
 }
 
-/// The moment, 0 for now, and the largest number for never.
-fn moment_of(at: PollAt) -> i64
+/// The instant, 0 for now, and the largest number for never.
+fn instant_of(at: PollAt) -> i64
     ensures { result ≡ due_out at }
 {
     match at {
         PollAt::Now => 0,
-        PollAt::Time(moment) => moment.total_micros(),
+        PollAt::Time(instant) => instant.total_micros(),
         PollAt::Ingress => i64::MAX,
     }
 }
@@ -95,7 +95,7 @@ fn due(answer: Result<PollAt, Code>) -> Result<i64, Code>
     ensures { result ≡ mapped due_out answer }
 {
     match answer {
-        Ok(at) => Ok(moment_of(at)),
+        Ok(at) => Ok(instant_of(at)),
         Err(code) => Err(code),
     }
 }
@@ -123,7 +123,7 @@ fn sending(
     }
 }
 
-/// Begins a client of DHCP for this station, in place of one that there was.
+/// Begins a client of DHCP for this hardware address, in place of one that there was.
 #[unsafe(no_mangle)]
 pub extern "C" fn zv_dhcp_new(alloc: Global, handle: &mut Handle, seed: u64) -> u32
     ensures answer { result ≡ answer_by handle.old.inside (λ host. dhcp_answer host.host.inner.hardware) }

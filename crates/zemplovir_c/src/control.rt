@@ -1,12 +1,12 @@
 //! ICMP sockets.
 ghost use Rattle.std.specs.Prelude.{◌≡◌, length};
 ghost use Rattle.sockets.specs.AnySocket.{as_icmp};
-ghost use Rattle.sockets.specs.Icmp.{send_answer, send_after};
-ghost use Rattle.sockets.specs.declared.icmp.Endpoint.TheVariants as Bound;
-ghost use Rattle.sockets.specs.SocketValue.{recv_answer, recv_after, recv_written};
+ghost use Rattle.socket_datagram.specs.Icmp.{send_answer, send_after};
+ghost use Rattle.socket_datagram.specs.declared.icmp.Endpoint.TheVariants as Bound;
+ghost use Rattle.socket_datagram.specs.SocketValue.{recv_answer, recv_after, recv_written};
 ghost use Rattle.sockets.specs.declared.socket.Socket.TheVariants as Kind;
 ghost use Rattle.c_calls.specs.Codes.{coded, of_send, of_recv};
-ghost use Rattle.c_calls.specs.Places.{answer_at, after_at, written_at};
+ghost use Rattle.c_calls.specs.Slots.{answer_at, after_at, written_at};
 ghost use Rattle.c_calls.specs.Controls.{act_answer, act_after};
 ghost use Rattle.c_calls.specs.declared.control.Act.TheVariants as To;
 ghost use Rattle.c_calls.specs.Added.{MakesSocket, new_icmp};
@@ -48,10 +48,10 @@ pub extern "C" fn zv_icmp_bind(
     socket: usize,
     identifier: u16,
 ) -> u32
-    ensures answer { result ≡ answer_by handle.old.inside (λ host. answer_at as_icmp (act_answer (To.Bind (Bound.Ident identifier))) host.places socket) }
+    ensures answer { result ≡ answer_by handle.old.inside (λ host. answer_at as_icmp (act_answer (To.Bind (Bound.Ident identifier))) host.slots socket) }
     ensures after { handle.new.inside ≡
         after_by handle.old.inside
-        (λ host. record host { places = after_at as_icmp Kind.Icmp (act_after (To.Bind (Bound.Ident identifier))) host.places socket }) }
+        (λ host. record host { slots = after_at as_icmp Kind.Icmp (act_after (To.Bind (Bound.Ident identifier))) host.slots socket }) }
 {
     icmp_act(
         alloc,
@@ -72,11 +72,11 @@ pub extern "C" fn zv_icmp_bind_udp(
 ) -> u32
     ensures answer { result ≡
         checked_answer (optional_in address.now)
-        (λ at. answer_by handle.old.inside (λ host. answer_at as_icmp (act_answer (To.Bind (Bound.Udp (listens_at at port)))) host.places socket)) }
+        (λ at. answer_by handle.old.inside (λ host. answer_at as_icmp (act_answer (To.Bind (Bound.Udp (listens_at at port)))) host.slots socket)) }
     ensures after { handle.new.inside ≡
         checked (optional_in address.now)
         (λ at. after_by handle.old.inside
-        (λ host. record host { places = after_at as_icmp Kind.Icmp (act_after (To.Bind (Bound.Udp (listens_at at port)))) host.places socket }))
+        (λ host. record host { slots = after_at as_icmp Kind.Icmp (act_after (To.Bind (Bound.Udp (listens_at at port)))) host.slots socket }))
         handle.old.inside }
 {
     let address = match optional(address) {
@@ -102,11 +102,11 @@ pub extern "C" fn zv_icmp_bind_tcp(
 ) -> u32
     ensures answer { result ≡
         checked_answer (optional_in address.now)
-        (λ at. answer_by handle.old.inside (λ host. answer_at as_icmp (act_answer (To.Bind (Bound.Tcp (listens_at at port)))) host.places socket)) }
+        (λ at. answer_by handle.old.inside (λ host. answer_at as_icmp (act_answer (To.Bind (Bound.Tcp (listens_at at port)))) host.slots socket)) }
     ensures after { handle.new.inside ≡
         checked (optional_in address.now)
         (λ at. after_by handle.old.inside
-        (λ host. record host { places = after_at as_icmp Kind.Icmp (act_after (To.Bind (Bound.Tcp (listens_at at port)))) host.places socket }))
+        (λ host. record host { slots = after_at as_icmp Kind.Icmp (act_after (To.Bind (Bound.Tcp (listens_at at port)))) host.slots socket }))
         handle.old.inside }
 {
     let address = match optional(address) {
@@ -129,9 +129,9 @@ pub extern "C" fn zv_icmp_set_hop_limit(
     socket: usize,
     limit: u8,
 ) -> u32
-    ensures answer { result ≡ answer_by handle.old.inside (λ host. answer_at as_icmp (act_answer (To.HopLimit limit)) host.places socket) }
+    ensures answer { result ≡ answer_by handle.old.inside (λ host. answer_at as_icmp (act_answer (To.HopLimit limit)) host.slots socket) }
     ensures after { handle.new.inside ≡
-        after_by handle.old.inside (λ host. record host { places = after_at as_icmp Kind.Icmp (act_after (To.HopLimit limit)) host.places socket }) }
+        after_by handle.old.inside (λ host. record host { slots = after_at as_icmp Kind.Icmp (act_after (To.HopLimit limit)) host.slots socket }) }
 {
     icmp_act(alloc, handle, socket, Act::HopLimit(limit))
 }
@@ -147,10 +147,10 @@ pub extern "C" fn zv_icmp_send(
 ) -> u32
     ensures answer { result ≡
         checked_answer (required_in remote.now)
-        (λ to. answer_by handle.old.inside (λ host. answer_at as_icmp (λ v. coded of_send (send_answer v to (length bytes.now))) host.places socket)) }
+        (λ to. answer_by handle.old.inside (λ host. answer_at as_icmp (λ v. coded of_send (send_answer v to (length bytes.now))) host.slots socket)) }
     ensures after { handle.new.inside ≡
         checked (required_in remote.now)
-        (λ to. after_by handle.old.inside (λ host. record host { places = after_at as_icmp Kind.Icmp (λ v. send_after v to bytes.now) host.places socket }))
+        (λ to. after_by handle.old.inside (λ host. record host { slots = after_at as_icmp Kind.Icmp (λ v. send_after v to bytes.now) host.slots socket }))
         handle.old.inside }
 {
     let remote = match required(remote) {
@@ -176,16 +176,16 @@ pub extern "C" fn zv_icmp_recv(
     remote: &mut Address,
 ) -> u32
     ensures answer { result ≡
-        answer_by handle.old.inside (λ host. answer_at as_icmp (λ v. coded of_recv (recv_answer v (length bytes.old))) host.places socket) }
+        answer_by handle.old.inside (λ host. answer_at as_icmp (λ v. coded of_recv (recv_answer v (length bytes.old))) host.slots socket) }
     ensures after { handle.new.inside ≡
-        after_by handle.old.inside (λ host. record host { places = after_at as_icmp Kind.Icmp (recv_after) host.places socket }) }
+        after_by handle.old.inside (λ host. record host { slots = after_at as_icmp Kind.Icmp (recv_after) host.slots socket }) }
     ensures count { count.new ≡
         given_by handle.old.inside
-        (λ host. mapped (λ got. got.0) (answer_at as_icmp (λ v. coded of_recv (recv_answer v (length bytes.old))) host.places socket)) count.old }
+        (λ host. mapped (λ got. got.0) (answer_at as_icmp (λ v. coded of_recv (recv_answer v (length bytes.old))) host.slots socket)) count.old }
     ensures remote { remote.new ≡
         given_by handle.old.inside
-        (λ host. mapped (λ got. address_out got.1) (answer_at as_icmp (λ v. coded of_recv (recv_answer v (length bytes.old))) host.places socket)) remote.old }
-    ensures read { bytes.new ≡ written_by handle.old.inside (λ host. written_at as_icmp recv_written bytes.old host.places socket) bytes.old }
+        (λ host. mapped (λ got. address_out got.1) (answer_at as_icmp (λ v. coded of_recv (recv_answer v (length bytes.old))) host.slots socket)) remote.old }
+    ensures read { bytes.new ≡ written_by handle.old.inside (λ host. written_at as_icmp recv_written bytes.old host.slots socket) bytes.old }
 {
     let Some(mut host) = handle.take(alloc) else {
         return NO_HOST;

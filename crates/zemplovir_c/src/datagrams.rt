@@ -1,11 +1,11 @@
 //! UDP sockets.
 ghost use Rattle.std.specs.Prelude.{◌≡◌, length};
 ghost use Rattle.sockets.specs.AnySocket.{as_udp};
-ghost use Rattle.sockets.specs.Udp.{send_answer, send_after};
-ghost use Rattle.sockets.specs.SocketValue.{recv_answer, recv_after, recv_written};
+ghost use Rattle.socket_datagram.specs.Udp.{send_answer, send_after};
+ghost use Rattle.socket_datagram.specs.SocketValue.{recv_answer, recv_after, recv_written};
 ghost use Rattle.sockets.specs.declared.socket.Socket.TheVariants as Kind;
 ghost use Rattle.c_calls.specs.Codes.{coded, of_send, of_recv};
-ghost use Rattle.c_calls.specs.Places.{answer_at, after_at, written_at};
+ghost use Rattle.c_calls.specs.Slots.{answer_at, after_at, written_at};
 ghost use Rattle.c_calls.specs.Datagrams.{act_answer, act_after};
 ghost use Rattle.c_calls.specs.declared.datagrams.Act.TheVariants as To;
 ghost use Rattle.c_calls.specs.Added.{MakesSocket, new_udp};
@@ -64,11 +64,11 @@ pub extern "C" fn zv_udp_bind(
 ) -> u32
     ensures answer { result ≡
         checked_answer (optional_in address.now)
-        (λ at. answer_by handle.old.inside (λ host. answer_at as_udp (act_answer (To.Bind (listens_at at port))) host.places socket)) }
+        (λ at. answer_by handle.old.inside (λ host. answer_at as_udp (act_answer (To.Bind (listens_at at port))) host.slots socket)) }
     ensures after { handle.new.inside ≡
         checked (optional_in address.now)
         (λ at. after_by handle.old.inside
-        (λ host. record host { places = after_at as_udp Kind.Udp (act_after (To.Bind (listens_at at port))) host.places socket })) handle.old.inside }
+        (λ host. record host { slots = after_at as_udp Kind.Udp (act_after (To.Bind (listens_at at port))) host.slots socket })) handle.old.inside }
 {
     let address = match optional(address) {
         Ok(address) => address,
@@ -89,10 +89,10 @@ pub extern "C" fn zv_udp_send(
     local: &Address,
 ) -> u32
     ensures answer { result ≡ checked_answer (endpoint_in remote.now) (λ to. checked_answer (optional_in local.now) (λ from.
-        answer_by handle.old.inside (λ host. answer_at as_udp (λ v. coded of_send (send_answer v (metadata to from) (length bytes.now))) host.places socket))) }
+        answer_by handle.old.inside (λ host. answer_at as_udp (λ v. coded of_send (send_answer v (metadata to from) (length bytes.now))) host.slots socket))) }
     ensures after { handle.new.inside ≡ checked (endpoint_in remote.now) (λ to. checked (optional_in local.now) (λ from.
         after_by handle.old.inside
-        (λ host. record host { places = after_at as_udp Kind.Udp (λ v. send_after v (metadata to from) bytes.now) host.places socket })) handle.old.inside)
+        (λ host. record host { slots = after_at as_udp Kind.Udp (λ v. send_after v (metadata to from) bytes.now) host.slots socket })) handle.old.inside)
         handle.old.inside }
 {
     let remote = match required_endpoint(remote) {
@@ -123,20 +123,20 @@ pub extern "C" fn zv_udp_recv(
     local: &mut Address,
 ) -> u32
     ensures answer { result ≡
-        answer_by handle.old.inside (λ host. answer_at as_udp (λ v. coded of_recv (recv_answer v (length bytes.old))) host.places socket) }
-    ensures after { handle.new.inside ≡ after_by handle.old.inside (λ host. record host { places = after_at as_udp Kind.Udp (recv_after) host.places socket }) }
+        answer_by handle.old.inside (λ host. answer_at as_udp (λ v. coded of_recv (recv_answer v (length bytes.old))) host.slots socket) }
+    ensures after { handle.new.inside ≡ after_by handle.old.inside (λ host. record host { slots = after_at as_udp Kind.Udp (recv_after) host.slots socket }) }
     ensures count { count.new ≡
         given_by handle.old.inside
-        (λ host. mapped (λ got. got.0) (answer_at as_udp (λ v. coded of_recv (recv_answer v (length bytes.old))) host.places socket)) count.old }
+        (λ host. mapped (λ got. got.0) (answer_at as_udp (λ v. coded of_recv (recv_answer v (length bytes.old))) host.slots socket)) count.old }
     ensures remote { remote.new ≡
         given_by handle.old.inside
-        (λ host. mapped (λ got. endpoint_out got.1.endpoint) (answer_at as_udp (λ v. coded of_recv (recv_answer v (length bytes.old))) host.places socket))
+        (λ host. mapped (λ got. endpoint_out got.1.endpoint) (answer_at as_udp (λ v. coded of_recv (recv_answer v (length bytes.old))) host.slots socket))
         remote.old }
     ensures local { local.new ≡
         given_by handle.old.inside
         (λ host. mapped (λ got. address_or_none got.1.local_address)
-        (answer_at as_udp (λ v. coded of_recv (recv_answer v (length bytes.old))) host.places socket)) local.old }
-    ensures read { bytes.new ≡ written_by handle.old.inside (λ host. written_at as_udp recv_written bytes.old host.places socket) bytes.old }
+        (answer_at as_udp (λ v. coded of_recv (recv_answer v (length bytes.old))) host.slots socket)) local.old }
+    ensures read { bytes.new ≡ written_by handle.old.inside (λ host. written_at as_udp recv_written bytes.old host.slots socket) bytes.old }
 {
     let Some(mut host) = handle.take(alloc) else {
         return NO_HOST;
@@ -162,9 +162,9 @@ pub extern "C" fn zv_udp_set_hop_limit(
     socket: usize,
     limit: u8,
 ) -> u32
-    ensures answer { result ≡ answer_by handle.old.inside (λ host. answer_at as_udp (act_answer (To.HopLimit limit)) host.places socket) }
+    ensures answer { result ≡ answer_by handle.old.inside (λ host. answer_at as_udp (act_answer (To.HopLimit limit)) host.slots socket) }
     ensures after { handle.new.inside ≡
-        after_by handle.old.inside (λ host. record host { places = after_at as_udp Kind.Udp (act_after (To.HopLimit limit)) host.places socket }) }
+        after_by handle.old.inside (λ host. record host { slots = after_at as_udp Kind.Udp (act_after (To.HopLimit limit)) host.slots socket }) }
 {
     udp_act(alloc, handle, socket, Act::HopLimit(limit))
 }
@@ -172,9 +172,9 @@ pub extern "C" fn zv_udp_set_hop_limit(
 /// Unbinds the socket, and empties its queues.
 #[unsafe(no_mangle)]
 pub extern "C" fn zv_udp_close(alloc: Global, handle: &mut Handle, socket: usize) -> u32
-    ensures answer { result ≡ answer_by handle.old.inside (λ host. answer_at as_udp (act_answer (To.Close)) host.places socket) }
+    ensures answer { result ≡ answer_by handle.old.inside (λ host. answer_at as_udp (act_answer (To.Close)) host.slots socket) }
     ensures after { handle.new.inside ≡
-        after_by handle.old.inside (λ host. record host { places = after_at as_udp Kind.Udp (act_after (To.Close)) host.places socket }) }
+        after_by handle.old.inside (λ host. record host { slots = after_at as_udp Kind.Udp (act_after (To.Close)) host.slots socket }) }
 {
     udp_act(alloc, handle, socket, Act::Close)
 }

@@ -7,7 +7,7 @@ ghost use Rattle.c_calls.specs.Codes.{of_fetch};
 ghost use Rattle.c_calls.specs.Backlogs.{may_be_removed, removed_by};
 ghost use Rattle.zemplovir_c.specs.Answers.{all_done, answer_by, after_by, given_by, written_by, mapped, Acts, Gives, As};
 ghost use Rattle.zemplovir_c.specs.Hosts.{NewBoxed, NewHandle, unboxed};
-ghost use Rattle.zemplovir_c.specs.Values.{hardware_in, key_in, settings_in, bit, moment_or_never, counters_out};
+ghost use Rattle.zemplovir_c.specs.Values.{hardware_in, key_in, settings_in, bit, instant_or_never, counters_out};
 
 use crate::answers::{NO_HOST, OK, done, given};
 use crate::handle::Handle;
@@ -74,7 +74,7 @@ fn boxed(alloc: Global, settings: &c_calls::Settings, now: i64) -> Result<Box<Ho
     }
 }
 
-/// Makes a host behind an empty handle.
+/// Makes a host after an empty handle.
 #[unsafe(no_mangle)]
 pub extern "C" fn zv_host_new(
     alloc: Global,
@@ -191,11 +191,11 @@ pub extern "C" fn zv_poll(
     given(answer, changed)
 }
 
-fn moment_in(answer: Result<Option<Instant>, Code>) -> Result<i64, Code>
-    ensures { result ≡ mapped moment_or_never answer }
+fn instant_in(answer: Result<Option<Instant>, Code>) -> Result<i64, Code>
+    ensures { result ≡ mapped instant_or_never answer }
 {
     match answer {
-        Ok(Some(moment)) => Ok(moment.total_micros()),
+        Ok(Some(instant)) => Ok(instant.total_micros()),
         Ok(None) => Ok(i64::MAX),
         Err(code) => Err(code),
     }
@@ -204,12 +204,12 @@ fn moment_in(answer: Result<Option<Instant>, Code>) -> Result<i64, Code>
 /// When the host wants to be polled, the largest number for never.
 #[unsafe(no_mangle)]
 pub extern "C" fn zv_poll_at(alloc: Global, handle: &mut Handle, now: i64, at: &mut i64) -> u32
-    ensures { Gives (As moment_or_never (AsksAt now)) handle.old.inside result at.old at.new handle.new.inside }
+    ensures { Gives (As instant_or_never (AsksAt now)) handle.old.inside result at.old at.new handle.new.inside }
 {
     let Some(mut host) = handle.take(alloc) else {
         return NO_HOST;
     };
-    let answer = moment_in(host.poll_at(Instant::from_micros(now)));
+    let answer = instant_in(host.poll_at(Instant::from_micros(now)));
     handle.put(host);
     given(answer, at)
 }
@@ -235,7 +235,7 @@ pub extern "C" fn zv_counters(alloc: Global, handle: &mut Handle, counters: &mut
     OK
 }
 
-/// Gives the memory of the socket back. Its place is free then.
+/// Gives the memory of the socket back. Its slot is free then.
 #[unsafe(no_mangle)]
 pub extern "C" fn zv_socket_remove(alloc: Global, handle: &mut Handle, socket: usize) -> u32
     ensures answer { result ≡ answer_by handle.old.inside (λ host. may_be_removed host socket) }

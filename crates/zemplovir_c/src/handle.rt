@@ -19,7 +19,7 @@ pub struct Handle {
 }
 
 impl Model for Handle {
-    ghost use Rattle.zemplovir_c.specs.Held.{held};
+    ghost use Rattle.zemplovir_c.specs.BoxAtPointer.{held};
     ghost use Rattle.c_calls.specs.contracts.host.Host.{the_row};
 
     ghost also_owns = { λ h. held the_row h.alloc h.at h.inside };

@@ -1,4 +1,4 @@
-//! A box as its pointer, for as long as it takes to put it behind a handle.
+//! A box as its pointer, for as long as it takes to put it after a handle.
 ghost use Rattle.std.specs.Prelude.{◌≡◌};
 ghost use Rattle.std_alloc.specs.Box.Ownership.{box_owns};
 

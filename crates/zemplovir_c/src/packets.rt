@@ -1,11 +1,11 @@
 //! Raw sockets.
 ghost use Rattle.std.specs.Prelude.{◌≡◌, length};
 ghost use Rattle.sockets.specs.AnySocket.{as_raw};
-ghost use Rattle.sockets.specs.Raw.{send_answer, send_after, counted};
-ghost use Rattle.sockets.specs.SocketValue.{recv_answer, recv_after, recv_written};
+ghost use Rattle.socket_datagram.specs.Raw.{send_answer, send_after, counted};
+ghost use Rattle.socket_datagram.specs.SocketValue.{recv_answer, recv_after, recv_written};
 ghost use Rattle.sockets.specs.declared.socket.Socket.TheVariants as Kind;
 ghost use Rattle.c_calls.specs.Codes.{coded, of_raw_send, of_recv};
-ghost use Rattle.c_calls.specs.Places.{answer_at, after_at, written_at};
+ghost use Rattle.c_calls.specs.Slots.{answer_at, after_at, written_at};
 ghost use Rattle.c_calls.specs.Added.{MakesSocket, new_raw};
 ghost use Rattle.zemplovir_c.specs.Answers.{answer_by, after_by, given_by, written_by, Gives, Where};
 ghost use Rattle.zemplovir_c.specs.Values.{version_in, byte_or_none, protocol_in};
@@ -76,9 +76,9 @@ pub extern "C" fn zv_raw_send(
     bytes: &[u8],
 ) -> u32
     ensures answer { result ≡
-        answer_by handle.old.inside (λ host. answer_at as_raw (λ v. coded of_raw_send (send_answer v (length bytes.now))) host.places socket) }
+        answer_by handle.old.inside (λ host. answer_at as_raw (λ v. coded of_raw_send (send_answer v (length bytes.now))) host.slots socket) }
     ensures after { handle.new.inside ≡
-        after_by handle.old.inside (λ host. record host { places = after_at as_raw Kind.Raw (λ v. send_after v bytes.now) host.places socket }) }
+        after_by handle.old.inside (λ host. record host { slots = after_at as_raw Kind.Raw (λ v. send_after v bytes.now) host.slots socket }) }
 {
     let Some(mut host) = handle.take(alloc) else {
         return NO_HOST;
@@ -98,11 +98,11 @@ pub extern "C" fn zv_raw_recv(
     count: &mut usize,
 ) -> u32
     ensures answer { result ≡
-        answer_by handle.old.inside (λ host. answer_at as_raw (λ v. coded of_recv (counted (recv_answer v (length bytes.old)))) host.places socket) }
-    ensures after { handle.new.inside ≡ after_by handle.old.inside (λ host. record host { places = after_at as_raw Kind.Raw (recv_after) host.places socket }) }
+        answer_by handle.old.inside (λ host. answer_at as_raw (λ v. coded of_recv (counted (recv_answer v (length bytes.old)))) host.slots socket) }
+    ensures after { handle.new.inside ≡ after_by handle.old.inside (λ host. record host { slots = after_at as_raw Kind.Raw (recv_after) host.slots socket }) }
     ensures count { count.new ≡
-        given_by handle.old.inside (λ host. answer_at as_raw (λ v. coded of_recv (counted (recv_answer v (length bytes.old)))) host.places socket) count.old }
-    ensures read { bytes.new ≡ written_by handle.old.inside (λ host. written_at as_raw recv_written bytes.old host.places socket) bytes.old }
+        given_by handle.old.inside (λ host. answer_at as_raw (λ v. coded of_recv (counted (recv_answer v (length bytes.old)))) host.slots socket) count.old }
+    ensures read { bytes.new ≡ written_by handle.old.inside (λ host. written_at as_raw recv_written bytes.old host.slots socket) bytes.old }
 {
     let Some(mut host) = handle.take(alloc) else {
         return NO_HOST;

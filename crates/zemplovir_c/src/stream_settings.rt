@@ -2,7 +2,7 @@
 ghost use Rattle.std.specs.Prelude.{◌≡◌};
 ghost use Rattle.sockets.specs.AnySocket.{as_tcp};
 ghost use Rattle.sockets.specs.declared.socket.Socket.TheVariants as Kind;
-ghost use Rattle.c_calls.specs.Places.{answer_at, after_at};
+ghost use Rattle.c_calls.specs.Slots.{answer_at, after_at};
 ghost use Rattle.c_calls.specs.Streams.{act_answer, act_after};
 ghost use Rattle.c_calls.specs.declared.streams.Act.TheVariants as To;
 ghost use Rattle.zemplovir_c.specs.Answers.{answer_by, after_by};
@@ -74,10 +74,10 @@ pub extern "C" fn zv_tcp_set_timeout(
     socket: usize,
     micros: u64,
 ) -> u32
-    ensures answer { result ≡ answer_by handle.old.inside (λ host. answer_at as_tcp (act_answer (To.Timeout (duration_of micros))) host.places socket) }
+    ensures answer { result ≡ answer_by handle.old.inside (λ host. answer_at as_tcp (act_answer (To.Timeout (duration_of micros))) host.slots socket) }
     ensures after { handle.new.inside ≡
         after_by handle.old.inside
-        (λ host. record host { places = after_at as_tcp Kind.Tcp (act_after (To.Timeout (duration_of micros))) host.places socket }) }
+        (λ host. record host { slots = after_at as_tcp Kind.Tcp (act_after (To.Timeout (duration_of micros))) host.slots socket }) }
 {
     tcp_act(alloc, handle, socket, Act::Timeout(duration_of(micros)))
 }
@@ -90,10 +90,10 @@ pub extern "C" fn zv_tcp_set_keep_alive(
     socket: usize,
     micros: u64,
 ) -> u32
-    ensures answer { result ≡ answer_by handle.old.inside (λ host. answer_at as_tcp (act_answer (To.KeepAlive (duration_of micros))) host.places socket) }
+    ensures answer { result ≡ answer_by handle.old.inside (λ host. answer_at as_tcp (act_answer (To.KeepAlive (duration_of micros))) host.slots socket) }
     ensures after { handle.new.inside ≡
         after_by handle.old.inside
-        (λ host. record host { places = after_at as_tcp Kind.Tcp (act_after (To.KeepAlive (duration_of micros))) host.places socket }) }
+        (λ host. record host { slots = after_at as_tcp Kind.Tcp (act_after (To.KeepAlive (duration_of micros))) host.slots socket }) }
 {
     tcp_act(alloc, handle, socket, Act::KeepAlive(duration_of(micros)))
 }
@@ -106,10 +106,10 @@ pub extern "C" fn zv_tcp_set_ack_delay(
     socket: usize,
     micros: u64,
 ) -> u32
-    ensures answer { result ≡ answer_by handle.old.inside (λ host. answer_at as_tcp (act_answer (To.AckDelay (duration_of micros))) host.places socket) }
+    ensures answer { result ≡ answer_by handle.old.inside (λ host. answer_at as_tcp (act_answer (To.AckDelay (duration_of micros))) host.slots socket) }
     ensures after { handle.new.inside ≡
         after_by handle.old.inside
-        (λ host. record host { places = after_at as_tcp Kind.Tcp (act_after (To.AckDelay (duration_of micros))) host.places socket }) }
+        (λ host. record host { slots = after_at as_tcp Kind.Tcp (act_after (To.AckDelay (duration_of micros))) host.slots socket }) }
 {
     tcp_act(alloc, handle, socket, Act::AckDelay(duration_of(micros)))
 }
@@ -122,9 +122,9 @@ pub extern "C" fn zv_tcp_set_min_rto(
     socket: usize,
     micros: u64,
 ) -> u32
-    ensures answer { result ≡ answer_by handle.old.inside (λ host. answer_at as_tcp (act_answer (To.MinRto micros)) host.places socket) }
+    ensures answer { result ≡ answer_by handle.old.inside (λ host. answer_at as_tcp (act_answer (To.MinRto micros)) host.slots socket) }
     ensures after { handle.new.inside ≡
-        after_by handle.old.inside (λ host. record host { places = after_at as_tcp Kind.Tcp (act_after (To.MinRto micros)) host.places socket }) }
+        after_by handle.old.inside (λ host. record host { slots = after_at as_tcp Kind.Tcp (act_after (To.MinRto micros)) host.slots socket }) }
 {
     let least = Duration::from_micros(micros);
     tcp_act(alloc, handle, socket, Act::MinRto(least))
@@ -138,10 +138,10 @@ pub extern "C" fn zv_tcp_set_fine_timer(
     socket: usize,
     enabled: u8,
 ) -> u32
-    ensures answer { result ≡ answer_by handle.old.inside (λ host. answer_at as_tcp (act_answer (To.FineTimer (is_on enabled))) host.places socket) }
+    ensures answer { result ≡ answer_by handle.old.inside (λ host. answer_at as_tcp (act_answer (To.FineTimer (is_on enabled))) host.slots socket) }
     ensures after { handle.new.inside ≡
         after_by handle.old.inside
-        (λ host. record host { places = after_at as_tcp Kind.Tcp (act_after (To.FineTimer (is_on enabled))) host.places socket }) }
+        (λ host. record host { slots = after_at as_tcp Kind.Tcp (act_after (To.FineTimer (is_on enabled))) host.slots socket }) }
 {
     tcp_act(alloc, handle, socket, Act::FineTimer(is_on(enabled)))
 }
@@ -154,9 +154,9 @@ pub extern "C" fn zv_tcp_set_nagle(
     socket: usize,
     enabled: u8,
 ) -> u32
-    ensures answer { result ≡ answer_by handle.old.inside (λ host. answer_at as_tcp (act_answer (To.Nagle (is_on enabled))) host.places socket) }
+    ensures answer { result ≡ answer_by handle.old.inside (λ host. answer_at as_tcp (act_answer (To.Nagle (is_on enabled))) host.slots socket) }
     ensures after { handle.new.inside ≡
-        after_by handle.old.inside (λ host. record host { places = after_at as_tcp Kind.Tcp (act_after (To.Nagle (is_on enabled))) host.places socket }) }
+        after_by handle.old.inside (λ host. record host { slots = after_at as_tcp Kind.Tcp (act_after (To.Nagle (is_on enabled))) host.slots socket }) }
 {
     tcp_act(alloc, handle, socket, Act::Nagle(is_on(enabled)))
 }
@@ -169,9 +169,9 @@ pub extern "C" fn zv_tcp_set_hop_limit(
     socket: usize,
     limit: u8,
 ) -> u32
-    ensures answer { result ≡ answer_by handle.old.inside (λ host. answer_at as_tcp (act_answer (To.HopLimit limit)) host.places socket) }
+    ensures answer { result ≡ answer_by handle.old.inside (λ host. answer_at as_tcp (act_answer (To.HopLimit limit)) host.slots socket) }
     ensures after { handle.new.inside ≡
-        after_by handle.old.inside (λ host. record host { places = after_at as_tcp Kind.Tcp (act_after (To.HopLimit limit)) host.places socket }) }
+        after_by handle.old.inside (λ host. record host { slots = after_at as_tcp Kind.Tcp (act_after (To.HopLimit limit)) host.slots socket }) }
 {
     tcp_act(alloc, handle, socket, Act::HopLimit(limit))
 }
@@ -184,10 +184,10 @@ pub extern "C" fn zv_tcp_set_retries(
     socket: usize,
     limit: u16,
 ) -> u32
-    ensures answer { result ≡ answer_by handle.old.inside (λ host. answer_at as_tcp (act_answer (To.Retries (byte_or_none limit))) host.places socket) }
+    ensures answer { result ≡ answer_by handle.old.inside (λ host. answer_at as_tcp (act_answer (To.Retries (byte_or_none limit))) host.slots socket) }
     ensures after { handle.new.inside ≡
         after_by handle.old.inside
-        (λ host. record host { places = after_at as_tcp Kind.Tcp (act_after (To.Retries (byte_or_none limit))) host.places socket }) }
+        (λ host. record host { slots = after_at as_tcp Kind.Tcp (act_after (To.Retries (byte_or_none limit))) host.slots socket }) }
 {
     tcp_act(alloc, handle, socket, Act::Retries(byte_or_none(limit)))
 }
@@ -200,10 +200,10 @@ pub extern "C" fn zv_tcp_set_congestion_control(
     socket: usize,
     control: u8,
 ) -> u32
-    ensures answer { result ≡ answer_by handle.old.inside (λ host. answer_at as_tcp (act_answer (To.Congestion (control_of control))) host.places socket) }
+    ensures answer { result ≡ answer_by handle.old.inside (λ host. answer_at as_tcp (act_answer (To.Congestion (control_of control))) host.slots socket) }
     ensures after { handle.new.inside ≡
         after_by handle.old.inside
-        (λ host. record host { places = after_at as_tcp Kind.Tcp (act_after (To.Congestion (control_of control))) host.places socket }) }
+        (λ host. record host { slots = after_at as_tcp Kind.Tcp (act_after (To.Congestion (control_of control))) host.slots socket }) }
 {
     tcp_act(alloc, handle, socket, Act::Congestion(control_of(control)))
 }
@@ -218,10 +218,10 @@ pub extern "C" fn zv_tcp_set_timestamps(
     first: u32,
 ) -> u32
     ensures answer { result ≡
-        answer_by handle.old.inside (λ host. answer_at as_tcp (act_answer (To.Timestamps (generator_of enabled first))) host.places socket) }
+        answer_by handle.old.inside (λ host. answer_at as_tcp (act_answer (To.Timestamps (generator_of enabled first))) host.slots socket) }
     ensures after { handle.new.inside ≡
         after_by handle.old.inside
-        (λ host. record host { places = after_at as_tcp Kind.Tcp (act_after (To.Timestamps (generator_of enabled first))) host.places socket }) }
+        (λ host. record host { slots = after_at as_tcp Kind.Tcp (act_after (To.Timestamps (generator_of enabled first))) host.slots socket }) }
 {
     tcp_act(
         alloc,
@@ -239,9 +239,9 @@ pub extern "C" fn zv_tcp_pause_synack(
     socket: usize,
     paused: u8,
 ) -> u32
-    ensures answer { result ≡ answer_by handle.old.inside (λ host. answer_at as_tcp (act_answer (To.PauseSynack (is_on paused))) host.places socket) }
+    ensures answer { result ≡ answer_by handle.old.inside (λ host. answer_at as_tcp (act_answer (To.PauseSynack (is_on paused))) host.slots socket) }
     ensures after { handle.new.inside ≡
-        after_by handle.old.inside (λ host. record host { places = after_at as_tcp Kind.Tcp (act_after (To.PauseSynack (is_on paused))) host.places socket }) }
+        after_by handle.old.inside (λ host. record host { slots = after_at as_tcp Kind.Tcp (act_after (To.PauseSynack (is_on paused))) host.slots socket }) }
 {
     tcp_act(alloc, handle, socket, Act::PauseSynack(is_on(paused)))
 }

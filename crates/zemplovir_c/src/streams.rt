@@ -6,7 +6,7 @@ ghost use Rattle.sockets.specs.AnySocket.{as_tcp};
 ghost use Rattle.sockets.specs.TcpCalls.{connect_answer, connect_after, connect_draws, send_answer, send_after, recv_answer};
 ghost use Rattle.sockets.specs.declared.socket.Socket.TheVariants as Kind;
 ghost use Rattle.c_calls.specs.Codes.{coded, of_connect, of_stream_send, of_stream_recv};
-ghost use Rattle.c_calls.specs.Places.{answer_at, after_at, written_at, draws_at};
+ghost use Rattle.c_calls.specs.Slots.{answer_at, after_at, written_at, draws_at};
 ghost use Rattle.c_calls.specs.Streams.{act_answer, act_after, read_after, read_written, done_answer, done_after, peeked, state_in, ends_in, queues_in};
 ghost use Rattle.c_calls.specs.declared.streams.Act.TheVariants as To;
 ghost use Rattle.c_calls.specs.Added.{MakesStream};
@@ -54,11 +54,11 @@ pub extern "C" fn zv_tcp_listen(
 ) -> u32
     ensures answer { result ≡
         checked_answer (optional_in address.now)
-        (λ at. answer_by handle.old.inside (λ host. answer_at as_tcp (act_answer (To.Listen (listens_at at port))) host.places socket)) }
+        (λ at. answer_by handle.old.inside (λ host. answer_at as_tcp (act_answer (To.Listen (listens_at at port))) host.slots socket)) }
     ensures after { handle.new.inside ≡
         checked (optional_in address.now)
         (λ at. after_by handle.old.inside
-        (λ host. record host { places = after_at as_tcp Kind.Tcp (act_after (To.Listen (listens_at at port))) host.places socket })) handle.old.inside }
+        (λ host. record host { slots = after_at as_tcp Kind.Tcp (act_after (To.Listen (listens_at at port))) host.slots socket })) handle.old.inside }
 {
     let address = match optional(address) {
         Ok(address) => address,
@@ -80,11 +80,11 @@ fn connect(
     local: IpListenEndpoint,
 ) -> u32
     ensures answer { result ≡ answer_by handle.old.inside
-        (λ host. answer_at as_tcp (λ v. coded of_connect (connect_answer (context_of host.host.inner) v remote local)) host.places socket) }
+        (λ host. answer_at as_tcp (λ v. coded of_connect (connect_answer (context_of host.host.inner) v remote local)) host.slots socket) }
     ensures after { handle.new.inside ≡ after_by handle.old.inside (λ host. record host {
-      host = if draws_at as_tcp (λ v. connect_draws (context_of host.host.inner) v remote local) host.places socket
+      host = if draws_at as_tcp (λ v. connect_draws (context_of host.host.inner) v remote local) host.slots socket
           then with_inner host.host (drawn host.host.inner) else host.host;
-      places = after_at as_tcp Kind.Tcp (λ v. connect_after (context_of host.host.inner) v remote local) host.places socket;
+      slots = after_at as_tcp Kind.Tcp (λ v. connect_after (context_of host.host.inner) v remote local) host.slots socket;
     }) }
 {
     let Some(mut host) = handle.take(alloc) else {
@@ -107,12 +107,12 @@ pub extern "C" fn zv_tcp_connect(
 ) -> u32
     ensures answer { result ≡ checked_answer (endpoint_in remote.now) (λ to. checked_answer (optional_in address.now) (λ from.
         answer_by handle.old.inside
-        (λ host. answer_at as_tcp (λ v. coded of_connect (connect_answer (context_of host.host.inner) v to (listens_at from port))) host.places socket))) }
+        (λ host. answer_at as_tcp (λ v. coded of_connect (connect_answer (context_of host.host.inner) v to (listens_at from port))) host.slots socket))) }
     ensures after { handle.new.inside ≡ checked (endpoint_in remote.now) (λ to. checked (optional_in address.now) (λ from.
         after_by handle.old.inside (λ host. record host {
-          host = if draws_at as_tcp (λ v. connect_draws (context_of host.host.inner) v to (listens_at from port)) host.places socket
+          host = if draws_at as_tcp (λ v. connect_draws (context_of host.host.inner) v to (listens_at from port)) host.slots socket
               then with_inner host.host (drawn host.host.inner) else host.host;
-          places = after_at as_tcp Kind.Tcp (λ v. connect_after (context_of host.host.inner) v to (listens_at from port)) host.places socket;
+          slots = after_at as_tcp Kind.Tcp (λ v. connect_after (context_of host.host.inner) v to (listens_at from port)) host.slots socket;
         })) handle.old.inside) handle.old.inside }
 {
     let remote = match required_endpoint(remote) {
@@ -136,11 +136,11 @@ pub extern "C" fn zv_tcp_send(
     count: &mut usize,
 ) -> u32
     ensures answer { result ≡
-        answer_by handle.old.inside (λ host. answer_at as_tcp (λ v. coded of_stream_send (send_answer v (length bytes.now))) host.places socket) }
+        answer_by handle.old.inside (λ host. answer_at as_tcp (λ v. coded of_stream_send (send_answer v (length bytes.now))) host.slots socket) }
     ensures after { handle.new.inside ≡
-        after_by handle.old.inside (λ host. record host { places = after_at as_tcp Kind.Tcp (λ v. send_after v bytes.now) host.places socket }) }
+        after_by handle.old.inside (λ host. record host { slots = after_at as_tcp Kind.Tcp (λ v. send_after v bytes.now) host.slots socket }) }
     ensures count { count.new ≡
-        given_by handle.old.inside (λ host. answer_at as_tcp (λ v. coded of_stream_send (send_answer v (length bytes.now))) host.places socket) count.old }
+        given_by handle.old.inside (λ host. answer_at as_tcp (λ v. coded of_stream_send (send_answer v (length bytes.now))) host.slots socket) count.old }
 {
     let Some(mut host) = handle.take(alloc) else {
         return NO_HOST;
@@ -160,12 +160,12 @@ pub extern "C" fn zv_tcp_recv(
     count: &mut usize,
 ) -> u32
     ensures answer { result ≡
-        answer_by handle.old.inside (λ host. answer_at as_tcp (λ v. coded of_stream_recv (recv_answer v (length bytes.old))) host.places socket) }
+        answer_by handle.old.inside (λ host. answer_at as_tcp (λ v. coded of_stream_recv (recv_answer v (length bytes.old))) host.slots socket) }
     ensures after { handle.new.inside ≡
-        after_by handle.old.inside (λ host. record host { places = after_at as_tcp Kind.Tcp (λ v. read_after v (length bytes.old)) host.places socket }) }
+        after_by handle.old.inside (λ host. record host { slots = after_at as_tcp Kind.Tcp (λ v. read_after v (length bytes.old)) host.slots socket }) }
     ensures count { count.new ≡
-        given_by handle.old.inside (λ host. answer_at as_tcp (λ v. coded of_stream_recv (recv_answer v (length bytes.old))) host.places socket) count.old }
-    ensures read { bytes.new ≡ written_by handle.old.inside (λ host. written_at as_tcp read_written bytes.old host.places socket) bytes.old }
+        given_by handle.old.inside (λ host. answer_at as_tcp (λ v. coded of_stream_recv (recv_answer v (length bytes.old))) host.slots socket) count.old }
+    ensures read { bytes.new ≡ written_by handle.old.inside (λ host. written_at as_tcp read_written bytes.old host.slots socket) bytes.old }
 {
     let Some(mut host) = handle.take(alloc) else {
         return NO_HOST;
@@ -185,7 +185,7 @@ fn lend(bytes: &[u8], at: &mut *const u8, count: &mut usize)
     *count = bytes.len();
 }
 
-/// Lends the first waiting bytes, as many as lie behind one another, until the next call of this host.
+/// Lends the first waiting bytes, as many as lie after one another, until the next call of this host.
 #[unsafe(no_mangle)]
 pub extern "C" fn zv_tcp_peek(
     alloc: Global,
@@ -194,9 +194,9 @@ pub extern "C" fn zv_tcp_peek(
     bytes: &mut *const u8,
     count: &mut usize,
 ) -> u32
-    ensures answer { result ≡ answer_by handle.old.inside (λ host. answer_at as_tcp (peeked) host.places socket) }
+    ensures answer { result ≡ answer_by handle.old.inside (λ host. answer_at as_tcp (peeked) host.slots socket) }
     ensures after { handle.new.inside ≡ handle.old.inside }
-    ensures count { count.new ≡ given_by handle.old.inside (λ host. mapped length (answer_at as_tcp (peeked) host.places socket)) count.old }
+    ensures count { count.new ≡ given_by handle.old.inside (λ host. mapped length (answer_at as_tcp (peeked) host.slots socket)) count.old }
 {
     let Some(host) = handle.take(alloc) else {
         return NO_HOST;
@@ -212,7 +212,7 @@ pub extern "C" fn zv_tcp_peek(
     answer
 }
 
-/// Gives up the first waiting bytes, at most so many and as many as lie behind one another.
+/// Gives up the first waiting bytes, at most so many and as many as lie after one another.
 #[unsafe(no_mangle)]
 pub extern "C" fn zv_tcp_done(
     alloc: Global,
@@ -221,10 +221,10 @@ pub extern "C" fn zv_tcp_done(
     wanted: usize,
     count: &mut usize,
 ) -> u32
-    ensures answer { result ≡ answer_by handle.old.inside (λ host. answer_at as_tcp (done_answer wanted) host.places socket) }
+    ensures answer { result ≡ answer_by handle.old.inside (λ host. answer_at as_tcp (done_answer wanted) host.slots socket) }
     ensures after { handle.new.inside ≡
-        after_by handle.old.inside (λ host. record host { places = after_at as_tcp Kind.Tcp (done_after wanted) host.places socket }) }
-    ensures count { count.new ≡ given_by handle.old.inside (λ host. answer_at as_tcp (done_answer wanted) host.places socket) count.old }
+        after_by handle.old.inside (λ host. record host { slots = after_at as_tcp Kind.Tcp (done_after wanted) host.slots socket }) }
+    ensures count { count.new ≡ given_by handle.old.inside (λ host. answer_at as_tcp (done_answer wanted) host.slots socket) count.old }
 {
     let Some(mut host) = handle.take(alloc) else {
         return NO_HOST;
@@ -234,12 +234,12 @@ pub extern "C" fn zv_tcp_done(
     given(answer, count)
 }
 
-/// Closes the way out: what is queued still goes, and then the end of the stream.
+/// Closes the egress path: what is queued still goes, and then the end of the stream.
 #[unsafe(no_mangle)]
 pub extern "C" fn zv_tcp_close(alloc: Global, handle: &mut Handle, socket: usize) -> u32
-    ensures answer { result ≡ answer_by handle.old.inside (λ host. answer_at as_tcp (act_answer (To.Close)) host.places socket) }
+    ensures answer { result ≡ answer_by handle.old.inside (λ host. answer_at as_tcp (act_answer (To.Close)) host.slots socket) }
     ensures after { handle.new.inside ≡
-        after_by handle.old.inside (λ host. record host { places = after_at as_tcp Kind.Tcp (act_after (To.Close)) host.places socket }) }
+        after_by handle.old.inside (λ host. record host { slots = after_at as_tcp Kind.Tcp (act_after (To.Close)) host.slots socket }) }
 {
     tcp_act(alloc, handle, socket, Act::Close)
 }
@@ -247,9 +247,9 @@ pub extern "C" fn zv_tcp_close(alloc: Global, handle: &mut Handle, socket: usize
 /// Ends the connection.
 #[unsafe(no_mangle)]
 pub extern "C" fn zv_tcp_abort(alloc: Global, handle: &mut Handle, socket: usize) -> u32
-    ensures answer { result ≡ answer_by handle.old.inside (λ host. answer_at as_tcp (act_answer (To.Abort)) host.places socket) }
+    ensures answer { result ≡ answer_by handle.old.inside (λ host. answer_at as_tcp (act_answer (To.Abort)) host.slots socket) }
     ensures after { handle.new.inside ≡
-        after_by handle.old.inside (λ host. record host { places = after_at as_tcp Kind.Tcp (act_after (To.Abort)) host.places socket }) }
+        after_by handle.old.inside (λ host. record host { slots = after_at as_tcp Kind.Tcp (act_after (To.Abort)) host.slots socket }) }
 {
     tcp_act(alloc, handle, socket, Act::Abort)
 }
@@ -289,9 +289,9 @@ pub extern "C" fn zv_tcp_state(
     socket: usize,
     state: &mut u8,
 ) -> u32
-    ensures answer { result ≡ answer_by handle.old.inside (λ host. answer_at as_tcp (state_in) host.places socket) }
+    ensures answer { result ≡ answer_by handle.old.inside (λ host. answer_at as_tcp (state_in) host.slots socket) }
     ensures after { handle.new.inside ≡ handle.old.inside }
-    ensures state { state.new ≡ given_by handle.old.inside (λ host. mapped state_number (answer_at as_tcp (state_in) host.places socket)) state.old }
+    ensures state { state.new ≡ given_by handle.old.inside (λ host. mapped state_number (answer_at as_tcp (state_in) host.slots socket)) state.old }
 {
     let Some(host) = handle.take(alloc) else {
         return NO_HOST;
@@ -310,12 +310,12 @@ pub extern "C" fn zv_tcp_peer(
     local: &mut Endpoint,
     remote: &mut Endpoint,
 ) -> u32
-    ensures answer { result ≡ answer_by handle.old.inside (λ host. answer_at as_tcp (ends_in) host.places socket) }
+    ensures answer { result ≡ answer_by handle.old.inside (λ host. answer_at as_tcp (ends_in) host.slots socket) }
     ensures after { handle.new.inside ≡ handle.old.inside }
     ensures local { local.new ≡
-        given_by handle.old.inside (λ host. mapped (λ ends. endpoint_out ends.0) (answer_at as_tcp (ends_in) host.places socket)) local.old }
+        given_by handle.old.inside (λ host. mapped (λ ends. endpoint_out ends.0) (answer_at as_tcp (ends_in) host.slots socket)) local.old }
     ensures remote { remote.new ≡
-        given_by handle.old.inside (λ host. mapped (λ ends. endpoint_out ends.1) (answer_at as_tcp (ends_in) host.places socket)) remote.old }
+        given_by handle.old.inside (λ host. mapped (λ ends. endpoint_out ends.1) (answer_at as_tcp (ends_in) host.slots socket)) remote.old }
 {
     let Some(host) = handle.take(alloc) else {
         return NO_HOST;
@@ -341,12 +341,12 @@ pub extern "C" fn zv_tcp_queues(
     received: &mut usize,
     queued: &mut usize,
 ) -> u32
-    ensures answer { result ≡ answer_by handle.old.inside (λ host. answer_at as_tcp (queues_in) host.places socket) }
+    ensures answer { result ≡ answer_by handle.old.inside (λ host. answer_at as_tcp (queues_in) host.slots socket) }
     ensures after { handle.new.inside ≡ handle.old.inside }
     ensures received { received.new ≡
-        given_by handle.old.inside (λ host. mapped (λ lengths. lengths.0) (answer_at as_tcp (queues_in) host.places socket)) received.old }
+        given_by handle.old.inside (λ host. mapped (λ lengths. lengths.0) (answer_at as_tcp (queues_in) host.slots socket)) received.old }
     ensures queued { queued.new ≡
-        given_by handle.old.inside (λ host. mapped (λ lengths. lengths.1) (answer_at as_tcp (queues_in) host.places socket)) queued.old }
+        given_by handle.old.inside (λ host. mapped (λ lengths. lengths.1) (answer_at as_tcp (queues_in) host.slots socket)) queued.old }
 {
     let Some(host) = handle.take(alloc) else {
         return NO_HOST;

@@ -2,19 +2,19 @@
 ghost use Rattle.std.specs.Prelude.{◌≡◌};
 ghost use Rattle.interface.specs.Made.{with_inner, with_timeout};
 ghost use Rattle.interface.specs.Settings.{hardware_refusal, with_hardware, with_any_ip};
-ghost use Rattle.ip_wire.specs.HardwareAddress.TheVariants as Station;
-ghost use Rattle.ip_wire.specs.IpCidr.{IpCidr as Block};
+ghost use Rattle.ip_wire.specs.HardwareAddress.TheVariants as HardwareAddr;
+ghost use Rattle.ip_wire.specs.IpCidr.{IpCidr as Cidr};
 ghost use Rattle.std.specs.Prelude.{Result, Ok};
 ghost use Rattle.c_calls.specs.declared.code.Code.{Code as Refusal};
 ghost use Rattle.c_calls.specs.Tables.{is_done, own_with, own_without, routes_with, routes_without, with_own, with_table, route_to, hardware_answer};
 ghost use Rattle.c_calls.specs.Tables.{UpdatesHardware, SetsSlots};
 ghost use Rattle.zemplovir_c.specs.Answers.{all_done, answer_by, after_by, checked_answer, checked, Acts, Gives};
-ghost use Rattle.zemplovir_c.specs.Hosts.{IsBlockBy};
+ghost use Rattle.zemplovir_c.specs.Hosts.{IsCidrBy};
 ghost use Rattle.zemplovir_c.specs.Values.{required_in, is_on};
 
 use crate::answers::{NO_HOST, OK, done, given};
 use crate::handle::Handle;
-use crate::types::{Address, Hardware, block, required};
+use crate::types::{Address, Hardware, cidr, required};
 use ip_wire::EthernetAddress;
 use net_base::Duration;
 use std::alloc::Global;
@@ -27,19 +27,19 @@ pub extern "C" fn zv_address_add(
     address: &Address,
     prefix: u8,
 ) -> u32
-    ensures { (named : Result Block Refusal) × IsBlockBy (required_in address.now) prefix named
-        × (result ≡ checked_answer named (λ block. answer_by handle.old.inside (λ host. is_done (own_with host.host.inner.addresses block))))
-        × (handle.new.inside ≡ checked named (λ block. after_by handle.old.inside (λ host. with_own host (own_with host.host.inner.addresses block)))
+    ensures { (named : Result Cidr Refusal) × IsCidrBy (required_in address.now) prefix named
+        × (result ≡ checked_answer named (λ cidr. answer_by handle.old.inside (λ host. is_done (own_with host.host.inner.addresses cidr))))
+        × (handle.new.inside ≡ checked named (λ cidr. after_by handle.old.inside (λ host. with_own host (own_with host.host.inner.addresses cidr)))
         handle.old.inside) }
 {
-    let block = match block(address, prefix) {
-        Ok(block) => block,
+    let cidr = match cidr(address, prefix) {
+        Ok(cidr) => cidr,
         Err(code) => return code.number(),
     };
     let Some(mut host) = handle.take(alloc) else {
         return NO_HOST;
     };
-    let answer = host.address_add(block);
+    let answer = host.address_add(cidr);
     handle.put(host);
     done(answer)
 }
@@ -74,13 +74,13 @@ pub extern "C" fn zv_route_add(
     prefix: u8,
     router: &Address,
 ) -> u32
-    ensures { (named : Result Block Refusal) × IsBlockBy (required_in network.now) prefix named
-        × (result ≡ checked_answer named (λ block. checked_answer (required_in router.now) (λ to.
-        answer_by handle.old.inside (λ host. is_done (routes_with host.host.inner (route_to block to))))))
-        × (handle.new.inside ≡ checked named (λ block. checked (required_in router.now) (λ to.
-        after_by handle.old.inside (λ host. with_table host (routes_with host.host.inner (route_to block to)))) handle.old.inside) handle.old.inside) }
+    ensures { (named : Result Cidr Refusal) × IsCidrBy (required_in network.now) prefix named
+        × (result ≡ checked_answer named (λ cidr. checked_answer (required_in router.now) (λ to.
+        answer_by handle.old.inside (λ host. is_done (routes_with host.host.inner (route_to cidr to))))))
+        × (handle.new.inside ≡ checked named (λ cidr. checked (required_in router.now) (λ to.
+        after_by handle.old.inside (λ host. with_table host (routes_with host.host.inner (route_to cidr to)))) handle.old.inside) handle.old.inside) }
 {
-    let network = match block(network, prefix) {
+    let network = match cidr(network, prefix) {
         Ok(network) => network,
         Err(code) => return code.number(),
     };
@@ -104,12 +104,12 @@ pub extern "C" fn zv_route_remove(
     network: &Address,
     prefix: u8,
 ) -> u32
-    ensures { (named : Result Block Refusal) × IsBlockBy (required_in network.now) prefix named
-        × (result ≡ checked_answer named (λ block. answer_by handle.old.inside (λ host. is_done (routes_without host.host.inner.routes block))))
-        × (handle.new.inside ≡ checked named (λ block. after_by handle.old.inside (λ host. with_table host (routes_without host.host.inner.routes block)))
+    ensures { (named : Result Cidr Refusal) × IsCidrBy (required_in network.now) prefix named
+        × (result ≡ checked_answer named (λ cidr. answer_by handle.old.inside (λ host. is_done (routes_without host.host.inner.routes cidr))))
+        × (handle.new.inside ≡ checked named (λ cidr. after_by handle.old.inside (λ host. with_table host (routes_without host.host.inner.routes cidr)))
         handle.old.inside) }
 {
-    let network = match block(network, prefix) {
+    let network = match cidr(network, prefix) {
         Ok(network) => network,
         Err(code) => return code.number(),
     };
@@ -121,7 +121,7 @@ pub extern "C" fn zv_route_remove(
     done(answer)
 }
 
-/// Sets the station's address.
+/// Sets the hardware address's address.
 #[unsafe(no_mangle)]
 pub extern "C" fn zv_host_set_hardware(
     alloc: Global,
@@ -130,10 +130,10 @@ pub extern "C" fn zv_host_set_hardware(
 ) -> u32
     ensures answer { result ≡
         answer_by handle.old.inside
-        (λ host. hardware_answer (hardware_refusal host.host.inner.hardware (Station.Ethernet (record { 0 = hardware.now.bytes })))) }
+        (λ host. hardware_answer (hardware_refusal host.host.inner.hardware (HardwareAddr.Ethernet (record { 0 = hardware.now.bytes })))) }
     ensures after { handle.new.inside ≡
         after_by handle.old.inside
-        (λ host. record host { host = with_inner host.host (with_hardware host.host.inner (Station.Ethernet (record { 0 = hardware.now.bytes }))) }) }
+        (λ host. record host { host = with_inner host.host (with_hardware host.host.inner (HardwareAddr.Ethernet (record { 0 = hardware.now.bytes }))) }) }
 {
     let Some(mut host) = handle.take(alloc) else {
         return NO_HOST;
@@ -144,7 +144,7 @@ pub extern "C" fn zv_host_set_hardware(
     done(answer)
 }
 
-/// Sets the station's address, and tells all neighbours of it.
+/// Sets the hardware address's address, and tells all neighbours of it.
 #[unsafe(no_mangle)]
 pub extern "C" fn zv_host_update_hardware(
     alloc: Global,

@@ -1,6 +1,6 @@
 //! Values as C has them.
 ghost use Rattle.std.specs.Prelude.{◌≡◌};
-ghost use Rattle.zemplovir_c.specs.Hosts.{IsBlockBy, IsBlockOf};
+ghost use Rattle.zemplovir_c.specs.Hosts.{IsCidrBy, IsCidrOf};
 ghost use Rattle.zemplovir_c.specs.Values.{v4_in, optional_in, required_in, endpoint_in, address_out, address_or_none, endpoint_out, listens_at};
 
 use c_calls::Code;
@@ -14,7 +14,7 @@ pub struct Address {
     pub bytes: [u8; 16],
 }
 
-/// The address of a station.
+/// The address of a hardware address.
 #[repr(C)]
 #[derive(Clone, Copy)]
 pub struct Hardware {
@@ -138,8 +138,8 @@ pub(crate) fn listens_at(address: Option<IpAddress>, port: u16) -> IpListenEndpo
     }
 }
 
-fn block_of(address: IpAddress, prefix: u8) -> Result<IpCidr, Code>
-    ensures { IsBlockOf address prefix result }
+fn cidr_of(address: IpAddress, prefix: u8) -> Result<IpCidr, Code>
+    ensures { IsCidrOf address prefix result }
 {
     let width = match address {
         IpAddress::Ipv4(_) => 32,
@@ -153,11 +153,11 @@ fn block_of(address: IpAddress, prefix: u8) -> Result<IpCidr, Code>
 }
 
 /// The block of an address with a prefix of so many bits.
-pub(crate) fn block(address: &Address, prefix: u8) -> Result<IpCidr, Code>
-    ensures { IsBlockBy (required_in address.now) prefix result }
+pub(crate) fn cidr(address: &Address, prefix: u8) -> Result<IpCidr, Code>
+    ensures { IsCidrBy (required_in address.now) prefix result }
 {
     match required(address) {
-        Ok(address) => block_of(address, prefix),
+        Ok(address) => cidr_of(address, prefix),
         Err(code) => Err(code),
     }
 }

@@ -3,14 +3,14 @@ ghost use Rattle.std.specs.Prelude.{◌≡◌, drop, length, OnOk, IfErr, OnErr}
 ghost use Rattle.c_calls.specs.Link.{unused, IsTaken, push_refusal, arrived, next_len, fetch_answer, fetch_after, fetched};
 
 use crate::link::error::{FetchError, PushError};
-use crate::link::frame::{Frame, FrameRxToken, put_behind};
+use crate::link::frame::{Frame, FrameRxToken, put_following};
 use crate::link::queue::{copy_first, take_buffer};
 use net_base::{Device, DeviceCapabilities, Instant, SendRefused, TxToken};
 use std::alloc::Global;
 use std::collections::VecDeque;
 use std::marker::Model;
 
-/// How many bytes the longest frame has that is read: an IP packet of 65,535 bytes behind an Ethernet header.
+/// How many bytes the longest frame has that is read: an IP packet of 65,535 bytes after an Ethernet header.
 const LONGEST: usize = 65_549;
 
 /// A device whose frames its caller brings and fetches.
@@ -97,12 +97,12 @@ impl FrameLink {
         ensures { self.new ≡ self.old }
     {
         if let Some(frame) = self.lent.take() {
-            // Without a place for it the buffer is freed.
+            // Without a slot for it the buffer is freed.
             let _ = self.ready.push(frame);
         }
     }
 
-    /// A frame comes, and waits behind those that wait already.
+    /// A frame comes, and waits after those that wait already.
     pub fn push(&mut self, frame: &[u8]) -> Result<(), PushError>
         ensures refused { IfErr result (push_refusal self.old (length frame.now)) }
         ensures unchanged { OnErr result (self.new ≡ self.old) }
@@ -116,7 +116,7 @@ impl FrameLink {
             return Err(PushError::Full);
         }
         self.take_back();
-        put_behind(self.alloc, &mut self.came, &mut self.ready, frame)
+        put_following(self.alloc, &mut self.came, &mut self.ready, frame)
     }
 
     /// How many bytes the first frame has that is to go.
@@ -148,7 +148,7 @@ impl FrameLink {
         ensures { self.new ≡ record self.old { sent = drop 1 self.old.sent } }
     {
         if let Some(buffer) = self.leaving.pop_front() {
-            // Without a place for it the buffer is freed.
+            // Without a slot for it the buffer is freed.
             let _ = self.spare.push(buffer);
         }
     }

@@ -28,8 +28,8 @@ impl RxToken for FrameRxToken {
     }
 }
 
-/// Puts a frame of these bytes behind those that came, if there is memory.
-pub(crate) fn put_behind(
+/// Puts a frame of these bytes after those that came, if there is memory.
+pub(crate) fn put_following(
     alloc: Global,
     came: &mut VecDeque<Frame>,
     ready: &mut Vec<Frame>,

@@ -25,7 +25,7 @@ pub(crate) fn copy_first(leaving: &VecDeque<Vec<u8>>, out: &mut [u8]) -> Result<
     Ok(count)
 }
 
-/// A buffer of `len` bytes for a frame, and a place for it behind those that are to go, if there is memory for both.
+/// A buffer of `len` bytes for a frame, and a slot for it after those that are to go, if there is memory for both.
 pub(crate) fn take_buffer(
     leaving: &mut VecDeque<Vec<u8>>,
     ready: &mut Vec<Vec<u8>>,
@@ -33,7 +33,7 @@ pub(crate) fn take_buffer(
 ) -> Option<Vec<u8>>
     ensures frames { leaving.new.items ≡ leaving.old.items }
     ensures buffer { IfSome result (λ buffer. vec_len buffer ≡ len) }
-    ensures place { OnSome result (deque_len leaving.new < deque_capacity leaving.new) }
+    ensures slot { OnSome result (deque_len leaving.new < deque_capacity leaving.new) }
 {
     leaving.reserve(1).ok()?;
     let mut buffer = match ready.pop() {

@@ -1,31 +1,31 @@
 -- A socket that listens again does so once.
 use Rattle.std.proofs.Common.{◌≡◌, ℕ, ◌==◌, Bool, true, false, arith, refl, subst, ap}
 use Rattle.std.specs.Prelude.{Option, Some, None}
-use Rattle.interface_egress.specs.declared.socket_set.Item.{Item}
-use Rattle.interface_egress.specs.declared.socket_set.SocketStorage.{SocketStorage}
+use Rattle.iface_egress.specs.declared.socket_set.Item.{Item}
+use Rattle.iface_egress.specs.declared.socket_set.SocketStorage.{SocketStorage}
 use Rattle.ip_wire.specs.IpListenEndpoint.{IpListenEndpoint}
-use Rattle.interface_ingress.specs.Socket.{Socket}
-use Rattle.interface_ingress.specs.Socket.TheVariants as Kind
-use Rattle.interface_ingress.specs.State.{State}
-use Rattle.interface_ingress.specs.State.TheVariants as In
-use Rattle.interface_ingress.specs.TcpStates.{is_closed}
-use Rattle.interface_ingress.specs.TcpValue.{TcpValue}
+use Rattle.iface_ingress.specs.Socket.{Socket}
+use Rattle.iface_ingress.specs.Socket.TheVariants as Kind
+use Rattle.iface_ingress.specs.State.{State}
+use Rattle.iface_ingress.specs.State.TheVariants as In
+use Rattle.iface_ingress.specs.TcpStates.{is_closed}
+use Rattle.iface_ingress.specs.TcpValue.{TcpValue}
 use Rattle.interface.specs.declared.listener.entry.Entry.{Entry}
-use Rattle.interface.specs.Backlog.Noted.{socket_state, item_state, state_at, relisted, relisted_socket, relisted_item, relisted_place, ComesTo, IsNoted}
+use Rattle.interface.specs.Backlog.Noted.{socket_state, item_state, state_at, relisted, relisted_socket, relisted_item, relisted_slot, ComesTo, IsNoted}
 use Rattle.interface.specs.Backlog.Stages.{stage_after}
 use Rattle.interface.specs.declared.listener.stage.Stage.{Stage}
 
 module _ (endpoint : IpListenEndpoint) where
-  listened_by : (nowhere : Bool) → (v : TcpValue) → (endpoint.port == 0) ≡ nowhere → is_closed v.block.state ≡ true →
+  listened_by : (nowhere : Bool) → (v : TcpValue) → (endpoint.port == 0) ≡ nowhere → is_closed v.tcb.state ≡ true →
       relisted endpoint (relisted endpoint v) ≡ relisted endpoint v
   listened_by nowhere v e closed = grind arith
 
-  again_by : (closed : Bool) → (v : TcpValue) → is_closed v.block.state ≡ closed → relisted endpoint (relisted endpoint v) ≡ relisted endpoint v
+  again_by : (closed : Bool) → (v : TcpValue) → is_closed v.tcb.state ≡ closed → relisted endpoint (relisted endpoint v) ≡ relisted endpoint v
   again_by true v closed = listened_by (endpoint.port == 0) v refl closed
   again_by false v isnt = grind arith
 
   again : (v : TcpValue) → relisted endpoint (relisted endpoint v) ≡ relisted endpoint v
-  again v = again_by (is_closed v.block.state) v refl
+  again v = again_by (is_closed v.tcb.state) v refl
 
   again_socket : (s : Socket) → relisted_socket endpoint (relisted_socket endpoint s) ≡ relisted_socket endpoint s
   again_socket (Kind.Tcp v) = ap Kind.Tcp (again v)
@@ -39,26 +39,26 @@ module _ (endpoint : IpListenEndpoint) where
   again_item None = refl
   again_item (Some item) = ap (λ (s : Socket). Some (record item { socket = s })) (again_socket item.socket)
 
-  -- a place whose socket listens again does so once
-  pub relisted_once : (place : SocketStorage Socket) → relisted_place endpoint (relisted_place endpoint place) ≡ relisted_place endpoint place
-  relisted_once place = ap (λ (item : Option (Item Socket)). record { inner = item }) (again_item place.inner)
+  -- a slot whose socket listens again does so once
+  pub relisted_once : (slot : SocketStorage Socket) → relisted_slot endpoint (relisted_slot endpoint slot) ≡ relisted_slot endpoint slot
+  relisted_once slot = ap (λ (item : Option (Item Socket)). record { inner = item }) (again_item slot.inner)
 
 closed_is : (s : State) → is_closed s ≡ true → s ≡ In.Closed
 closed_is s closed = grind arith
 
 module _ (endpoint : IpListenEndpoint) (now : ℕ) (e e' : Entry) where
-  stage_of : (nowhere : Bool) → (v : TcpValue) → (endpoint.port == 0) ≡ nowhere → is_closed v.block.state ≡ true
-      → stage_after e.stage (relisted endpoint v).block.state ≡ stage_after e.stage v.block.state
+  stage_of : (nowhere : Bool) → (v : TcpValue) → (endpoint.port == 0) ≡ nowhere → is_closed v.tcb.state ≡ true
+      → stage_after e.stage (relisted endpoint v).tcb.state ≡ stage_after e.stage v.tcb.state
   stage_of nowhere v port closed =
-      let is : v.block.state ≡ In.Closed = closed_is v.block.state closed in grind arith
+      let is : v.tcb.state ≡ In.Closed = closed_is v.tcb.state closed in grind arith
 
-  stage_by : (closed : Bool) → (v : TcpValue) → is_closed v.block.state ≡ closed →
-      stage_after e.stage (relisted endpoint v).block.state ≡ stage_after e.stage v.block.state
+  stage_by : (closed : Bool) → (v : TcpValue) → is_closed v.tcb.state ≡ closed →
+      stage_after e.stage (relisted endpoint v).tcb.state ≡ stage_after e.stage v.tcb.state
   stage_by true v closed = stage_of (endpoint.port == 0) v refl closed
   stage_by false v isnt = grind arith
 
-  before_tcp : (v : TcpValue) → IsNoted now (Some (relisted endpoint v).block.state) e e' → IsNoted now (Some v.block.state) e e'
-  before_tcp v noted = subst (λ (stage : Stage). ComesTo now stage e e') (stage_by (is_closed v.block.state) v refl) noted
+  before_tcp : (v : TcpValue) → IsNoted now (Some (relisted endpoint v).tcb.state) e e' → IsNoted now (Some v.tcb.state) e e'
+  before_tcp v noted = subst (λ (stage : Stage). ComesTo now stage e e') (stage_by (is_closed v.tcb.state) v refl) noted
 
   before_socket : (s : Socket) → IsNoted now (socket_state (relisted_socket endpoint s)) e e' → IsNoted now (socket_state s) e e'
   before_socket (Kind.Tcp v) noted = before_tcp v noted
@@ -73,5 +73,5 @@ module _ (endpoint : IpListenEndpoint) (now : ℕ) (e e' : Entry) where
   before_item (Some item) noted = before_socket item.socket noted
 
   -- a socket that listens again was closed, which is the same stage
-  pub noted_before : (place : SocketStorage Socket) → IsNoted now (state_at (relisted_place endpoint place)) e e' → IsNoted now (state_at place) e e'
-  noted_before place noted = before_item place.inner noted
+  pub noted_before : (slot : SocketStorage Socket) → IsNoted now (state_at (relisted_slot endpoint slot)) e e' → IsNoted now (state_at slot) e e'
+  noted_before slot noted = before_item slot.inner noted

@@ -1,23 +1,23 @@
 -- The calls of a listener.
 use Rattle.std.specs.Prelude.{◌≡◌, ℕ, ◌==◌, ◌&&◌, ℤ, pos, negsuc, if◌then◌else◌, List, slice_set, Option, Some, None}
-use Rattle.interface_egress.specs.declared.socket_set.SocketHandle.{SocketHandle}
-use Rattle.interface_egress.specs.declared.socket_set.SocketStorage.{SocketStorage}
+use Rattle.iface_egress.specs.declared.socket_set.SocketHandle.{SocketHandle}
+use Rattle.iface_egress.specs.declared.socket_set.SocketStorage.{SocketStorage}
 use Rattle.ip_wire.specs.IpListenEndpoint.{IpListenEndpoint}
-use Rattle.interface_ingress.specs.Socket.{Socket}
+use Rattle.iface_ingress.specs.Socket.{Socket}
 use Rattle.interface.specs.declared.listener.entry.Entry.{Entry}
 use Rattle.interface.specs.declared.listener.stage.Stage.TheVariants as Is
 use Rattle.interface.specs.Backlog.Entries.{entry_at}
 use Rattle.interface.specs.Backlog.GivesWay.{HasNone, GivesWay}
-use Rattle.interface.specs.Backlog.Kept.{kept_all}
+use Rattle.interface.specs.Backlog.Keepers.{kept_all}
 use Rattle.interface.specs.Backlog.Noted.{AreNoted}
 use Rattle.interface.specs.Backlog.Oldest.{IsOldest}
 use Rattle.interface.specs.Backlog.Stages.{is_accepted, is_open}
 
 -- a socket that was taken into the backlog
-abbrev pub fresh_entry : SocketHandle → Entry
-fresh_entry handle = record { handle = handle; stage = Is.Free; since = 0 }
+abbrev pub initial_entry : SocketHandle → Entry
+initial_entry handle = record { handle = handle; stage = Is.Free; since = 0 }
 
--- a moment in microseconds, 0 for one before the start
+-- an instant in microseconds, 0 for one before the start
 abbrev pub micros_of : ℤ → ℕ
 micros_of (pos micros) = micros
 micros_of (negsuc _) = 0

@@ -1,18 +1,18 @@
 -- Which socket of a backlog gives way, where none is free.
 use Rattle.std.specs.Prelude.{◌≡◌, ℕ, ◌-◌, ◌≤◌, ◌<◌, ◌⊎◌, List, length, slice_set, Option, Some, None}
-use Rattle.interface_egress.specs.declared.socket_set.Item.{Item}
-use Rattle.interface_egress.specs.declared.socket_set.SocketHandle.{SocketHandle}
-use Rattle.interface_egress.specs.declared.socket_set.SocketStorage.{SocketStorage}
+use Rattle.iface_egress.specs.declared.socket_set.Item.{Item}
+use Rattle.iface_egress.specs.declared.socket_set.SocketHandle.{SocketHandle}
+use Rattle.iface_egress.specs.declared.socket_set.SocketStorage.{SocketStorage}
 use Rattle.ip_wire.specs.IpListenEndpoint.{IpListenEndpoint}
-use Rattle.interface_ingress.specs.Socket.{Socket}
-use Rattle.interface_ingress.specs.Socket.TheVariants as Kind
-use Rattle.interface_ingress.specs.TcpCalls.{listen_after, abort_after}
-use Rattle.interface_ingress.specs.TcpValue.{TcpValue}
+use Rattle.iface_ingress.specs.Socket.{Socket}
+use Rattle.iface_ingress.specs.Socket.TheVariants as Kind
+use Rattle.iface_ingress.specs.TcpCalls.{listen_after, abort_after}
+use Rattle.iface_ingress.specs.TcpValue.{TcpValue}
 use Rattle.interface.specs.declared.listener.entry.Entry.{Entry}
 use Rattle.interface.specs.declared.listener.stage.Stage.{Stage}
 use Rattle.interface.specs.declared.listener.stage.Stage.TheVariants as Is
 use Rattle.interface.specs.Backlog.Entries.{entry_at}
-use Rattle.interface.specs.Backlog.Noted.{place_at}
+use Rattle.interface.specs.Backlog.Noted.{slot_at}
 use Rattle.interface.specs.Backlog.Oldest.{IsOldest}
 use Rattle.interface.specs.declared.listener.way.TheConstants.{PATIENCE}
 
@@ -28,11 +28,11 @@ abbrev pub restarted_item : IpListenEndpoint → Option (Item Socket) → Option
 restarted_item endpoint None = None
 restarted_item endpoint (Some item) = Some (record item { socket = restarted_socket endpoint item.socket })
 
-abbrev pub restarted_place : IpListenEndpoint → SocketStorage Socket → SocketStorage Socket
-restarted_place endpoint place = record { inner = restarted_item endpoint place.inner }
+abbrev pub restarted_slot : IpListenEndpoint → SocketStorage Socket → SocketStorage Socket
+restarted_slot endpoint slot = record { inner = restarted_item endpoint slot.inner }
 
 abbrev pub restarted_at : IpListenEndpoint → ℕ → List (SocketStorage Socket) → List (SocketStorage Socket)
-restarted_at endpoint n ps = slice_set ps n (restarted_place endpoint (place_at ps n))
+restarted_at endpoint n ps = slice_set ps n (restarted_slot endpoint (slot_at ps n))
 
 abbrev pub is_at : Stage → List Entry → ℕ → Type 0
 is_at stage es i = (i < length es) × ((entry_at es i).stage ≡ stage)

@@ -1,27 +1,27 @@
 -- How far each socket of a backlog came, and which of them listen again.
 use Rattle.std.specs.Prelude.{◌≡◌, ◌≢◌, ℕ, ◌<◌, Bool, true, false, if◌then◌else◌, List, length, slice_index_or, slice_set, Option, Some, None}
-use Rattle.interface_egress.specs.Set.{free}
-use Rattle.interface_egress.specs.declared.socket_set.Item.{Item}
-use Rattle.interface_egress.specs.declared.socket_set.SocketStorage.{SocketStorage}
+use Rattle.iface_egress.specs.Set.{free}
+use Rattle.iface_egress.specs.declared.socket_set.Item.{Item}
+use Rattle.iface_egress.specs.declared.socket_set.SocketStorage.{SocketStorage}
 use Rattle.ip_wire.specs.IpListenEndpoint.{IpListenEndpoint}
-use Rattle.interface_ingress.specs.Socket.{Socket}
-use Rattle.interface_ingress.specs.Socket.TheVariants as Kind
-use Rattle.interface_ingress.specs.State.{State}
-use Rattle.interface_ingress.specs.TcpStates.{is_closed}
-use Rattle.interface_ingress.specs.TcpCalls.{listen_after}
-use Rattle.interface_ingress.specs.TcpValue.{TcpValue}
+use Rattle.iface_ingress.specs.Socket.{Socket}
+use Rattle.iface_ingress.specs.Socket.TheVariants as Kind
+use Rattle.iface_ingress.specs.State.{State}
+use Rattle.iface_ingress.specs.TcpStates.{is_closed}
+use Rattle.iface_ingress.specs.TcpCalls.{listen_after}
+use Rattle.iface_ingress.specs.TcpValue.{TcpValue}
 use Rattle.interface.specs.declared.listener.entry.Entry.{Entry}
 use Rattle.interface.specs.declared.listener.stage.Stage.{Stage}
 use Rattle.interface.specs.Backlog.Entries.{entry_at}
 use Rattle.interface.specs.Backlog.Stages.{is_accepted, stage_after}
 
 -- the place of this number, a free one past the last
-abbrev pub place_at : List (SocketStorage Socket) → ℕ → SocketStorage Socket
-place_at ps n = slice_index_or ps n free
+abbrev pub slot_at : List (SocketStorage Socket) → ℕ → SocketStorage Socket
+slot_at ps n = slice_index_or ps n free
 
 -- the state of a TCP socket
 abbrev pub socket_state : Socket → Option State
-socket_state (Kind.Tcp v) = Some v.block.state
+socket_state (Kind.Tcp v) = Some v.tcb.state
 socket_state s = None
 
 abbrev pub item_state : Option (Item Socket) → Option State
@@ -29,11 +29,11 @@ item_state None = None
 item_state (Some item) = socket_state item.socket
 
 abbrev pub state_at : SocketStorage Socket → Option State
-state_at place = item_state place.inner
+state_at slot = item_state slot.inner
 
 -- a closed socket listens on this endpoint
 abbrev pub relisted : IpListenEndpoint → TcpValue → TcpValue
-relisted endpoint v = if is_closed v.block.state then listen_after v endpoint else v
+relisted endpoint v = if is_closed v.tcb.state then listen_after v endpoint else v
 
 abbrev pub relisted_socket : IpListenEndpoint → Socket → Socket
 relisted_socket endpoint (Kind.Tcp v) = Kind.Tcp (relisted endpoint v)
@@ -43,8 +43,8 @@ abbrev pub relisted_item : IpListenEndpoint → Option (Item Socket) → Option 
 relisted_item endpoint None = None
 relisted_item endpoint (Some item) = Some (record item { socket = relisted_socket endpoint item.socket })
 
-abbrev pub relisted_place : IpListenEndpoint → SocketStorage Socket → SocketStorage Socket
-relisted_place endpoint place = record { inner = relisted_item endpoint place.inner }
+abbrev pub relisted_slot : IpListenEndpoint → SocketStorage Socket → SocketStorage Socket
+relisted_slot endpoint slot = record { inner = relisted_item endpoint slot.inner }
 
 -- an entry comes to a stage at this time, or was there before
 abbrev pub ComesTo : ℕ → Stage → Entry → Entry → Type 0
@@ -59,8 +59,8 @@ IsNoted now (Some state) e e' = ComesTo now (stage_after e.stage state) e e'
 -- a socket that isn't its user's is seen, and listens again if it was closed
 abbrev pub IsSeen : IpListenEndpoint → ℕ → List (SocketStorage Socket) → Entry → List (SocketStorage Socket) → Entry → Type 0
 IsSeen endpoint now ps e ps' e' =
-    IsNoted now (state_at (place_at ps e.handle.0)) e e'
-    × (ps' ≡ slice_set ps e.handle.0 (relisted_place endpoint (place_at ps e.handle.0)))
+    IsNoted now (state_at (slot_at ps e.handle.0)) e e'
+    × (ps' ≡ slice_set ps e.handle.0 (relisted_slot endpoint (slot_at ps e.handle.0)))
 
 -- one that is its user's isn't touched
 abbrev pub NotesBy : Bool → IpListenEndpoint → ℕ → List (SocketStorage Socket) → Entry → List (SocketStorage Socket) → Entry → Type 0
@@ -70,17 +70,17 @@ NotesBy false endpoint now ps e ps' e' = IsSeen endpoint now ps e ps' e'
 abbrev pub NotesOne : IpListenEndpoint → ℕ → List (SocketStorage Socket) → Entry → List (SocketStorage Socket) → Entry → Type 0
 NotesOne endpoint now ps e ps' e' = NotesBy (is_accepted e.stage) endpoint now ps e ps' e'
 
--- the entry's socket isn't its user's, and this is its place
+-- the entry's socket isn't its user's, and this is its slot
 abbrev pub IsWaitingAt : List Entry → ℕ → ℕ → Type 0
 IsWaitingAt es i n = (i < length es) × (is_accepted (entry_at es i).stage ≡ false) × ((entry_at es i).handle.0 ≡ n)
 
 -- each closed socket that isn't its user's listens again; the others stay as they are. Each entry says how far its socket came.
 pub record AreNoted (endpoint : IpListenEndpoint) (now : ℕ) (ps : List (SocketStorage Socket)) (es : List Entry) (ps' : List (SocketStorage Socket))
     (es' : List Entry) : Type 0 where
-  pub places : length ps' ≡ length ps
+  pub slots : length ps' ≡ length ps
   pub entries : length es' ≡ length es
-  pub listens : (i n : ℕ) → IsWaitingAt es i n → place_at ps' n ≡ relisted_place endpoint (place_at ps n)
-  pub others : (n : ℕ) → ((i : ℕ) → IsWaitingAt es i n → ⊥) → place_at ps' n ≡ place_at ps n
+  pub listens : (i n : ℕ) → IsWaitingAt es i n → slot_at ps' n ≡ relisted_slot endpoint (slot_at ps n)
+  pub others : (n : ℕ) → ((i : ℕ) → IsWaitingAt es i n → ⊥) → slot_at ps' n ≡ slot_at ps n
   pub handles : (i : ℕ) → (entry_at es' i).handle ≡ (entry_at es i).handle
   pub accepted : (i : ℕ) → is_accepted (entry_at es i).stage ≡ true → entry_at es' i ≡ entry_at es i
-  pub noted : (i n : ℕ) → IsWaitingAt es i n → IsNoted now (state_at (place_at ps n)) (entry_at es i) (entry_at es' i)
+  pub noted : (i n : ℕ) → IsWaitingAt es i n → IsNoted now (state_at (slot_at ps n)) (entry_at es i) (entry_at es' i)

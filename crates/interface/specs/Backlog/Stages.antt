@@ -1,7 +1,7 @@
 -- How far a socket of a backlog came, by its state.
 use Rattle.std.specs.Prelude.{Bool, true, false}
-use Rattle.interface_ingress.specs.State.{State}
-use Rattle.interface_ingress.specs.State.TheVariants as In
+use Rattle.iface_ingress.specs.State.{State}
+use Rattle.iface_ingress.specs.State.TheVariants as In
 use Rattle.interface.specs.declared.listener.stage.Stage.{Stage}
 use Rattle.interface.specs.declared.listener.stage.Stage.TheVariants as Is
 

@@ -1,11 +1,11 @@
 //! The keepers, which take the SYNs that fall to no socket of a backlog, and say nothing.
 ghost use Rattle.std.specs.Prelude.{◌≡◌, ◌<◌, length};
-ghost use Rattle.interface.specs.Backlog.Kept.{kept, kept_place, kept_at, kept_all};
+ghost use Rattle.interface.specs.Backlog.Keepers.{kept, kept_slot, kept_at, kept_all};
 
 use crate::listener::way::restart;
-use interface_egress::{Item, Places, SocketHandle, SocketStorage};
-use interface_ingress::tcp::State;
-use interface_ingress::{Socket, tcp};
+use iface_egress::{Item, Slots, SocketHandle, SocketStorage};
+use iface_ingress::tcp::State;
+use iface_ingress::{Socket, tcp};
 use ip_wire::IpListenEndpoint;
 
 /// Drops the SYN that the socket took, if it took one, and listens on this endpoint, mutely.
@@ -18,38 +18,38 @@ fn keep(socket: &mut tcp::Socket, endpoint: IpListenEndpoint)
     }
 }
 
-fn keep_place(place: &mut SocketStorage<Socket>, endpoint: IpListenEndpoint)
-    ensures { place.new ≡ kept_place endpoint place.old }
+fn keep_slot(slot: &mut SocketStorage<Socket>, endpoint: IpListenEndpoint)
+    ensures { slot.new ≡ kept_slot endpoint slot.old }
 {
     if let Some(
         Item {
             socket: Socket::Tcp(socket),
             ..
         },
-    ) = &mut place.inner
+    ) = &mut slot.inner
     {
         keep(socket, endpoint);
     }
 }
 
-fn keep_at(places: &mut Places<Socket>, at: usize, endpoint: IpListenEndpoint)
-    ensures { places.new ≡ kept_at endpoint at places.old }
+fn keep_at(slots: &mut Slots<Socket>, at: usize, endpoint: IpListenEndpoint)
+    ensures { slots.new ≡ kept_at endpoint at slots.old }
 {
-    if at < places.len() {
-        keep_place(places.place_mut(at), endpoint);
-        places.let_rest(at);
+    if at < slots.len() {
+        keep_slot(slots.slot_mut(at), endpoint);
+        slots.let_rest(at);
     }
 }
 
 /// Each keeper listens.
 pub(crate) fn keep_all(
-    places: &mut Places<Socket>,
+    slots: &mut Slots<Socket>,
     keepers: &[SocketHandle],
     endpoint: IpListenEndpoint,
 )
-    ensures { places.new ≡ kept_all endpoint keepers.now places.old }
+    ensures { slots.new ≡ kept_all endpoint keepers.now slots.old }
 {
     for i in 0..keepers.len() {
-        keep_at(places, keepers[i].place(), endpoint);
+        keep_at(slots, keepers[i].slot(), endpoint);
     }
 }

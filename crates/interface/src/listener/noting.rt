@@ -1,12 +1,12 @@
 //! How far each socket of a backlog came.
 ghost use Rattle.std.specs.Prelude.{◌≡◌};
-ghost use Rattle.interface.specs.Backlog.Noted.{relisted, state_at, relisted_place, IsNoted, NotesOne, AreNoted};
+ghost use Rattle.interface.specs.Backlog.Noted.{relisted, state_at, relisted_slot, IsNoted, NotesOne, AreNoted};
 
 use crate::listener::entry::Entry;
 use crate::listener::stage::Stage;
-use interface_egress::{Item, Places, SocketStorage};
-use interface_ingress::tcp::State;
-use interface_ingress::{Socket, tcp};
+use iface_egress::{Item, Slots, SocketStorage};
+use iface_ingress::tcp::State;
+use iface_ingress::{Socket, tcp};
 use ip_wire::IpListenEndpoint;
 
 /// Listens on this endpoint, where the socket is closed.
@@ -18,12 +18,12 @@ fn relist(socket: &mut tcp::Socket, endpoint: IpListenEndpoint)
     }
 }
 
-/// The state of the socket of a place, which listens from now on if it was closed.
-fn relist_place(place: &mut SocketStorage<Socket>, endpoint: IpListenEndpoint) -> Option<State>
-    ensures state { result ≡ state_at place.old }
-    ensures place { place.new ≡ relisted_place endpoint place.old }
+/// The state of the socket of a slot, which listens from now on if it was closed.
+fn relist_slot(slot: &mut SocketStorage<Socket>, endpoint: IpListenEndpoint) -> Option<State>
+    ensures state { result ≡ state_at slot.old }
+    ensures slot { slot.new ≡ relisted_slot endpoint slot.old }
 {
-    match &mut place.inner {
+    match &mut slot.inner {
         Some(
             Item {
                 socket: Socket::Tcp(socket),
@@ -57,29 +57,29 @@ fn noted(entry: &Entry, state: Option<State>, now: u64) -> Entry
 }
 
 /// Sees how far the socket of an entry came, unless it is its user's.
-fn note(places: &mut Places<Socket>, entry: &mut Entry, endpoint: IpListenEndpoint, now: u64)
-    ensures { NotesOne endpoint now places.old entry.old places.new entry.new }
+fn note(slots: &mut Slots<Socket>, entry: &mut Entry, endpoint: IpListenEndpoint, now: u64)
+    ensures { NotesOne endpoint now slots.old entry.old slots.new entry.new }
 {
-    let at = entry.handle.place();
-    if entry.stage.is_accepted() || at >= places.len() {
+    let at = entry.handle.slot();
+    if entry.stage.is_accepted() || at >= slots.len() {
         return;
     }
-    let state = relist_place(places.place_mut(at), endpoint);
-    places.let_rest(at);
+    let state = relist_slot(slots.slot_mut(at), endpoint);
+    slots.let_rest(at);
     *entry = noted(entry, state, now);
 }
 
 /// Sees how far each socket of a backlog came, at this time. A closed one listens again.
 #[tactic(auto, using(crate::proofs::Backlog::Seen::noted_none, crate::proofs::Backlog::Seen::noted_all))]
 pub(crate) fn note_all(
-    places: &mut Places<Socket>,
+    slots: &mut Slots<Socket>,
     entries: &mut Vec<Entry>,
     endpoint: IpListenEndpoint,
     now: u64,
 )
-    ensures { AreNoted endpoint now places.old entries.old.items places.new entries.new.items }
+    ensures { AreNoted endpoint now slots.old entries.old.items slots.new entries.new.items }
 {
     for i in 0..entries.len() {
-        note(places, &mut entries[i], endpoint, now);
+        note(slots, &mut entries[i], endpoint, now);
     }
 }

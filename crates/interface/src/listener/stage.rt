@@ -2,7 +2,7 @@
 ghost use Rattle.std.specs.Prelude.{◌≡◌};
 ghost use Rattle.interface.specs.Backlog.Stages.{is_accepted, is_open, stage_after};
 
-use interface_ingress::tcp::State;
+use iface_ingress::tcp::State;
 
 /// How far a socket of a backlog came.
 #[derive(Clone, Copy, Debug, PartialEq, Eq)]

@@ -1,12 +1,12 @@
 //! Which socket of a backlog gives way, where none is free.
 ghost use Rattle.std.specs.Prelude.{◌≡◌, ◌<◌, length};
-ghost use Rattle.interface.specs.Backlog.GivesWay.{restarted, restarted_place, restarted_at, IsLongHalfOpen, IsNext, GivesWay};
+ghost use Rattle.interface.specs.Backlog.GivesWay.{restarted, restarted_slot, restarted_at, IsLongHalfOpen, IsNext, GivesWay};
 
 use crate::listener::entry::Entry;
 use crate::listener::longest::oldest;
 use crate::listener::stage::Stage;
-use interface_egress::{Item, Places, SocketStorage};
-use interface_ingress::{Socket, tcp};
+use iface_egress::{Item, Slots, SocketStorage};
+use iface_ingress::{Socket, tcp};
 use ip_wire::IpListenEndpoint;
 
 /// Drops what the socket has, without a word to its remote, and listens on this endpoint.
@@ -17,25 +17,25 @@ pub(crate) fn restart(socket: &mut tcp::Socket, endpoint: IpListenEndpoint)
     let _ = socket.listen(endpoint);
 }
 
-fn restart_place(place: &mut SocketStorage<Socket>, endpoint: IpListenEndpoint)
-    ensures { place.new ≡ restarted_place endpoint place.old }
+fn restart_slot(slot: &mut SocketStorage<Socket>, endpoint: IpListenEndpoint)
+    ensures { slot.new ≡ restarted_slot endpoint slot.old }
 {
     if let Some(
         Item {
             socket: Socket::Tcp(socket),
             ..
         },
-    ) = &mut place.inner
+    ) = &mut slot.inner
     {
         restart(socket, endpoint);
     }
 }
 
-fn restart_at(places: &mut Places<Socket>, at: usize, endpoint: IpListenEndpoint)
-    ensures { places.new ≡ restarted_at endpoint at places.old }
+fn restart_at(slots: &mut Slots<Socket>, at: usize, endpoint: IpListenEndpoint)
+    ensures { slots.new ≡ restarted_at endpoint at slots.old }
 {
-    if at < places.len() {
-        restart_place(places.place_mut(at), endpoint);
+    if at < slots.len() {
+        restart_slot(slots.slot_mut(at), endpoint);
     }
 }
 
@@ -66,12 +66,12 @@ fn long_half_open(entries: &[Entry], now: u64) -> Option<usize>
 
 /// Where no socket of the backlog is free, the next one gives way.
 pub(crate) fn give_way(
-    places: &mut Places<Socket>,
+    slots: &mut Slots<Socket>,
     entries: &mut Vec<Entry>,
     endpoint: IpListenEndpoint,
     now: u64,
 )
-    ensures { GivesWay endpoint now places.old entries.old.items places.new entries.new.items }
+    ensures { GivesWay endpoint now slots.old entries.old.items slots.new entries.new.items }
 {
     if oldest(entries.as_slice(), Stage::Free).is_some() {
         return;
@@ -80,7 +80,7 @@ pub(crate) fn give_way(
         return;
     };
     let handle = entries[at].handle;
-    restart_at(places, handle.place(), endpoint);
+    restart_at(slots, handle.slot(), endpoint);
     entries[at] = Entry {
         handle,
         stage: Stage::Free,

@@ -1,14 +1,14 @@
 //! Laws of the format.
 ghost use Rattle.std.specs.Prelude.{◌≡◌, ℕ, ◌+◌, ◌≤◌, List, ◌++◌, length, drop, ◌↔◌, IsTrue, ◌<◌, ◌^◌, slice_range};
-ghost use Rattle.ip_address.specs.Fields.{IsBytes, be16, put16};
+ghost use Rattle.wire_address.specs.Fields.{IsBytes, be16, put16};
 ghost use Rattle.ip_wire.specs.Arp.{IsArp, IsValue, written, normal, hardware_of, hardware_number, operation_of, operation_number};
-ghost use Rattle.ip_address.specs.Order.{Agree};
-ghost use Rattle.ip_packet.specs.Parts.{put_run};
+ghost use Rattle.wire_address.specs.Order.{Agree};
+ghost use Rattle.wire_ip.specs.Parts.{put_run};
 
 use super::field::{HLEN, HTYPE, OPER, PACKET_LEN, PLEN, PTYPE};
 use super::kinds::{ArpHardware, ArpOperation};
 use super::repr::ArpRepr;
-use ip_address::laws::{Comparison, compare};
+use wire_address::laws::{Comparison, compare};
 
 /// Law: a packet is spelled by its value, and then comes padding.
 pub fn arp_spelled()
@@ -28,17 +28,17 @@ pub fn arp_fits()
     ensures { (bytes : List ℕ) (v : ArpRepr) → IsBytes bytes → IsArp bytes v → IsValue v }
 {}
 
-/// Law: a packet that was read is in its normal form.
+/// Law: a packet that was read is in its canonical form.
 pub fn arp_normal()
     ensures { (bytes : List ℕ) (v : ArpRepr) → IsArp bytes v → normal v ≡ v }
 {}
 
-/// Law: the normal form of a normal form is itself.
+/// Law: the canonical form of a canonical form is itself.
 pub fn arp_normal_again()
     ensures { (v : ArpRepr) → normal (normal v) ≡ normal v }
 {}
 
-/// Law: a packet that was emitted is read back in its normal form, whatever follows.
+/// Law: a packet that was emitted is read back in its canonical form, whatever follows.
 pub fn arp_reads_back()
     ensures { (v : ArpRepr) (rest : List ℕ) → IsValue v → IsArp (written v ++ rest) (normal v) }
 {}
@@ -80,7 +80,7 @@ pub fn arp_written_fields_are_read()
         → slice_range (put_run bytes at (length field) field) at (at + length field) ≡ field }
 {}
 
-/// Law: where the fields of fixed places stand (RFC 826), and the length of a packet over Ethernet
+/// Law: where the fields of fixed offsets stand (RFC 826), and the length of a packet over Ethernet
 /// for IPv4.
 pub fn arp_fields()
     ensures htype { HTYPE ≡ record { start = 0; end = 2 } }

@@ -1,13 +1,13 @@
 //! A packet in a buffer, read in place.
 ghost use Rattle.std.specs.Prelude.{◌≡◌, ◌↔◌, ◌<◌, ◌≤◌, IsOk, IfOk, length, slice_index, slice_range};
-ghost use Rattle.ip_address.specs.Fields.{be16};
-ghost use Rattle.ip_address.specs.Protocol.{ether_of};
+ghost use Rattle.wire_address.specs.Fields.{be16};
+ghost use Rattle.wire_address.specs.Protocol.{ether_of};
 ghost use Rattle.ip_wire.specs.Arp.{IsWhole, hardware_of, operation_of, bytes_of, source_protocol_at, target_hardware_at, target_protocol_at, packet_end};
 
 use super::field;
 use super::kinds::{ArpHardware, ArpOperation};
-use ip_address::network_order::read_u16;
-use ip_address::{Error, EthernetProtocol};
+use wire_address::network_order::read_u16;
+use wire_address::{Error, EthernetProtocol};
 
 /// An ARP packet in a buffer, read in place.
 #[derive(Clone, Copy, Debug)]
@@ -96,8 +96,8 @@ impl<'a> ArpPacket<'a> {
         ensures { result.now
             ≡ slice_range (bytes_of self.now) 8 (source_protocol_at (bytes_of self.now)) }
     {
-        let place = field::SHA(self.buffer[field::HLEN], self.buffer[field::PLEN]);
-        &self.buffer[place.start..place.end]
+        let offset = field::SHA(self.buffer[field::HLEN], self.buffer[field::PLEN]);
+        &self.buffer[offset.start..offset.end]
     }
 
     /// The sender's protocol address.
@@ -106,8 +106,8 @@ impl<'a> ArpPacket<'a> {
         ensures { result.now
             ≡ slice_range (bytes_of self.now) (source_protocol_at (bytes_of self.now)) (target_hardware_at (bytes_of self.now)) }
     {
-        let place = field::SPA(self.buffer[field::HLEN], self.buffer[field::PLEN]);
-        &self.buffer[place.start..place.end]
+        let offset = field::SPA(self.buffer[field::HLEN], self.buffer[field::PLEN]);
+        &self.buffer[offset.start..offset.end]
     }
 
     /// The target's hardware address, which a request leaves open.
@@ -116,8 +116,8 @@ impl<'a> ArpPacket<'a> {
         ensures { result.now
             ≡ slice_range (bytes_of self.now) (target_hardware_at (bytes_of self.now)) (target_protocol_at (bytes_of self.now)) }
     {
-        let place = field::THA(self.buffer[field::HLEN], self.buffer[field::PLEN]);
-        &self.buffer[place.start..place.end]
+        let offset = field::THA(self.buffer[field::HLEN], self.buffer[field::PLEN]);
+        &self.buffer[offset.start..offset.end]
     }
 
     /// The target's protocol address.
@@ -126,7 +126,7 @@ impl<'a> ArpPacket<'a> {
         ensures { result.now
             ≡ slice_range (bytes_of self.now) (target_protocol_at (bytes_of self.now)) (packet_end (bytes_of self.now)) }
     {
-        let place = field::TPA(self.buffer[field::HLEN], self.buffer[field::PLEN]);
-        &self.buffer[place.start..place.end]
+        let offset = field::TPA(self.buffer[field::HLEN], self.buffer[field::PLEN]);
+        &self.buffer[offset.start..offset.end]
     }
 }

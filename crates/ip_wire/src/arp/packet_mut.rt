@@ -1,8 +1,8 @@
 //! A packet in a buffer, read and written in place.
 ghost use Rattle.std.specs.Prelude.{◌≡◌, ◌↔◌, ◌<◌, ◌≤◌, IsOk, IfOk, length, slice_index, slice_range};
-ghost use Rattle.ip_address.specs.Fields.{be16, put8, put16};
-ghost use Rattle.ip_address.specs.Protocol.{ether_number, ether_of};
-ghost use Rattle.ip_packet.specs.Parts.{put_run};
+ghost use Rattle.wire_address.specs.Fields.{be16, put8, put16};
+ghost use Rattle.wire_address.specs.Protocol.{ether_number, ether_of};
+ghost use Rattle.wire_ip.specs.Parts.{put_run};
 ghost use Rattle.ip_wire.specs.Arp.{IsWhole, hardware_number, hardware_of, operation_number, operation_of, bytes_in, name_of, source_protocol_at};
 ghost use Rattle.ip_wire.specs.Arp.{target_hardware_at, target_protocol_at, packet_end, written};
 
@@ -10,8 +10,8 @@ use super::field;
 use super::kinds::{ArpHardware, ArpOperation};
 use super::packet::ArpPacket;
 use crate::parts::put_slice;
-use ip_address::network_order::write_u16;
-use ip_address::{Error, EthernetProtocol};
+use wire_address::network_order::write_u16;
+use wire_address::{Error, EthernetProtocol};
 
 /// An ARP packet in a buffer, read and written in place.
 #[derive(Debug, Drop)]
@@ -174,8 +174,8 @@ impl<'a> ArpPacketMut<'a> {
         ensures bytes { bytes_in self.new
             ≡ put_run (bytes_in self.old) 8 (length value.now) value.now }
     {
-        let place = field::SHA(self.buffer[field::HLEN], self.buffer[field::PLEN]);
-        put_slice(self.buffer, place.start, value);
+        let offset = field::SHA(self.buffer[field::HLEN], self.buffer[field::PLEN]);
+        put_slice(self.buffer, offset.start, value);
     }
 
     /// Sets the sender's protocol address, of the length that the packet says.
@@ -186,8 +186,8 @@ impl<'a> ArpPacketMut<'a> {
         ensures bytes { bytes_in self.new
             ≡ put_run (bytes_in self.old) (source_protocol_at (bytes_in self.old)) (length value.now) value.now }
     {
-        let place = field::SPA(self.buffer[field::HLEN], self.buffer[field::PLEN]);
-        put_slice(self.buffer, place.start, value);
+        let offset = field::SPA(self.buffer[field::HLEN], self.buffer[field::PLEN]);
+        put_slice(self.buffer, offset.start, value);
     }
 
     /// Sets the target's hardware address, of the length that the packet says.
@@ -198,8 +198,8 @@ impl<'a> ArpPacketMut<'a> {
         ensures bytes { bytes_in self.new
             ≡ put_run (bytes_in self.old) (target_hardware_at (bytes_in self.old)) (length value.now) value.now }
     {
-        let place = field::THA(self.buffer[field::HLEN], self.buffer[field::PLEN]);
-        put_slice(self.buffer, place.start, value);
+        let offset = field::THA(self.buffer[field::HLEN], self.buffer[field::PLEN]);
+        put_slice(self.buffer, offset.start, value);
     }
 
     /// Sets the target's protocol address, of the length that the packet says.
@@ -210,7 +210,7 @@ impl<'a> ArpPacketMut<'a> {
         ensures bytes { bytes_in self.new
             ≡ put_run (bytes_in self.old) (target_protocol_at (bytes_in self.old)) (length value.now) value.now }
     {
-        let place = field::TPA(self.buffer[field::HLEN], self.buffer[field::PLEN]);
-        put_slice(self.buffer, place.start, value);
+        let offset = field::TPA(self.buffer[field::HLEN], self.buffer[field::PLEN]);
+        put_slice(self.buffer, offset.start, value);
     }
 }

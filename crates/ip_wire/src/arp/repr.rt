@@ -7,8 +7,8 @@ use super::field;
 use super::kinds::ArpOperation;
 use super::packet::ArpPacket;
 use super::packet_mut::ArpPacketMut;
-use ip_address::network_order::read_u16;
-use ip_address::{Error, EthernetAddress, Ipv4Address};
+use wire_address::network_order::read_u16;
+use wire_address::{Error, EthernetAddress, Ipv4Address};
 
 /// What a packet says.
 #[derive(Clone, Copy, Debug, PartialEq, Eq)]
@@ -61,7 +61,7 @@ impl ArpRepr {
         }
     }
 
-    /// Writes the packet, of 28 bytes, and leaves what lies behind it.
+    /// Writes the packet, of 28 bytes, and leaves what lies after it.
     pub fn emit(&self, packet: &mut ArpPacketMut)
         requires { 28 ≤ length (bytes_in packet.old) }
         ensures same_reference { name_of packet.new ≡ name_of packet.old }

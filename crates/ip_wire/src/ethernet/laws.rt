@@ -1,13 +1,13 @@
 //! Laws of the format.
 ghost use Rattle.std.specs.Prelude.{◌≡◌, ℕ, ◌+◌, ◌≤◌, List, ◌++◌, length, drop, ◌↔◌, IsTrue, ◌<◌, ◌^◌, slice_range};
-ghost use Rattle.ip_address.specs.Fields.{IsBytes, be16, put16};
+ghost use Rattle.wire_address.specs.Fields.{IsBytes, be16, put16};
 ghost use Rattle.ip_wire.specs.Ethernet.{IsEthernet, IsValue, payload_of, written, normal};
-ghost use Rattle.ip_address.specs.Protocol.{ether_number, ether_of};
-ghost use Rattle.ip_packet.specs.Parts.{put_run};
+ghost use Rattle.wire_address.specs.Protocol.{ether_number, ether_of};
+ghost use Rattle.wire_ip.specs.Parts.{put_run};
 
 use super::field::{DESTINATION, ETHERTYPE, HEADER_LEN, PAYLOAD, SOURCE};
 use super::repr::EthernetRepr;
-use ip_address::EthernetProtocol;
+use wire_address::EthernetProtocol;
 
 /// Law: a frame is spelled by its header, and then come payload and padding.
 pub fn ethernet_spelled()
@@ -29,17 +29,17 @@ pub fn ethernet_fits()
     ensures { (bytes : List ℕ) (v : EthernetRepr) → IsBytes bytes → IsEthernet bytes v → IsValue v }
 {}
 
-/// Law: a header that was read is in its normal form.
+/// Law: a header that was read is in its canonical form.
 pub fn ethernet_normal()
     ensures { (bytes : List ℕ) (v : EthernetRepr) → IsEthernet bytes v → normal v ≡ v }
 {}
 
-/// Law: the normal form of a normal form is itself.
+/// Law: the canonical form of a canonical form is itself.
 pub fn ethernet_normal_again()
     ensures { (v : EthernetRepr) → normal (normal v) ≡ normal v }
 {}
 
-/// Law: a frame whose header was emitted is read back in its normal form, whatever follows.
+/// Law: a frame whose header was emitted is read back in its canonical form, whatever follows.
 pub fn ethernet_reads_back()
     ensures { (v : EthernetRepr) (rest : List ℕ)
         → IsValue v

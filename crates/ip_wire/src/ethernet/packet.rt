@@ -1,12 +1,12 @@
 //! A frame in a buffer, read in place.
 ghost use Rattle.std.specs.Prelude.{◌≡◌, ◌↔◌, ◌+◌, ◌<◌, ◌≤◌, ◌^◌, IsOk, IfOk, length, slice_range};
-ghost use Rattle.ip_address.specs.Fields.{be16};
-ghost use Rattle.ip_address.specs.Protocol.{ether_of};
+ghost use Rattle.wire_address.specs.Fields.{be16};
+ghost use Rattle.wire_address.specs.Protocol.{ether_of};
 ghost use Rattle.ip_wire.specs.Ethernet.{IsWhole, bytes_of, payload_of};
 
 use super::field;
-use ip_address::network_order::read_u16;
-use ip_address::{Error, EthernetAddress, EthernetProtocol};
+use wire_address::network_order::read_u16;
+use wire_address::{Error, EthernetAddress, EthernetProtocol};
 
 /// An Ethernet frame in a buffer, read in place.
 #[derive(Clone, Copy, Debug)]

@@ -1,15 +1,15 @@
 //! A frame in a buffer, read and written in place.
 ghost use Rattle.std.specs.Prelude.{◌≡◌, ◌↔◌, ◌+◌, ◌<◌, ◌≤◌, ◌^◌, IsOk, IfOk, length, slice_range};
-ghost use Rattle.ip_address.specs.Fields.{be16, put16};
-ghost use Rattle.ip_address.specs.Protocol.{ether_number, ether_of};
-ghost use Rattle.ip_packet.specs.Parts.{put_run};
+ghost use Rattle.wire_address.specs.Fields.{be16, put16};
+ghost use Rattle.wire_address.specs.Protocol.{ether_number, ether_of};
+ghost use Rattle.wire_ip.specs.Parts.{put_run};
 ghost use Rattle.ip_wire.specs.Ethernet.{IsWhole, bytes_in, name_of, payload_of, written};
 
 use super::field;
 use super::packet::EthernetFrame;
 use crate::parts::put6;
-use ip_address::network_order::write_u16;
-use ip_address::{Error, EthernetAddress, EthernetProtocol};
+use wire_address::network_order::write_u16;
+use wire_address::{Error, EthernetAddress, EthernetProtocol};
 
 /// An Ethernet frame in a buffer, read and written in place.
 #[derive(Debug, Drop)]

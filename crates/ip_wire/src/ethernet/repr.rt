@@ -7,7 +7,7 @@ ghost use Rattle.ip_wire.specs.declared.ethernet.repr.EthernetRepr.{EthernetRepr
 use super::field;
 use super::packet::EthernetFrame;
 use super::packet_mut::EthernetFrameMut;
-use ip_address::{Error, EthernetAddress, EthernetProtocol};
+use wire_address::{Error, EthernetAddress, EthernetProtocol};
 
 /// The header of a frame.
 #[derive(Clone, Copy, Debug, PartialEq, Eq)]
@@ -38,7 +38,7 @@ impl EthernetRepr {
         field::HEADER_LEN
     }
 
-    /// Writes the header, of 14 bytes, and leaves what lies behind it.
+    /// Writes the header, of 14 bytes, and leaves what lies after it.
     pub fn emit(&self, frame: &mut EthernetFrameMut)
         requires { 14 ≤ length (bytes_in frame.old) }
         ensures same_reference { name_of frame.new ≡ name_of frame.old }

@@ -1,6 +1,6 @@
 //! Laws of the format.
 ghost use Rattle.std.specs.Prelude.{◌≡◌, ℕ, ◌+◌, ◌/◌, ◌≤◌, List, ◌++◌, length, drop, ◌↔◌, IsTrue, Bool, ◌*◌, ◌%◌, ◌==◌, ◌<◌, ◌^◌, slice_index};
-ghost use Rattle.ip_address.specs.Fields.{IsBytes, be16, put8, put16, with_flag};
+ghost use Rattle.wire_address.specs.Fields.{IsBytes, be16, put8, put16, with_flag};
 ghost use Rattle.ip_wire.specs.Fragment.{IsFragment, IsValue, reserved_of, spelling, written, normal};
 
 use super::field::{FR_OF_M, HEADER_LEN, IDENT, M};
@@ -27,7 +27,7 @@ pub fn ipv6_fragment_fits()
         → IsValue v }
 {}
 
-/// Law: a fragment header that was read is in its normal form.
+/// Law: a fragment header that was read is in its canonical form.
 pub fn ipv6_fragment_normal()
     ensures { (bytes : List ℕ) (v : Ipv6FragmentRepr)
         → IsBytes bytes
@@ -35,12 +35,12 @@ pub fn ipv6_fragment_normal()
         → normal v ≡ v }
 {}
 
-/// Law: the normal form of a normal form is itself.
+/// Law: the canonical form of a canonical form is itself.
 pub fn ipv6_fragment_normal_again()
     ensures { (v : Ipv6FragmentRepr) → normal (normal v) ≡ normal v }
 {}
 
-/// Law: a fragment header that was emitted is read back in its normal form, whatever follows.
+/// Law: a fragment header that was emitted is read back in its canonical form, whatever follows.
 pub fn ipv6_fragment_reads_back()
     ensures { (v : Ipv6FragmentRepr) (rest : List ℕ)
         → IsValue v

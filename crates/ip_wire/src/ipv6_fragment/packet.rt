@@ -1,13 +1,13 @@
 //! A header in a buffer, read in place.
 ghost use Rattle.std.specs.Prelude.{◌≡◌, ◌↔◌, ◌/◌, ◌%◌, ◌<◌, ◌≤◌, ◌==◌, IsOk, IfOk, length, slice_index};
-ghost use Rattle.ip_address.specs.Fields.{be16, be32};
+ghost use Rattle.wire_address.specs.Fields.{be16, be32};
 ghost use Rattle.ip_wire.specs.Fragment.{IsWhole, bytes_of};
 
 use super::field;
-use ip_address::Error;
-use ip_address::network_order::{read_u16, read_u32};
+use wire_address::Error;
+use wire_address::network_order::{read_u16, read_u32};
 
-/// The header of a piece of an IPv6 datagram in a buffer, read in place.
+/// The header of a fragment of an IPv6 datagram in a buffer, read in place.
 #[derive(Clone, Copy, Debug)]
 pub struct Ipv6FragmentHeader<'a> {
     pub(super) buffer: &'a [u8],
@@ -56,7 +56,7 @@ impl<'a> Ipv6FragmentHeader<'a> {
         self.first_half() >> 3
     }
 
-    /// Whether a later piece of the same datagram follows.
+    /// Whether a later fragment of the same datagram follows.
     pub fn more_frags(&self) -> bool
         requires { 6 ≤ length (bytes_of self.now) }
         ensures { result ≡ (slice_index (bytes_of self.now) 1 % 2 == 1) }
@@ -64,7 +64,7 @@ impl<'a> Ipv6FragmentHeader<'a> {
         self.buffer[field::M] & 1 == 1
     }
 
-    /// The identification, which the pieces of one datagram share.
+    /// The identification, which the fragments of one datagram share.
     pub fn ident(&self) -> u32
         requires { 6 ≤ length (bytes_of self.now) }
         ensures { result ≡ be32 (bytes_of self.now) 2 }

@@ -1,14 +1,14 @@
 //! A header in a buffer, read and written in place.
 ghost use Rattle.std.specs.Prelude.{◌≡◌, ◌↔◌, ◌+◌, ◌*◌, ◌/◌, ◌%◌, ◌<◌, ◌≤◌, ◌^◌, ◌==◌, IsOk, IfOk, length, slice_index};
-ghost use Rattle.ip_address.specs.Fields.{be16, be32, put8, put16, put32, with_flag};
+ghost use Rattle.wire_address.specs.Fields.{be16, be32, put8, put16, put32, with_flag};
 ghost use Rattle.ip_wire.specs.Fragment.{IsWhole, bytes_in, name_of, written};
 
 use super::field;
 use super::packet::Ipv6FragmentHeader;
-use ip_address::Error;
-use ip_address::network_order::{write_u16, write_u32};
+use wire_address::Error;
+use wire_address::network_order::{write_u16, write_u32};
 
-/// The header of a piece of an IPv6 datagram in a buffer, read and written in place.
+/// The header of a fragment of an IPv6 datagram in a buffer, read and written in place.
 #[derive(Debug, Drop)]
 pub struct Ipv6FragmentHeaderMut<'a> {
     pub(super) buffer: &'a mut [u8],
@@ -56,7 +56,7 @@ impl<'a> Ipv6FragmentHeaderMut<'a> {
         Ipv6FragmentHeader::new_unchecked(self.buffer).frag_offset()
     }
 
-    /// Whether a later piece of the same datagram follows.
+    /// Whether a later fragment of the same datagram follows.
     pub fn more_frags(&self) -> bool
         requires { 6 ≤ length (bytes_in self.now) }
         ensures { result ≡ (slice_index (bytes_in self.now) 1 % 2 == 1) }
@@ -64,7 +64,7 @@ impl<'a> Ipv6FragmentHeaderMut<'a> {
         Ipv6FragmentHeader::new_unchecked(self.buffer).more_frags()
     }
 
-    /// The identification, which the pieces of one datagram share.
+    /// The identification, which the fragments of one datagram share.
     pub fn ident(&self) -> u32
         requires { 6 ≤ length (bytes_in self.now) }
         ensures { result ≡ be32 (bytes_in self.now) 2 }

@@ -7,9 +7,9 @@ ghost use Rattle.ip_wire.specs.declared.ipv6_fragment.repr.Ipv6FragmentRepr.{Ipv
 use super::field;
 use super::packet::Ipv6FragmentHeader;
 use super::packet_mut::Ipv6FragmentHeaderMut;
-use ip_address::Error;
+use wire_address::Error;
 
-/// The place of a piece in its datagram.
+/// The place of a fragment in its datagram.
 #[derive(Clone, Copy, Debug, PartialEq, Eq)]
 pub struct Ipv6FragmentRepr {
     /// In units of eight bytes, of 13 bits.
@@ -19,7 +19,7 @@ pub struct Ipv6FragmentRepr {
 }
 
 impl Ipv6FragmentRepr {
-    /// The place that the header in the bytes gives.
+    /// The offset that the header in the bytes gives.
     pub fn parse(header: &Ipv6FragmentHeader) -> Result<Ipv6FragmentRepr, Error>
         ensures found { IfOk result (λ v. IsFragment (bytes_of header.now) v) }
         ensures only { (v : Ipv6FragmentRepr) → IsFragment (bytes_of header.now) v → result ≡ Ok v }
@@ -39,7 +39,7 @@ impl Ipv6FragmentRepr {
         field::HEADER_LEN
     }
 
-    /// Writes the header, of 6 bytes, and leaves what lies behind it.
+    /// Writes the header, of 6 bytes, and leaves what lies after it.
     pub fn emit(&self, header: &mut Ipv6FragmentHeaderMut)
         requires { 6 ≤ length (bytes_in header.old) }
         ensures same_reference { name_of header.new ≡ name_of header.old }

@@ -1,9 +1,9 @@
 pub mod CallLemmas
 pub mod TableLemmas
-pub mod PartnerLemmas
+pub mod PeerSideLemmas
 pub mod Lists
 pub mod Queues
-pub mod Places
+pub mod Slots
 pub mod DatagramInvariant
 pub mod DatagramCalls
 pub mod DatagramMoves

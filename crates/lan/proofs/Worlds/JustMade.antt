@@ -7,15 +7,15 @@ use Rattle.net_base.specs.Capabilities.{ip_mtu}
 use Rattle.net_base.specs.Medium.{Medium}
 use Rattle.net_base.specs.Medium.TheVariants as Medium
 use Rattle.interface.specs.Made.{IsIdle}
-use Rattle.interface_tables.specs.Settings.{is_of_medium}
+use Rattle.iface_tables.specs.Settings.{is_of_medium}
 use Rattle.lan.specs.Worlds.AtLink.Tables.{no_record}
 use Rattle.lan.specs.declared.at_link.history.event.Side.{Side}
 use Rattle.lan.specs.declared.at_link.history.event.Side.TheVariants.{A, B}
 use Rattle.lan.specs.Worlds.AtLink.Port.{LinkEnd}
-use Rattle.lan.specs.Worlds.AtLink.Fresh.{IsTypedHost, IsFreshStart}
+use Rattle.lan.specs.Worlds.AtLink.Initial.{IsTypedHost, IsInitialStart}
 use Rattle.lan.specs.Worlds.AtLink.Runs.{unused, unused_both, table_in}
-use Rattle.lan.specs.Worlds.AtLink.Station.{StationValue}
-use Rattle.lan.specs.Worlds.Come.{start_of, starts_of, both, tables, HasCome}
+use Rattle.lan.specs.Worlds.AtLink.Node.{NodeValue}
+use Rattle.lan.specs.Worlds.Provenance.{start_of, starts_of, both, tables, HasCome}
 use Rattle.lan.specs.Worlds.New.{has_one_medium, has_checksums, has_mtu, has_buffers, of_each, is_fresh, first_error, new_error}
 use Rattle.lan.specs.declared.error.WorldError.TheVariants as Since
 use Rattle.lan.proofs.Worlds.Unused.{empty, on_is, unused_at}
@@ -27,12 +27,12 @@ record Passes (m c u r f : Bool) : Type 0 where
   checksums : c ≡ true
   mtus : u ≡ true
   rooms : r ≡ true
-  fresh : f ≡ true
+  initial : f ≡ true
 
 five : (m c u r f : Bool)
     → first_error ((not m, Since.Media) ∷ (not c, Since.Checksums) ∷ (not u, Since.Mtu) ∷ (not r, Since.Buffers) ∷ (not f, Since.NotFresh) ∷ []) ≡ None
     → Passes m c u r f
-five true true true true true h = record { medium = refl; checksums = refl; mtus = refl; rooms = refl; fresh = refl }
+five true true true true true h = record { medium = refl; checksums = refl; mtus = refl; rooms = refl; initial = refl }
 five false c u r f h = cc
 five true false u r f h = cc
 five true true false r f h = cc
@@ -50,10 +50,10 @@ same_medium (Hardware.Ethernet a) Medium.Ip Medium.Ethernet p q = absurd (false�
 
 -- A HOST
 
-module _ (s : StationValue) (fresh : is_fresh s ≡ true) where
-  parts : (s.host.inner.fresh ≡ true) × (s.link.sent ≡ []) × (s.link.waiting ≡ [])
+module _ (s : NodeValue) (initial : is_fresh s ≡ true) where
+  parts : (s.host.inner.initial ≡ true) × (s.link.sent ≡ []) × (s.link.waiting ≡ [])
   parts =
-      let p = and_parts _ _ fresh in
+      let p = and_parts _ _ initial in
       let q = and_parts _ _ p.0 in
       let r = and_parts _ _ q.0 in
       (r.0, empty s.link.sent r.1, empty s.link.waiting q.1)
@@ -64,14 +64,14 @@ module _ (s : StationValue) (fresh : is_fresh s ≡ true) where
       λ waiting sent. record { waiting = waiting; sent = sent; room = s.link.room; refusals = s.link.refusals; capabilities = s.link.capabilities } in
       let link : s.link ≡ end [] [] = ap (λ (frames : List (List ℕ)). end frames s.link.sent) parts.2 ∙
       ap (λ (frames : List (List ℕ)). end [] frames) parts.1 in
-      ap (λ (l : LinkEnd). let t : StationValue = record { host = s.host; places = s.places; link = l } in t) link
+      ap (λ (l : LinkEnd). let t : NodeValue = record { host = s.host; slots = s.slots; link = l } in t) link
 
-  pub table_is : (side : Side) → table_in [] side s ≡ record { records = replicate (length s.places) no_record; numbered = 0 }
+  pub table_is : (side : Side) → table_in [] side s ≡ record { records = replicate (length s.slots) no_record; numbered = 0 }
   table_is side = rw parts.1 refl
 
   pub start_is : is_of_medium s.host.inner.hardware s.link.capabilities.medium ≡ true → has_checksums s ≡ true → has_mtu s ≡ true →
-      IsIdle s.host.left s.host.slots
-      → s.host.inner.neighbors.entries ≡ [] → IsTypedHost s.host.inner → IsFreshStart (start_of s)
+      IsIdle s.host.left s.host.assemblers
+      → s.host.inner.neighbors.entries ≡ [] → IsTypedHost s.host.inner → IsInitialStart (start_of s)
   start_is medium checksums mtu idle unknown typed =
       let c = and_parts _ _ checksums in
       let m = and_parts _ _ mtu in
@@ -82,42 +82,42 @@ module _ (s : StationValue) (fresh : is_fresh s ≡ true) where
         device_checksums = on_is s.link.capabilities.checksum c.0;
         mtu = rw own m.0;
         own_mtu = own;
-        fresh = parts.0;
+        initial = parts.0;
         idle = idle;
         unknown = unknown;
         typed = typed;
-        sockets = λ i socket is. unused_at s.places i socket (and_parts _ _ fresh).1 is;
+        sockets = λ i socket is. unused_at s.slots i socket (and_parts _ _ initial).1 is;
       }
 
 -- BOTH
 
-module _ (a b : StationValue) (none : new_error a b ≡ None) where
+module _ (a b : NodeValue) (none : new_error a b ≡ None) where
   passes : Passes (has_one_medium a b) (has_checksums a && has_checksums b) (has_mtu a && has_mtu b) (of_each has_buffers a && of_each has_buffers b)
       (is_fresh a && is_fresh b)
   passes = five _ _ _ _ _ none
 
-  fresh_a : is_fresh a ≡ true
-  fresh_a = (and_parts _ _ passes.fresh).0
+  initial_a : is_fresh a ≡ true
+  initial_a = (and_parts _ _ passes.initial).0
 
-  fresh_b : is_fresh b ≡ true
-  fresh_b = (and_parts _ _ passes.fresh).1
+  initial_b : is_fresh b ≡ true
+  initial_b = (and_parts _ _ passes.initial).1
 
-  pub begun : IsIdle a.host.left a.host.slots → IsIdle b.host.left b.host.slots → a.host.inner.neighbors.entries ≡ [] → b.host.inner.neighbors.entries ≡ [] →
+  pub begun : IsIdle a.host.left a.host.assemblers → IsIdle b.host.left b.host.assemblers → a.host.inner.neighbors.entries ≡ [] → b.host.inner.neighbors.entries ≡ [] →
       IsTypedHost a.host.inner → IsTypedHost b.host.inner
-      → HasCome a b a b (record { records = replicate (length a.places) no_record; numbered = 0 })
-      (record { records = replicate (length b.places) no_record; numbered = 0 }) []
+      → HasCome a b a b (record { records = replicate (length a.slots) no_record; numbered = 0 })
+      (record { records = replicate (length b.slots) no_record; numbered = 0 }) []
   begun idle_a idle_b unknown_a unknown_b typed_a typed_b =
       let m = and_parts _ _ passes.medium in
       let n = and_parts _ _ m.0 in
       let c = and_parts _ _ passes.checksums in
       let u = and_parts _ _ passes.mtus in
-      let start_a : IsFreshStart (start_of a) = start_is a fresh_a n.0 c.0 u.0 idle_a unknown_a typed_a in
-      let start_b : IsFreshStart (start_of b) = start_is b fresh_b m.1 c.1 u.1 idle_b unknown_b typed_b in
-      let of_both : (x y : StationValue) → x ≡ unused (start_of a) → y ≡ unused (start_of b) → both x y ≡ unused_both (starts_of a b) =
+      let start_a : IsInitialStart (start_of a) = start_is a initial_a n.0 c.0 u.0 idle_a unknown_a typed_a in
+      let start_b : IsInitialStart (start_of b) = start_is b initial_b m.1 c.1 u.1 idle_b unknown_b typed_b in
+      let of_both : (x y : NodeValue) → x ≡ unused (start_of a) → y ≡ unused (start_of b) → both x y ≡ unused_both (starts_of a b) =
       λ x y p q. rw (p, q) refl in
       record {
-        fresh = record { a = start_a; b = start_b; medium = same_medium a.host.inner.hardware a.link.capabilities.medium b.link.capabilities.medium n.0 n.1 };
-        run = of_both a b (unused_is a fresh_a) (unused_is b fresh_b);
-        tables = rw (table_is a fresh_a A, table_is b fresh_b B) refl;
+        initial = record { a = start_a; b = start_b; medium = same_medium a.host.inner.hardware a.link.capabilities.medium b.link.capabilities.medium n.0 n.1 };
+        run = of_both a b (unused_is a initial_a) (unused_is b initial_b);
+        tables = rw (table_is a initial_a A, table_is b initial_b B) refl;
         typed = tt;
       }

@@ -1,49 +1,49 @@
 -- Each thing that a poll does keeps what is said of the link.
 use Rattle.std.proofs.Common.{◌≡◌, ◌⊎◌, inl, inr, ℕ, ◌+◌, ◌≤◌, ℤ, Bool, true, false, List, ◌∷◌, Option, Some, None, is_some, refl, sym, ap, subst, arith}
-use Rattle.lan_base.specs.ChecksumCapabilities.{ChecksumCapabilities}
-use Rattle.lan_base.specs.Device.{Took, Empty, Allowed}
+use Rattle.sim_link.specs.ChecksumCapabilities.{ChecksumCapabilities}
+use Rattle.sim_link.specs.Device.{Took, Empty, Allowed}
 use Rattle.interface.specs.Ip as Ips
 use Rattle.interface.specs.Ip.{source_of, destination_of}
-use Rattle.interface_ingress.specs.IpAddress.{IpAddress}
+use Rattle.iface_ingress.specs.IpAddress.{IpAddress}
 use Rattle.interface.specs.IpRepr.{IpRepr}
 use Rattle.interface.specs.IpRepr.TheVariants as Ip
 use Rattle.sockets.specs.Packet.{PacketValue, PayloadValue, ControlV4, ControlV6, Bytes, Datagram, Segment, payload_written}
-use Rattle.interface_tables.specs.Inner.{InnerValue, at_moment}
-use Rattle.interface_tables.specs.Slots.{without_expired}
-use Rattle.interface_egress.specs.Departing.{HasSettingsOf, SendsOnce, departure_by, was_taken}
-use Rattle.interface_egress.specs.Departure.{Departure, Tells}
-use Rattle.interface_egress.specs.Emits.{Emits}
-use Rattle.interface_egress.specs.Fragments.{LeftValue, departure_from}
-use Rattle.interface_egress.specs.GoesOut.{Departs, GoesOut, PieceGoesOut, frame_of, frame_len_of}
-use Rattle.interface_egress.specs.Plan.{plan_of}
-use Rattle.interface_egress.specs.declared.way_out.Sent.{Sent}
-use Rattle.interface_egress.specs.declared.way_out.Sent.TheVariants as Outcome
-use Rattle.interface_egress.proofs.Changes.{changes, piece_sends, same_settings}
-use Rattle.interface_ingress.specs.Arrives.{Arrived, ArrivesAs, whole_after}
-use Rattle.interface_ingress.specs.Delivered.{Places}
-use Rattle.interface_ingress.specs.Incoming.{IncomingValue, Arp, Ip4, Ip6, IsContent}
-use Rattle.interface_ingress.specs.Reassembled.{Slots, taken_in}
-use Rattle.interface_ingress.specs.Sent.{CanBeRead, normal_payload}
+use Rattle.iface_tables.specs.Inner.{InnerValue, at_instant}
+use Rattle.iface_tables.specs.Assemblers.{without_expired}
+use Rattle.iface_egress.specs.Departing.{HasSettingsOf, SendsOnce, departure_by, was_taken}
+use Rattle.iface_egress.specs.Departure.{Departure, Tells}
+use Rattle.iface_egress.specs.Emits.{Emits}
+use Rattle.iface_egress.specs.Fragments.{LeftValue, departure_from}
+use Rattle.iface_egress.specs.IsTransmitted.{Departs, IsTransmitted, FragmentIsTransmitted, frame_of, frame_len_of}
+use Rattle.iface_egress.specs.Plan.{plan_of}
+use Rattle.iface_egress.specs.declared.egress_path.Sent.{Sent}
+use Rattle.iface_egress.specs.declared.egress_path.Sent.TheVariants as Outcome
+use Rattle.iface_egress.proofs.Changes.{changes, fragment_sends, same_settings}
+use Rattle.iface_ingress.specs.Arrives.{Arrived, ArrivesAs, whole_after}
+use Rattle.iface_ingress.specs.Delivered.{Slots}
+use Rattle.iface_ingress.specs.Incoming.{IncomingValue, Arp, Ip4, Ip6, IsContent}
+use Rattle.iface_ingress.specs.Reassembled.{Assemblers, taken_in}
+use Rattle.iface_ingress.specs.Sent.{CanBeRead, normal_payload}
 use Rattle.interface.specs.Polls.{begun}
-use Rattle.interface.specs.Turn.{is_done}
-use Rattle.interface_ingress.specs.ArpRepr.{ArpRepr}
-use Rattle.interface_ingress.specs.Arrives as Replies
-use Rattle.interface_ingress.proofs.Settings.{brings_same}
+use Rattle.interface.specs.Serve.{is_done}
+use Rattle.iface_ingress.specs.ArpRepr.{ArpRepr}
+use Rattle.iface_ingress.specs.Arrives as Replies
+use Rattle.iface_ingress.proofs.Settings.{brings_same}
 use Rattle.interface.specs.State.{State, state, at_device}
 use Rattle.lan.specs.Worlds.AtLink.Port.{PortValue, PortMove}
 use Rattle.lan.specs.Worlds.AtLink.Parties.{Party}
-use Rattle.tcp_tie.specs.Host.{made_of}
+use Rattle.tcp_refinement.specs.Host.{made_of}
 use Rattle.lan.specs.Worlds.Moves.Made as Moves
-use Rattle.lan.specs.Worlds.Moves.Made.{Grows, MadeBy, IsMade, IsWide, FitsBehind, datagram_of}
+use Rattle.lan.specs.Worlds.Moves.Made.{Grows, MadeBy, IsMade, IsWide, FitsFollowing, datagram_of}
 use Rattle.lan.specs.Worlds.Link.Made as Links
 use Rattle.lan.specs.Worlds.Link.Made.{sealed, CarriesNone, IsGoing}
 use Rattle.lan.specs.Worlds.Link.Frames.{Outgoing, medium_on}
 use Rattle.lan.specs.Worlds.Link.Numbers.{IsTied}
 use Rattle.lan.proofs.Worlds.Link.Begun.{tied_trans, tied_on}
-use Rattle.lan.specs.Worlds.Link.Sides.{IsSender, IsReceiver, IsSound, HasSixBytes, IsStation, WentOut}
+use Rattle.lan.specs.Worlds.Link.Sides.{IsSender, IsReceiver, IsSound, HasSixBytes, IsNode, WasSentOut}
 use Rattle.lan.proofs.Worlds.Link.Grown.{sent_grows, more_out}
-use Rattle.lan.proofs.Worlds.Link.Sends.{goes_keeps, unsent_keeps, piece_keeps, tells_keeps}
-use Rattle.lan.proofs.Worlds.Link.Stations.{arrival_keeps_sender, sender_settled}
+use Rattle.lan.proofs.Worlds.Link.Sends.{goes_keeps, unsent_keeps, fragment_keeps, tells_keeps}
+use Rattle.lan.proofs.Worlds.Link.Nodes.{arrival_keeps_sender, sender_settled}
 use Rattle.lan.proofs.Worlds.Link.Taken.{taken_was_made, taken_keeps, skipped_keeps, expired_receiver, receiver_same}
 use Rattle.lan.specs.Worlds.Moves.Link.{IsLink}
 use Rattle.lan.specs.Worlds.Linked.{IsOther, IsLinked}
@@ -68,7 +68,7 @@ taken_sent t d d' frame is = sym (ap (λ (p : PortValue). p.link.sent) is.1)
 -- WHAT WAS MADE
 
 -- what goes has the form that the link wants
-going_by : (p : Party) (from to : IpAddress) (h : IpRepr) (x : PayloadValue) → FitsBehind h x → MadeBy p from to (normal_payload x) →
+going_by : (p : Party) (from to : IpAddress) (h : IpRepr) (x : PayloadValue) → FitsFollowing h x → MadeBy p from to (normal_payload x) →
     CarriesNone (Ips.normal h) (payload_written sealed h x) ⊎ (CanBeRead h x × MadeBy p from to (normal_payload x))
 going_by p from to h (ControlV4 message bytes) fits made = inr (fits, tt)
 going_by p from to h (ControlV6 message bytes) fits made = inr (fits, tt)
@@ -113,13 +113,13 @@ pub brings_so : (q : Party) (caps : ChecksumCapabilities) (content : Option Inco
     Moves.BringsMade q caps content
 brings_so q caps None are brings = tt
 brings_so q caps (Some (Arp link packet)) are brings = tt
-brings_so q caps (Some (Ip4 link h piece x)) are brings = hands_so q caps (Ip.Ipv4 h) x are brings
+brings_so q caps (Some (Ip4 link h fragment x)) are brings = hands_so q caps (Ip.Ipv4 h) x are brings
 brings_so q caps (Some (Ip6 link h x)) are brings = hands_so q caps (Ip.Ipv6 h) x are brings
 
 -- A HOST WITH OTHER MOMENT
 
-pub moment_sound : (t : ℤ) (i : InnerValue) → IsSound i → IsSound (at_moment t i)
-moment_sound t i s = record {
+pub instant_sound : (t : ℤ) (i : InnerValue) → IsSound i → IsSound (at_instant t i)
+instant_sound t i s = record {
   own = s.own;
   neighbors = s.neighbors;
   routers = s.routers;
@@ -131,8 +131,8 @@ module _ (q : Party) (others base : List Outgoing) (first : ℕ) (before : List 
   abbrev L : ℕ → State PortValue → Party → Type 0
   L m s p = IsLinked q others base first before m s p
 
-  pub grown : (s : State PortValue) (places : Places) (p p' : Party) → Grows p p' → L n s p → L n (state s.device s.host places) p'
-  grown s places p p' grows l = record {
+  pub grown : (s : State PortValue) (slots : Slots) (p p' : Party) → Grows p p' → L n s p → L n (state s.device s.host slots) p'
+  grown s slots p p' grows l = record {
     out = l.out;
     more = l.more;
     sender = sender_grows p p' first s.host.inner s.host.left s.device.link.sent l.out grows l.sender;
@@ -145,10 +145,10 @@ module _ (q : Party) (others base : List Outgoing) (first : ℕ) (before : List 
   maintenance t s p l = record {
     out = l.out;
     more = l.more;
-    sender = sender_settled (MadeBy p) first l.out s.host.inner (at_moment t s.host.inner) s.host.left s.device.link.sent refl refl
-        (moment_sound t s.host.inner l.sender.sound) l.sender;
-    receiver = receiver_same (MadeBy q) others s.host.inner (at_moment t s.host.inner) (without_expired s.host.slots t) s.device.link.waiting refl refl
-        (expired_receiver (MadeBy q) others s.host.inner s.host.slots s.device.link.waiting t l.receiver);
+    sender = sender_settled (MadeBy p) first l.out s.host.inner (at_instant t s.host.inner) s.host.left s.device.link.sent refl refl
+        (instant_sound t s.host.inner l.sender.sound) l.sender;
+    receiver = receiver_same (MadeBy q) others s.host.inner (at_instant t s.host.inner) (without_expired s.host.assemblers t) s.device.link.waiting refl refl
+        (expired_receiver (MadeBy q) others s.host.inner s.host.assemblers s.device.link.waiting t l.receiver);
     count = l.count;
     tied = l.tied;
   }
@@ -157,83 +157,83 @@ module _ (q : Party) (others base : List Outgoing) (first : ℕ) (before : List 
   same_device : (s : State PortValue) (p : Party) (d : PortValue) → d ≡ s.device → L n s p → L n (at_device s d) p
   same_device s p d same l = subst (λ (x : PortValue). L n (at_device s x) p) (sym same) l
 
-  pub looks : (s : State PortValue) (p : Party) (d : PortValue) → PortMove s.device (Empty s.host.inner.moment) d → L n s p → L n (at_device s d) p
+  pub looks : (s : State PortValue) (p : Party) (d : PortValue) → PortMove s.device (Empty s.host.inner.instant) d → L n s p → L n (at_device s d) p
   looks s p d move l = same_device s p d move.0 l
 
-  pub leave : (s : State PortValue) (p : Party) (given : Bool) (d : PortValue) → PortMove s.device (Allowed s.host.inner.moment given) d → L n s p →
+  pub leave : (s : State PortValue) (p : Party) (given : Bool) (d : PortValue) → PortMove s.device (Allowed s.host.inner.instant given) d → L n s p →
       L n (at_device s d) p
   leave s p given d move l = same_device s p d move.0 l
 
   -- A FRAME IS TAKEN
 
-  waits_first : (s : State PortValue) (p : Party) (frame : List ℕ) (d : PortValue) → PortMove s.device (Took s.host.inner.moment frame) d → L n s p →
-      IsReceiver (MadeBy q) others s.host.inner s.host.slots (frame ∷ d.link.waiting)
+  waits_first : (s : State PortValue) (p : Party) (frame : List ℕ) (d : PortValue) → PortMove s.device (Took s.host.inner.instant frame) d → L n s p →
+      IsReceiver (MadeBy q) others s.host.inner s.host.assemblers (frame ∷ d.link.waiting)
   waits_first s p frame d move l =
-      subst (λ (w : List (List ℕ)). IsReceiver (MadeBy q) others s.host.inner s.host.slots w) (taken_frame s.host.inner.moment s.device d frame move) l.receiver
+      subst (λ (w : List (List ℕ)). IsReceiver (MadeBy q) others s.host.inner s.host.assemblers w) (taken_frame s.host.inner.instant s.device d frame move) l.receiver
 
-  pub skips : (s : State PortValue) (p : Party) (frame : List ℕ) (d : PortValue) → PortMove s.device (Took s.host.inner.moment frame) d → L n s p →
+  pub skips : (s : State PortValue) (p : Party) (frame : List ℕ) (d : PortValue) → PortMove s.device (Took s.host.inner.instant frame) d → L n s p →
       L n (at_device s d) p
   skips s p frame d move l = record {
     out = l.out;
     more = l.more;
     sender = subst (λ (w : List (List ℕ)). IsSender (MadeBy p) first s.host.inner s.host.left w l.out)
-        (sym (taken_sent s.host.inner.moment s.device d frame move)) l.sender;
-    receiver = skipped_keeps (MadeBy q) others s.host.inner s.host.slots frame d.link.waiting (waits_first s p frame d move l);
+        (sym (taken_sent s.host.inner.instant s.device d frame move)) l.sender;
+    receiver = skipped_keeps (MadeBy q) others s.host.inner s.host.assemblers frame d.link.waiting (waits_first s p frame d move l);
     count = l.count;
     tied = subst (λ (w : List (List ℕ)). IsTied (medium_on s.host.inner.hardware) base before l.out w)
-        (sym (taken_sent s.host.inner.moment s.device d frame move)) l.tied;
+        (sym (taken_sent s.host.inner.instant s.device d frame move)) l.tied;
   }
 
   module _ (start next : ℕ) (other : IsOther q start next others) where
     pub brings : (s : State PortValue) (p : Party) (frame : List ℕ) (d : PortValue) (content : Option IncomingValue) →
-        PortMove s.device (Took s.host.inner.moment frame) d →
+        PortMove s.device (Took s.host.inner.instant frame) d →
         IsContent s.host.inner.hardware s.host.inner.checksums frame content → L n s p
-        → Moves.BringsMade q s.host.inner.checksums (whole_after s.host.inner s.host.timeout s.host.slots (taken_in s.host.inner content))
+        → Moves.BringsMade q s.host.inner.checksums (whole_after s.host.inner s.host.timeout s.host.assemblers (taken_in s.host.inner content))
     brings s p frame d content move is l =
-        brings_so q s.host.inner.checksums (whole_after s.host.inner s.host.timeout s.host.slots (taken_in s.host.inner content)) l.receiver.checksums
-        (taken_was_made (MadeBy q) start others next other.sent other.few s.host.inner s.host.timeout s.host.slots frame d.link.waiting content
+        brings_so q s.host.inner.checksums (whole_after s.host.inner s.host.timeout s.host.assemblers (taken_in s.host.inner content)) l.receiver.checksums
+        (taken_was_made (MadeBy q) start others next other.sent other.few s.host.inner s.host.timeout s.host.assemblers frame d.link.waiting content
         (waits_first s p frame d move l) is)
 
-    pub takes : (s : State PortValue) (p : Party) (frame : List ℕ) (d : PortValue) (content : Option IncomingValue) (slots : Slots) (a : Arrived)
-        (places : Places) → PortMove s.device (Took s.host.inner.moment frame) d
+    pub takes : (s : State PortValue) (p : Party) (frame : List ℕ) (d : PortValue) (content : Option IncomingValue) (assemblers : Assemblers) (a : Arrived)
+        (slots : Slots) → PortMove s.device (Took s.host.inner.instant frame) d
         → IsContent s.host.inner.hardware s.host.inner.checksums frame content →
-        ArrivesAs s.host.inner s.host.timeout s.host.slots s.places content slots a → L n s p
-        → L n (state d (record s.host { inner = a.inner; slots = slots }) places) p
-    takes s p frame d content slots a places move is arrives l = record {
+        ArrivesAs s.host.inner s.host.timeout s.host.assemblers s.slots content assemblers a → L n s p
+        → L n (state d (record s.host { inner = a.inner; assemblers = assemblers }) slots) p
+    takes s p frame d content assemblers a slots move is arrives l = record {
       out = l.out;
       more = l.more;
-      sender = subst (λ (w : List (List ℕ)). IsSender (MadeBy p) first a.inner s.host.left w l.out) (sym (taken_sent s.host.inner.moment s.device d frame move))
-          (arrival_keeps_sender (MadeBy p) first l.out s.host.inner s.host.left s.device.link.sent s.places
-          (whole_after s.host.inner s.host.timeout s.host.slots (taken_in s.host.inner content)) a arrives.1 l.sender);
-      receiver = taken_keeps (MadeBy q) start others next other.sent other.few s.host.inner s.host.timeout s.host.slots s.places frame d.link.waiting content
-          slots a (waits_first s p frame d move l) is arrives;
+      sender = subst (λ (w : List (List ℕ)). IsSender (MadeBy p) first a.inner s.host.left w l.out) (sym (taken_sent s.host.inner.instant s.device d frame move))
+          (arrival_keeps_sender (MadeBy p) first l.out s.host.inner s.host.left s.device.link.sent s.slots
+          (whole_after s.host.inner s.host.timeout s.host.assemblers (taken_in s.host.inner content)) a arrives.1 l.sender);
+      receiver = taken_keeps (MadeBy q) start others next other.sent other.few s.host.inner s.host.timeout s.host.assemblers s.slots frame d.link.waiting content
+          assemblers a (waits_first s p frame d move l) is arrives;
       count = l.count;
       tied = tied_on s.host.inner.hardware a.inner.hardware base l.out before d.link.sent
-          (brings_same s.host.inner s.places (whole_after s.host.inner s.host.timeout s.host.slots (taken_in s.host.inner content)) a arrives.1).hardware
+          (brings_same s.host.inner s.slots (whole_after s.host.inner s.host.timeout s.host.assemblers (taken_in s.host.inner content)) a arrives.1).hardware
           (subst (λ (w : List (List ℕ)). IsTied (medium_on s.host.inner.hardware) base before l.out w)
-          (sym (taken_sent s.host.inner.moment s.device d frame move)) l.tied);
+          (sym (taken_sent s.host.inner.instant s.device d frame move)) l.tied);
     }
 
   -- SOMETHING LEAVES
 
-  went_so : (k m : ℕ) (s : State PortValue) (p : Party) (d : PortValue) (i : InnerValue) (left : Option LeftValue) (places : Places) (l : L n s p) → n + k ≤ m →
+  was_sent_so : (k m : ℕ) (s : State PortValue) (p : Party) (d : PortValue) (i : InnerValue) (left : Option LeftValue) (slots : Slots) (l : L n s p) → n + k ≤ m →
       d.link.waiting ≡ s.device.link.waiting → i.checksums ≡ s.host.inner.checksums → i.hardware ≡ s.host.inner.hardware
-      → WentOut (MadeBy p) first k l.out s.device.link.sent i left d.link.sent → L m (state d (record s.host { inner = i; left = left }) places) p
-  went_so k m s p d i left places l room waits caps hardware went = record {
-    out = went.out_after;
-    more = more_out _ _ _ l.more went.grows;
-    sender = went.sender;
-    receiver = subst (λ (w : List (List ℕ)). IsReceiver (MadeBy q) others i s.host.slots w) (sym waits)
-        (receiver_same (MadeBy q) others s.host.inner i s.host.slots s.device.link.waiting caps hardware l.receiver);
-    count = let a = went.count in let b = l.count in omega (arith, a, b, room);
-    tied = tied_trans (medium_on i.hardware) base l.out went.out_after before s.device.link.sent d.link.sent
-        (tied_on s.host.inner.hardware i.hardware base l.out before s.device.link.sent hardware l.tied) went.tied;
+      → WasSentOut (MadeBy p) first k l.out s.device.link.sent i left d.link.sent → L m (state d (record s.host { inner = i; left = left }) slots) p
+  was_sent_so k m s p d i left slots l room waits caps hardware was_sent = record {
+    out = was_sent.out_after;
+    more = more_out _ _ _ l.more was_sent.grows;
+    sender = was_sent.sender;
+    receiver = subst (λ (w : List (List ℕ)). IsReceiver (MadeBy q) others i s.host.assemblers w) (sym waits)
+        (receiver_same (MadeBy q) others s.host.inner i s.host.assemblers s.device.link.waiting caps hardware l.receiver);
+    count = let a = was_sent.count in let b = l.count in omega (arith, a, b, room);
+    tied = tied_trans (medium_on i.hardware) base l.out was_sent.out_after before s.device.link.sent d.link.sent
+        (tied_on s.host.inner.hardware i.hardware base l.out before s.device.link.sent hardware l.tied) was_sent.tied;
   }
 
   made_or_not : (s : State PortValue) (p : Party) (x : PacketValue) (sent : Sent) (d : PortValue) (inner : InnerValue) (left : Option LeftValue) (l : L n s p) →
       IsWide x → (is_done sent ≡ true → IsMade p x)
-      → GoesOut PortMove s.device s.host.inner s.host.left x (plan_of s.host.inner (is_some s.host.left) x.header) sent d inner left →
-      WentOut (MadeBy p) first 1 l.out s.device.link.sent inner left d.link.sent
+      → IsTransmitted PortMove s.device s.host.inner s.host.left x (plan_of s.host.inner (is_some s.host.left) x.header) sent d inner left →
+      WasSentOut (MadeBy p) first 1 l.out s.device.link.sent inner left d.link.sent
   made_or_not s p x Outcome.Gone d inner left l wide made out =
       goes_keeps (MadeBy p) first l.out s.host.inner s.host.left s.device l.sender (is_some s.host.left) x (going p x wide (made refl)) Outcome.Gone d
       inner left out
@@ -252,51 +252,51 @@ module _ (q : Party) (others base : List Outgoing) (first : ℕ) (before : List 
 
   pub goes : (s : State PortValue) (p : Party) (x : PacketValue) (sent : Sent) (d : PortValue) (inner : InnerValue) (left : Option LeftValue) → IsWide x →
       (is_done sent ≡ true → IsMade p x)
-      → GoesOut PortMove s.device s.host.inner s.host.left x (plan_of s.host.inner (is_some s.host.left) x.header) sent d inner left → L n s p →
-      L (n + 1) (state d (record s.host { inner = inner; left = left }) s.places) p
+      → IsTransmitted PortMove s.device s.host.inner s.host.left x (plan_of s.host.inner (is_some s.host.left) x.header) sent d inner left → L n s p →
+      L (n + 1) (state d (record s.host { inner = inner; left = left }) s.slots) p
   goes s p x sent d inner left wide made out l =
       let change = changes PortMove s.device d s.host.inner inner s.host.left left x (is_some s.host.left) sent out in
       let kept : HasSettingsOf s.host.inner inner =
       same_settings s.host.inner inner (plan_of s.host.inner (is_some s.host.left) x.header) sent x.header change.1 in
       let waits : d.link.waiting ≡ s.device.link.waiting =
       once_waits s.device d s.host.inner (departure_by s.host.inner x (plan_of s.host.inner (is_some s.host.left) x.header)) (was_taken sent) change.0 in
-      went_so 1 (n + 1) s p d inner left s.places l (omega arith) waits kept.checksums kept.hardware (made_or_not s p x sent d inner left l wide made out)
+      was_sent_so 1 (n + 1) s p d inner left s.slots l (omega arith) waits kept.checksums kept.hardware (made_or_not s p x sent d inner left l wide made out)
 
-  pub piece : (s : State PortValue) (p : Party) (c : LeftValue) (gone : Bool) (d : PortValue) (left : Option LeftValue) → s.host.left ≡ Some c →
-      PieceGoesOut PortMove s.device s.host.inner c gone d left → L n s p
-      → L n (state d (record s.host { left = left }) s.places) p
-  piece s p c gone d left is goes_out l =
+  pub fragment : (s : State PortValue) (p : Party) (c : LeftValue) (gone : Bool) (d : PortValue) (left : Option LeftValue) → s.host.left ≡ Some c →
+      FragmentIsTransmitted PortMove s.device s.host.inner c gone d left → L n s p
+      → L n (state d (record s.host { left = left }) s.slots) p
+  fragment s p c gone d left is is_transmitted l =
       let sender : IsSender (MadeBy p) first s.host.inner (Some c) s.device.link.sent l.out =
       subst (λ (o : Option LeftValue). IsSender (MadeBy p) first s.host.inner o s.device.link.sent l.out) is l.sender in
       let waits : d.link.waiting ≡ s.device.link.waiting =
       once_waits s.device d s.host.inner (Some (departure_from s.host.inner c)) gone
-      (piece_sends PortMove s.device d s.host.inner c left gone goes_out) in
-      went_so 0 n s p d s.host.inner left s.places l (omega arith) waits refl refl
-      (piece_keeps (MadeBy p) first l.out s.host.inner c s.device sender gone d left goes_out)
+      (fragment_sends PortMove s.device d s.host.inner c left gone is_transmitted) in
+      was_sent_so 0 n s p d s.host.inner left s.slots l (omega arith) waits refl refl
+      (fragment_keeps (MadeBy p) first l.out s.host.inner c s.device sender gone d left is_transmitted)
 
-  -- AN ANSWER IN ARP, from a host behind an arrival
+  -- AN ANSWER IN ARP, from a host after an arrival
 
-  pub tells : (s : State PortValue) (p : Party) (frame : List ℕ) (d0 : PortValue) (content : Option IncomingValue) (slots : Slots) (a : Arrived)
-      (packet : ArpRepr) (gone : Bool) (d : PortValue) (places : Places)
-      → IsContent s.host.inner.hardware s.host.inner.checksums frame content → ArrivesAs s.host.inner s.host.timeout s.host.slots s.places content slots a →
+  pub tells : (s : State PortValue) (p : Party) (frame : List ℕ) (d0 : PortValue) (content : Option IncomingValue) (assemblers : Assemblers) (a : Arrived)
+      (packet : ArpRepr) (gone : Bool) (d : PortValue) (slots : Slots)
+      → IsContent s.host.inner.hardware s.host.inner.checksums frame content → ArrivesAs s.host.inner s.host.timeout s.host.assemblers s.slots content assemblers a →
       a.reply ≡ Some (Replies.Tells packet)
-      → Departs PortMove d0 a.inner (Tells packet) gone d → L n (state d0 (record s.host { inner = a.inner; slots = slots }) places) p →
-      L n (state d (record s.host { inner = a.inner; slots = slots }) places) p
-  tells s p frame d0 content slots a packet gone d places is arrives reply departs l =
+      → Departs PortMove d0 a.inner (Tells packet) gone d → L n (state d0 (record s.host { inner = a.inner; assemblers = assemblers }) slots) p →
+      L n (state d (record s.host { inner = a.inner; assemblers = assemblers }) slots) p
+  tells s p frame d0 content assemblers a packet gone d slots is arrives reply departs l =
       let same : a.inner.hardware ≡ s.host.inner.hardware =
-      (brings_same s.host.inner s.places (whole_after s.host.inner s.host.timeout s.host.slots (taken_in s.host.inner content)) a arrives.1).hardware in
+      (brings_same s.host.inner s.slots (whole_after s.host.inner s.host.timeout s.host.assemblers (taken_in s.host.inner content)) a arrives.1).hardware in
       let long : HasSixBytes s.host.inner.hardware = subst HasSixBytes same l.sender.sound.own in
-      let between = told_between s.host.inner s.host.timeout s.host.slots s.places frame content a packet long is arrives.1 reply in
-      let station : IsStation a.inner.hardware = subst IsStation (sym same) between.0 in
+      let between = told_between s.host.inner s.host.timeout s.host.assemblers s.slots frame content a packet long is arrives.1 reply in
+      let node : IsNode a.inner.hardware = subst IsNode (sym same) between.0 in
       let waits : d.link.waiting ≡ d0.link.waiting = waits_same d0 d (frame_of a.inner (Tells packet)) (frame_len_of a.inner (Tells packet)) gone departs in
-      let went = tells_keeps (MadeBy p) first l.out a.inner s.host.left d0 l.sender packet gone d station between.1 departs in
+      let was_sent = tells_keeps (MadeBy p) first l.out a.inner s.host.left d0 l.sender packet gone d node between.1 departs in
       record {
-        out = went.out_after;
-        more = more_out _ _ _ l.more went.grows;
-        sender = went.sender;
-        receiver = subst (λ (w : List (List ℕ)). IsReceiver (MadeBy q) others a.inner slots w) (sym waits) l.receiver;
-        count = let c = went.count in let b = l.count in omega (arith, c, b);
-        tied = tied_trans (medium_on a.inner.hardware) base l.out went.out_after before d0.link.sent d.link.sent l.tied went.tied;
+        out = was_sent.out_after;
+        more = more_out _ _ _ l.more was_sent.grows;
+        sender = was_sent.sender;
+        receiver = subst (λ (w : List (List ℕ)). IsReceiver (MadeBy q) others a.inner assemblers w) (sym waits) l.receiver;
+        count = let c = was_sent.count in let b = l.count in omega (arith, c, b);
+        tied = tied_trans (medium_on a.inner.hardware) base l.out was_sent.out_after before d0.link.sent d.link.sent l.tied was_sent.tied;
       }
 
 -- ALL OF IT
@@ -315,11 +315,11 @@ is_link q others base first before start next other = record {
   looks = λ n. looks q others base first before n;
   skips = λ n s p frame d move unread l. skips q others base first before n s p frame d move l;
   brings = λ n s p frame d content move read is l. brings q others base first before n start next other s p frame d content move is l;
-  takes = λ n s p frame d content slots a move read is arrives l. takes q others base first before n start next other s p frame d content slots a s.places move
+  takes = λ n s p frame d content assemblers a move read is arrives l. takes q others base first before n start next other s p frame d content assemblers a s.slots move
       is arrives l;
   leave = λ n. leave q others base first before n;
-  tells = λ n s p frame d0 content slots a packet gone d move read is arrives reply departs l.
-      tells q others base first before n s p frame d0 content slots a packet gone d s.places is arrives reply departs l;
+  tells = λ n s p frame d0 content assemblers a packet gone d move read is arrives reply departs l.
+      tells q others base first before n s p frame d0 content assemblers a packet gone d s.slots is arrives reply departs l;
   goes = λ n. goes q others base first before n;
-  piece = λ n. piece q others base first before n;
+  fragment = λ n. fragment q others base first before n;
 }

@@ -1,16 +1,16 @@
 -- What the link hands over was made.
-pub mod Rebuilt
+pub mod ReassembledDatagram
 pub mod Asked
 pub mod Whole6
-pub mod Behind
+pub mod Following
 pub mod Fragments
 pub mod Hands
-pub mod Pieces6
+pub mod Fragments6
 pub mod Contents
 pub mod Noise
 pub mod Numbers
-pub mod Slots
-pub mod SlotFacts
+pub mod Assemblers
+pub mod AssemblerFacts
 pub mod SaidFrames
 pub mod Taken
 pub mod Grown
@@ -22,7 +22,7 @@ pub mod Others
 pub mod Routers
 pub mod PlanKinds
 pub mod Sends
-pub mod Stations
+pub mod Nodes
 pub mod HostFrames
 pub mod Damaged
 pub mod DamagedFrames

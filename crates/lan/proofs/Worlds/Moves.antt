@@ -8,10 +8,10 @@ pub mod Leave
 pub mod Following
 pub mod Held
 pub mod Later
-pub mod Hops
+pub mod HopLimit
 pub mod Coming
 pub mod MadeReplies
-pub mod Places
+pub mod Slots
 pub mod Nets
 pub mod Offering
 pub mod Turns

@@ -6,7 +6,7 @@ use Rattle.lan.specs.Worlds.AtLink.History.{Entry}
 use Rattle.lan.specs.declared.at_link.history.answer.Answer.{Answer}
 use Rattle.lan.specs.declared.at_link.history.event.Event.{Event}
 use Rattle.lan.specs.Worlds.AtLink.Runs.{answers_of}
-use Rattle.lan.specs.Worlds.Past.{entry, history_from, AreAsMany}
+use Rattle.lan.specs.Worlds.EventHistory.{entry, history_from, AreAsMany}
 use Rattle.lan.specs.declared.history.Note.{Note}
 
 module _ (event : Event) (note : Note) (answer : Answer) where

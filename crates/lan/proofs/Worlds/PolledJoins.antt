@@ -1,7 +1,7 @@
 -- A poll keeps what is said of both hosts and their link.
 use Rattle.std.proofs.Common.{◌≡◌, ℕ, ◌+◌, ◌*◌, ◌≤◌, List, ◌∷◌, sym, ◌∙◌, ap, subst, arith}
 use Rattle.std.specs.Prelude.{ℤ}
-use Rattle.lan_base.specs.DeviceCapabilities.{DeviceCapabilities}
+use Rattle.sim_link.specs.DeviceCapabilities.{DeviceCapabilities}
 use Rattle.interface.specs.State.{State}
 use Rattle.interface.proofs.Hosts.{settings_so}
 use Rattle.lan.specs.Worlds.AtLink.History.{Entry}
@@ -12,7 +12,7 @@ use Rattle.lan.specs.Worlds.AtLink.Side.{Side}
 use Rattle.lan.specs.Worlds.AtLink.Parties.{Party, Net, party}
 use Rattle.lan.specs.Worlds.AtLink.Port.{LinkEnd, PortValue, PortMove}
 use Rattle.interface.specs.Used.{sockets_in}
-use Rattle.lan.specs.Worlds.AtLink.Station.{StationValue, Stations, station, at_port}
+use Rattle.lan.specs.Worlds.AtLink.Node.{NodeValue, Nodes, node, at_port}
 use Rattle.lan.specs.Worlds.AtLink.Steps.{PollsAt, ActsAt}
 use Rattle.lan.proofs.Worlds.AtLink.Growing.{happens_stays}
 use Rattle.lan.specs.Worlds.Moves.Follows.{IsNetOf, Comes}
@@ -24,7 +24,7 @@ use Rattle.lan.proofs.Worlds.Moves.Calls.{names}
 use Rattle.lan.proofs.Worlds.Moves.PollEvents.{AtPorts, Polled, poll_comes}
 use Rattle.lan.specs.Worlds.Link.Frames.{medium_on}
 use Rattle.lan.specs.Worlds.Link.Numbers.{count_numbered, AreFew, IsTied}
-use Rattle.lan_base.specs.Medium.{Medium}
+use Rattle.sim_link.specs.Medium.{Medium}
 use Rattle.lan.specs.Worlds.AtLink.Origins.{medium_of}
 use Rattle.lan.specs.Worlds.Link.Sides.{IsSender, IsReceiver}
 use Rattle.lan.proofs.Worlds.Link.Begun.{tied_same}
@@ -35,14 +35,14 @@ use Rattle.lan.proofs.Worlds.Keeps.{is_link}
 use Rattle.lan.proofs.Worlds.Link.Grown.{same_out}
 
 module _ (firsts most : Side →
-    ℕ) (old new : Stations) (net : Net) (past : List Entry) (e : Entry) (j : AreJoined firsts most old net) (of : IsNetOf net old past)
+    ℕ) (old new : Nodes) (net : Net) (past : List Entry) (e : Entry) (j : AreJoined firsts most old net) (of : IsNetOf net old past)
     (side : Side) (t : ℤ) (budget : ℕ) (is : kind_of e.event ≡ OfHost side (Polls t budget)) (few : AreFew (j.out (other side)))
     (acts : ActsAt old side (Polls t budget) e.answer e.found new) where
-  abbrev pub s : StationValue
-  s = station old side
+  abbrev pub s : NodeValue
+  s = node old side
 
-  abbrev pub s' : StationValue
-  s' = station new side
+  abbrev pub s' : NodeValue
+  s' = node new side
 
   abbrev mine : Party
   mine = party net side
@@ -53,15 +53,15 @@ module _ (firsts most : Side →
   abbrev pub L : ℕ → State PortValue → Party → Type 0
   L n x p = IsLinked theirs (j.out (other side)) (j.out side) (firsts side) s.link.sent n x p
 
-  -- how many it had sent, and how many it may have sent behind the poll
+  -- how many it had sent, and how many it may have sent after the poll
   abbrev pub so_far : ℕ
   so_far = count_numbered (j.out side)
 
   abbrev pub then_most : ℕ
-  then_most = so_far + budget * (1 + sockets_in s.places)
+  then_most = so_far + budget * (1 + sockets_in s.slots)
 
   link : IsLink PortMove theirs L
-  link = is_link theirs (j.out (other side)) (j.out side) (firsts side) s.link.sent (firsts (other side)) (station old (other side)).host.inner.ident
+  link = is_link theirs (j.out (other side)) (j.out side) (firsts side) s.link.sent (firsts (other side)) (node old (other side)).host.inner.ident
       (record { sent = (j.sends (other side)).are_sent; few = few })
 
   -- before the poll, at whatever port
@@ -70,7 +70,7 @@ module _ (firsts most : Side →
     out = j.out side;
     more = same_out _;
     sender = subst (λ (x : LinkEnd). IsSender (MadeBy mine) (firsts side) s.host.inner s.host.left x.sent (j.out side)) (sym end) (j.sends side);
-    receiver = subst (λ (x : LinkEnd). IsReceiver (MadeBy theirs) (j.out (other side)) s.host.inner s.host.slots x.waiting) (sym end) (j.receives side);
+    receiver = subst (λ (x : LinkEnd). IsReceiver (MadeBy theirs) (j.out (other side)) s.host.inner s.host.assemblers x.waiting) (sym end) (j.receives side);
     count = omega arith;
     tied = tied_same (medium_on s.host.inner.hardware) (j.out side) s.link.sent port.link.sent (ap (λ (x : LinkEnd). x.sent) end);
   }
@@ -85,7 +85,7 @@ module _ (firsts most : Side →
   device = ap (λ (c : DeviceCapabilities). c.medium) (happens_stays old new (OfHost side (Polls t budget)) e.answer e.found side acts).link.capabilities
 
   -- what the poll led to, where the sockets offer what can be read
-  module _ (fit : OfEach IsFit s.places) where
+  module _ (fit : OfEach IsFit s.slots) where
     pub polled : Polled s.host.inner s.link.waiting s.link.sent t net new (e ∷ past) side (L then_most)
     polled = poll_comes net old new past e side t budget so_far L link of is acts linked fit
 

@@ -2,9 +2,9 @@
 use Rattle.std.proofs.Common.{◌≡◌, ℕ, ◌+◌, ◌-◌, ◌^◌, ◌<◌, ◌≤◌, ℤ, Bool, true, false, cond, ltb, IsTrue, List, [], ◌∷◌, ◌++◌, append_assoc, length, sym, ap, ◌∙◌, arith}
 use Rattle.std.proofs.lemmas.Bool.{and_from, and_parts, lt-ltb, ltb-true}
 use Rattle.std.specs.Prelude.{nat_le, drop}
-use Rattle.lan_base.specs.Device.{Move, Took, Empty, Allowed, Emitted, Denied, gives_tokens}
-use Rattle.lan.specs.Worlds.AtLink.Port.{PortValue, PortMove, has_leave}
-use Rattle.interface_egress.specs.Determined.{IsDetermined}
+use Rattle.sim_link.specs.Device.{Move, Took, Empty, Allowed, Emitted, Denied, gives_tokens}
+use Rattle.lan.specs.Worlds.AtLink.Port.{PortValue, PortMove, has_tx_token}
+use Rattle.iface_egress.specs.Determined.{IsDetermined}
 use Rattle.interface.proofs.Unrefused.{IsCounting, head_is, none_waits, given_or_not}
 use Rattle.lan.proofs.Worlds.Moves.Frames.{Frames, IsNoFrame, IsTaking}
 use Rattle.lan.proofs.Worlds.Moves.Leave.{IsGiving}
@@ -13,12 +13,12 @@ use Rattle.lan.proofs.Worlds.Moves.Leave.{IsGiving}
 abbrev before : List ℕ → PortValue → PortValue
 before frame p = record p { link = record p.link { waiting = frame ∷ p.link.waiting } }
 
--- and behind it
-abbrev behind : PortValue → PortValue
-behind p = record p { link = record p.link { waiting = drop 1 p.link.waiting } }
+-- and after it
+abbrev following : PortValue → PortValue
+following p = record p { link = record p.link { waiting = drop 1 p.link.waiting } }
 
 one_end : (here one other : PortValue) (m : Move) → PortMove here m one → PortMove here m other → one ≡ other
-one_end here one other (Took t frame) a b = ap behind (sym a.1 ∙ b.1)
+one_end here one other (Took t frame) a b = ap following (sym a.1 ∙ b.1)
 one_end here one other (Empty t) a b = a.0 ∙ sym b.0
 one_end here one other (Allowed t leave) a b = a.0 ∙ sym b.0
 one_end here one other (Emitted frame) a b = a ∙ sym b
@@ -34,7 +34,7 @@ looks here t one other frame a b =
     none_waits frame one.link.waiting (ap (λ (p : PortValue). p.link.waiting) (sym a.1) ∙ b.1 a.0)
 
 gives : (here : PortValue) (t : ℤ) (one other : PortValue) → PortMove here (Allowed t true) one → PortMove here (Allowed t false) other → ⊥
-gives here t one other a b = given_or_not (has_leave here.link) a.1 b.1
+gives here t one other a b = given_or_not (has_tx_token here.link) a.1 b.1
 
 pub takes : (here new : PortValue) (len : ℕ) → 0 < here.ready → len ≤ here.size → PortMove here (Denied len) new → ⊥
 takes here new len some short denied = let none : here.ready ≡ 0 = denied.1 short in absurd (omega (arith, none))
@@ -76,7 +76,7 @@ counting_ports = record { one_end = one_end; one_frame = one_frame; looks = look
 -- LEAVE IS ONLY LOST
 
 abbrev leave : PortValue → Bool
-leave p = has_leave p.link
+leave p = has_tx_token p.link
 
 room_before : (room : ℕ) → ltb 0 (room - 1) ≡ true → ltb 0 room ≡ true
 room_before room some = let more : 0 < room - 1 = ltb-true 0 (room - 1) some in lt-ltb 0 room (omega (arith, more))
@@ -84,10 +84,10 @@ room_before room some = let more : 0 < room - 1 = ltb-true 0 (room - 1) some in 
 pub fewer_refused : (n : ℕ) → IsTrue (gives_tokens (n + 1)) → IsTrue (gives_tokens n)
 fewer_refused n gives = below (2 ^ 64) (ltb-true (n + 1 + 1) (2 ^ 64) gives)
   where
-    below : (top : ℕ) → n + 1 + 1 < top → ltb (n + 1) top ≡ true
-    below top less = lt-ltb (n + 1) top (omega (arith, less))
+    below : (snd_max : ℕ) → n + 1 + 1 < snd_max → ltb (n + 1) snd_max ≡ true
+    below snd_max less = lt-ltb (n + 1) snd_max (omega (arith, less))
 
-pub had_leave : (old new : PortValue) (m : Move) → PortMove old m new → IsTrue (has_leave new.link) → IsTrue (has_leave old.link)
+pub had_leave : (old new : PortValue) (m : Move) → PortMove old m new → IsTrue (has_tx_token new.link) → IsTrue (has_tx_token old.link)
 had_leave old new (Took t frame) goes has = goes.0
 had_leave old new (Empty t) goes has = sym (ap leave goes.0) ∙ has
 had_leave old new (Allowed t given) goes has = sym (ap leave goes.0) ∙ has
@@ -99,18 +99,18 @@ had_leave old new (Denied len) goes has =
     and_from (ltb 0 old.link.room) (gives_tokens old.link.refusals) parts.0 (fewer_refused old.link.refusals parts.1)
 
 -- one that gives leave, and refused no more than so many
-abbrev pub GivesLeave : ℕ → PortValue → Type 0
-GivesLeave refused p = IsTrue (has_leave p.link) × (p.link.refusals ≤ refused)
+abbrev pub GivesTxToken : ℕ → PortValue → Type 0
+GivesTxToken refused p = IsTrue (has_tx_token p.link) × (p.link.refusals ≤ refused)
 
-pub giving_ports : (refused : ℕ) → IsGiving PortMove (λ p. refused ≤ p.link.refusals) (GivesLeave refused)
+pub giving_ports : (refused : ℕ) → IsGiving PortMove (λ p. refused ≤ p.link.refusals) (GivesTxToken refused)
 giving_ports refused = record {
   since = λ old new m moved since. (let more = kept old new m moved in omega (arith, more, since));
   had = λ old new m moved gives. (had_leave old new m moved gives.0, (let more = kept old new m moved in let few = gives.1 in omega (arith, more, few)));
-  leave = λ old new t moved since gives. given_or_not (has_leave old.link) (sym (had_leave old new (Allowed t false) moved gives.0)) moved.1;
+  leave = λ old new t moved since gives. given_or_not (has_tx_token old.link) (sym (had_leave old new (Allowed t false) moved gives.0)) moved.1;
   takes = λ old new len moved since gives. (let more = denied old new len moved in let few = gives.1 in absurd (omega (arith, more, since, few)));
 }
 
--- FRAMES THAT WERE TAKEN, of those that waited, and frames that were sent behind those before
+-- FRAMES THAT WERE TAKEN, of those that waited, and frames that were sent after those before
 
 -- the others wait still
 abbrev pub TookOf : List (List ℕ) → List (List ℕ) → Frames → PortValue → Type 0

@@ -7,10 +7,10 @@ use Rattle.lan.specs.Worlds.AtLink.Runs.{WorldValue, Step, Steps}
 use Rattle.std.specs.Prelude.{◌≤◌}
 
 -- so many of the events have been taken, and these are left
-pub record HasRun (old : WorldValue) (events : List Event) (place : ℕ) (left : List Event) (now : WorldValue) : Type 0 where
-  pub steps : Steps old (take place events) now
-  pub left_over : drop place events ≡ left
-  pub bound : place ≤ length events
+pub record HasRun (old : WorldValue) (events : List Event) (slot : ℕ) (left : List Event) (now : WorldValue) : Type 0 where
+  pub steps : Steps old (take slot events) now
+  pub left_over : drop slot events ≡ left
+  pub bound : slot ≤ length events
 
 -- where something is left of a list, its first comes next
 record IsNext {X : Type 0} (n : ℕ) (xs : List X) (x : X) (rest : List X) : Type 0 where
@@ -40,16 +40,16 @@ pub starts_stay : (old new : WorldValue) (events : List Event) → Steps old eve
 starts_stay old new [] is = ap (λ (w : WorldValue). w.starts) is
 starts_stay old new (e ∷ events) steps = starts_stay steps.1 new events steps.3 ∙ steps.2.starts
 
-module _ (old : WorldValue) (events : List Event) (place : ℕ) (event : Event) (left : List Event) (now : WorldValue)
-    (run : HasRun old events place (event ∷ left) now) where
-  pub next_is : slice_get events place ≡ Some event
-  next_is = (next_of_drop place events event left run.left_over).here
+module _ (old : WorldValue) (events : List Event) (slot : ℕ) (event : Event) (left : List Event) (now : WorldValue)
+    (run : HasRun old events slot (event ∷ left) now) where
+  pub next_is : slice_get events slot ≡ Some event
+  next_is = (next_of_drop slot events event left run.left_over).here
 
-  pub one_more : (answer : Answer) (new : WorldValue) → Step now event answer new → HasRun old events (place + 1) left new
+  pub one_more : (answer : Answer) (new : WorldValue) → Step now event answer new → HasRun old events (slot + 1) left new
   one_more answer new step =
-      let next : IsNext place events event left = next_of_drop place events event left run.left_over in
+      let next : IsNext slot events event left = next_of_drop slot events event left run.left_over in
       rw add-one (record {
-        steps = rw next.taken (Steps-push old now new (take place events) event answer run.steps step);
+        steps = rw next.taken (Steps-push old now new (take slot events) event answer run.steps step);
         left_over = next.left;
         bound = omega arith;
       })

@@ -1,4 +1,4 @@
--- Wherever a history of typed events led from two fresh hosts, they are joined, and so their sockets are safe.
+-- Wherever a history of typed events led from two new hosts, they are joined, and so their sockets are safe.
 use Rattle.std.proofs.Common.{◌≡◌, ℕ, ◌+◌, ◌^◌, ◌<◌, ◌≤◌, ◌≤ℤ◌, List, [], ◌∷◌, ◌++◌, refl, sym, ◌∙◌, ap, subst, arith, append-nil, append_assoc}
 use Rattle.std.specs.Prelude.{ℤ}
 use Rattle.lan.specs.Worlds.AtLink.History.{Entry}
@@ -11,11 +11,11 @@ use Rattle.lan.specs.Worlds.AtLink.Moves.{IsRun, Step, run}
 use Rattle.lan.specs.Worlds.AtLink.Parties.{Net}
 use Rattle.lan.specs.Worlds.AtLink.PacketsSafe.{IsSafe}
 use Rattle.lan.proofs.Worlds.AtLink.Extended.{run-append, IsRun-append}
-use Rattle.lan.specs.Worlds.AtLink.Fresh.{IsFreshWorld}
+use Rattle.lan.specs.Worlds.AtLink.Initial.{IsInitialWorld}
 use Rattle.lan.specs.Worlds.AtLink.Origins.{medium_of, numbered}
 use Rattle.lan.specs.Worlds.AtLink.Runs.{Starts, unused_both, WorldRun, Leads}
 use Rattle.lan.specs.Worlds.AtLink.Safe.{first_port, net_of}
-use Rattle.lan.specs.Worlds.AtLink.Station.{Stations, station}
+use Rattle.lan.specs.Worlds.AtLink.Node.{Nodes, node}
 use Rattle.lan.specs.Worlds.AtLink.Steps.{Happens, ActsAt}
 use Rattle.lan.specs.Worlds.Moves.Follows.{IsNetOf, Comes, IsNoPoll}
 use Rattle.lan.specs.Worlds.Moves.Joined.{first_net}
@@ -43,15 +43,15 @@ use Rattle.lan.specs.Worlds.Still.{AreStill, StillRun}
 use Rattle.lan.proofs.Worlds.Hosts.Polling.{polled as poll_settings}
 use Rattle.lan.proofs.Worlds.Moves.Held.{IsSeenAs, all_so}
 use Rattle.lan.proofs.Worlds.Moves.Worlds.{rest_held}
-use Rattle.lan.proofs.Worlds.StillOnward.{first, moments, now_still, onward, ran, seen_in_run}
+use Rattle.lan.proofs.Worlds.StillOnward.{first, instants, now_still, onward, ran, seen_in_run}
 use Rattle.lan.proofs.Worlds.StillSteps.{AreAllHeld, all-append, all-at}
 
 -- how many datagrams a host has numbered
-abbrev pub numbered_by : List Entry → Stations → Side → ℕ
-numbered_by history hosts side = numbered (medium_of (station hosts side)) side history (station hosts side).link.sent
+abbrev pub numbered_by : List Entry → Nodes → Side → ℕ
+numbered_by history hosts side = numbered (medium_of (node hosts side)) side history (node hosts side).link.sent
 
 -- J: the hosts are joined, and each sent fewer packets that have one than there are numbers, no more than it numbered
-pub record AreWell (starts : Starts) (history : List Entry) (hosts : Stations) (net : Net) : Type 0 where
+pub record AreWell (starts : Starts) (history : List Entry) (hosts : Nodes) (net : Net) : Type 0 where
   pub most : Side → ℕ
   pub joined : AreJoined (firsts starts) most hosts net
   pub few : (side : Side) → most side < 2 ^ 16
@@ -72,7 +72,7 @@ exchanged_there : (most : Side → ℕ) (side : Side) (n : ℕ) → exchanged mo
 exchanged_there most A n = refl
 exchanged_there most B n = refl
 
-module _ (starts : Starts) (net : Net) (old new : Stations) (past : List Entry) (e : Entry) (w : AreWell starts past old net) (of : IsNetOf net old past)
+module _ (starts : Starts) (net : Net) (old new : Nodes) (past : List Entry) (e : Entry) (w : AreWell starts past old net) (of : IsNetOf net old past)
     (leads : Leads past old e new) where
   abbrev Then : Type 0
   Then = (c : Comes names net new (e ∷ past)) × AreWell starts (e ∷ past) new c.next
@@ -97,7 +97,7 @@ module _ (starts : Starts) (net : Net) (old new : Stations) (past : List Entry) 
     few_out : AreFew (w.joined.out (other side))
     few_out = let a = w.joined.counted (other side) in let b = w.few (other side) in omega (arith, a, b)
 
-    module _ (fit : OfEach IsFit (station old side).places) where
+    module _ (fit : OfEach IsFit (node old side).slots) where
       abbrev out_after : List Outgoing
       out_after = (Polled.linked_after (firsts starts) w.most old new net past e w.joined of side t budget is few_out acts fit).out
 
@@ -138,7 +138,7 @@ no_later : (a b : ℤ) → a ≡ b → a ≤ℤ b
 no_later a b is = omega (arith, ints, is)
 
 module _ (starts : Starts) where
-  by_kind : (net : Net) (old new : Stations) (past : List Entry) (e : Entry) (w : AreWell starts past old net) (of : IsNetOf net old past)
+  by_kind : (net : Net) (old new : Nodes) (past : List Entry) (e : Entry) (w : AreWell starts past old net) (of : IsNetOf net old past)
       (leads : Leads past old e new) → AreFit old
       → (k : Kind) → kind_of e.event ≡ k → IsTyped k → Happens old k e.answer e.found new → Then starts net old new past e w of leads
   by_kind net old new past e w of leads fit (OfHost side (Calls i call)) is typed happens =
@@ -155,20 +155,20 @@ module _ (starts : Starts) where
   by_kind net old new past e w of leads fit (OfHost side (Polls t budget)) is typed happens =
       polled starts net old new past e w of leads side t budget is happens (fit side)
 
-  pub has_come : (history : List Entry) (hosts : Stations) → IsFreshWorld starts → AreTyped history → WorldRun history (unused_both starts) hosts →
+  pub has_come : (history : List Entry) (hosts : Nodes) → IsInitialWorld starts → AreTyped history → WorldRun history (unused_both starts) hosts →
       HasCome starts (λ h n. AreWell starts history h n) history hosts
-  has_come [] hosts fresh typed is = record {
+  has_come [] hosts initial typed is = record {
     net = first_net starts;
     steps = [];
     may = tt;
     ends = refl;
-    of = subst (λ (h : Stations). IsNetOf (first_net starts) h []) (sym is) (record { sockets = first_of starts; history = refl });
-    joined = subst (λ (h : Stations). AreWell starts [] h (first_net starts)) (sym is)
-        (record { most = none_yet; joined = first_joined starts fresh; few = λ side. omega arith; numbered = λ side. omega arith });
+    of = subst (λ (h : Nodes). IsNetOf (first_net starts) h []) (sym is) (record { sockets = first_of starts; history = refl });
+    joined = subst (λ (h : Nodes). AreWell starts [] h (first_net starts)) (sym is)
+        (record { most = none_yet; joined = first_joined starts initial; few = λ side. omega arith; numbered = λ side. omega arith });
   }
-  has_come (e ∷ past) hosts fresh typed (before, ran, leads) =
-      let came = has_come past before fresh typed.1 ran in
-      let next = by_kind came.net before hosts past e came.joined came.of leads (worlds_fit starts fresh past before ran) (kind_of e.event) refl typed.0
+  has_come (e ∷ past) hosts initial typed (before, ran, leads) =
+      let came = has_come past before initial typed.1 ran in
+      let next = by_kind came.net before hosts past e came.joined came.of leads (worlds_fit starts initial past before ran) (kind_of e.event) refl typed.0
       leads.happens in
       let c : Comes names came.net hosts (e ∷ past) = next.0 in
       record {
@@ -182,17 +182,17 @@ module _ (starts : Starts) where
 
   -- AN EVENT
 
-  module _ (net : Net) (old new : Stations) (past : List Entry) (e : Entry) (w : AreWell starts past old net) (of : IsNetOf net old past)
-      (leads : Leads past old e new) (fit : AreFit old) (seen : (s : Side) → IsSeenAs (first starts s) ((station old s).host.inner)) (was : AreStill starts old)
+  module _ (net : Net) (old new : Nodes) (past : List Entry) (e : Entry) (w : AreWell starts past old net) (of : IsNetOf net old past)
+      (leads : Leads past old e new) (fit : AreFit old) (seen : (s : Side) → IsSeenAs (first starts s) ((node old s).host.inner)) (was : AreStill starts old)
       (all : AreStill starts new) where
-    up : (s : Side) → moments starts old s ≤ℤ moments starts new s
+    up : (s : Side) → instants starts old s ≤ℤ instants starts new s
     up s = (onward starts old new past e leads s).later
 
-    rested : (quiet : IsNoPoll (kind_of e.event)) → AreAllHeld (first starts) (moments starts old) net (rest_comes net old new past e of quiet leads).steps (moments starts new)
-    rested quiet = rest_held (first starts) net old new past e of seen (λ s. (was s).moment) (λ s. (all s).moment) up quiet leads
+    rested : (quiet : IsNoPoll (kind_of e.event)) → AreAllHeld (first starts) (instants starts old) net (rest_comes net old new past e of quiet leads).steps (instants starts new)
+    rested quiet = rest_held (first starts) net old new past e of seen (λ s. (was s).instant) (λ s. (all s).instant) up quiet leads
 
     kind_held : (k : Kind) (is : kind_of e.event ≡ k) (typed : IsTyped k) (happens : Happens old k e.answer e.found new) →
-        AreAllHeld (first starts) (moments starts old) net (by_kind net old new past e w of leads fit k is typed happens).0.steps (moments starts new)
+        AreAllHeld (first starts) (instants starts old) net (by_kind net old new past e w of leads fit k is typed happens).0.steps (instants starts new)
     unfolding by_kind plain rests polled
     kind_held (OfHost side (Calls i call)) is typed happens = rested (subst IsNoPoll (sym is) tt)
     kind_held (OfHost side (Opens n)) is typed happens = rested (subst IsNoPoll (sym is) tt)
@@ -202,60 +202,60 @@ module _ (starts : Starts) where
     kind_held (OfHost side (Polls t budget)) is typed happens =
         let few = few_out starts net old new past e w of leads side t budget is happens in
         let pol = Polled.polled (firsts starts) w.most old new net past e w.joined of side t budget is few happens (fit side) in
-        let it = poll_settings (station old side) (station new side) t budget happens.acts.0 happens.acts.1 in
+        let it = poll_settings (node old side) (node new side) t budget happens.acts.0 happens.acts.1 in
         let held = pol.held ((all side).paths, (all side).errors ∙ sym (was side).errors) in
-        let now : moments starts new side ≡ t = it.now in
-        all-at (first starts) side t (subst IsMoment now (all side).moment) (moments starts new) (no_later t (moments starts new side) (sym now)) (moments starts old) net
-        pol.comes.steps (subst (λ (u : ℤ). moments starts old side ≤ℤ u) now (up side)) up
-        (all_so (first starts side) ((station old side).host.inner) (seen side) t side net pol.comes.steps held)
+        let now : instants starts new side ≡ t = it.now in
+        all-at (first starts) side t (subst IsMoment now (all side).instant) (instants starts new) (no_later t (instants starts new side) (sym now)) (instants starts old) net
+        pol.comes.steps (subst (λ (u : ℤ). instants starts old side ≤ℤ u) now (up side)) up
+        (all_so (first starts side) ((node old side).host.inner) (seen side) t side net pol.comes.steps held)
 
   -- ALL EVENTS
 
-  pub held_run : (history : List Entry) (hosts : Stations) (fresh : IsFreshWorld starts) (typed : AreTyped history) (still : StillRun starts history hosts) →
-      AreAllHeld (first starts) at_zero (first_net starts) (has_come history hosts fresh typed (ran starts history hosts still)).steps (moments starts hosts)
+  pub held_run : (history : List Entry) (hosts : Nodes) (initial : IsInitialWorld starts) (typed : AreTyped history) (still : StillRun starts history hosts) →
+      AreAllHeld (first starts) at_zero (first_net starts) (has_come history hosts initial typed (ran starts history hosts still)).steps (instants starts hosts)
   unfolding has_come
-  held_run [] hosts fresh typed still = λ s. (still.1 s).moment.0
-  held_run (e ∷ past) hosts fresh typed (before, still, leads, all) =
+  held_run [] hosts initial typed still = λ s. (still.1 s).instant.0
+  held_run (e ∷ past) hosts initial typed (before, still, leads, all) =
       let run_before = ran starts past before still in
-      let came = has_come past before fresh typed.1 run_before in
-      let fit = worlds_fit starts fresh past before run_before in
+      let came = has_come past before initial typed.1 run_before in
+      let fit = worlds_fit starts initial past before run_before in
       let next = by_kind came.net before hosts past e came.joined came.of leads fit (kind_of e.event) refl typed.0 leads.happens in
-      all-append (first starts) at_zero (moments starts before) (first_net starts) came.steps next.0.steps (moments starts hosts) (held_run past before fresh typed.1 still)
-      (subst (λ (n : Net). AreAllHeld (first starts) (moments starts before) n next.0.steps (moments starts hosts)) (sym came.ends)
+      all-append (first starts) at_zero (instants starts before) (first_net starts) came.steps next.0.steps (instants starts hosts) (held_run past before initial typed.1 still)
+      (subst (λ (n : Net). AreAllHeld (first starts) (instants starts before) n next.0.steps (instants starts hosts)) (sym came.ends)
       (kind_held came.net before hosts past e came.joined came.of leads fit (seen_in_run starts past before still) (now_still starts past before still) all
       (kind_of e.event) refl typed.0 leads.happens))
 
   -- A LATER PART of the events is a later part of the steps
-  next_steps : (past more : List Entry) (e : Entry) (hosts : Stations) (fresh : IsFreshWorld starts) (typed : AreTyped ((e ∷ more) ++ past)) (before : Stations)
+  next_steps : (past more : List Entry) (e : Entry) (hosts : Nodes) (initial : IsInitialWorld starts) (typed : AreTyped ((e ∷ more) ++ past)) (before : Nodes)
       (still : StillRun starts (more ++ past) before) (leads : Leads (more ++ past) before e hosts)
       → (steps : List Step) × ((all : AreStill starts hosts)
-      → (has_come ((e ∷ more) ++ past) hosts fresh typed (ran starts ((e ∷ more) ++ past) hosts (before, still, leads, all))).steps
-      ≡ (has_come (more ++ past) before fresh typed.1 (ran starts (more ++ past) before still)).steps ++ steps)
+      → (has_come ((e ∷ more) ++ past) hosts initial typed (ran starts ((e ∷ more) ++ past) hosts (before, still, leads, all))).steps
+      ≡ (has_come (more ++ past) before initial typed.1 (ran starts (more ++ past) before still)).steps ++ steps)
   unfolding has_come
-  next_steps past more e hosts fresh typed before still leads =
+  next_steps past more e hosts initial typed before still leads =
       let run_before = ran starts (more ++ past) before still in
-      let came = has_come (more ++ past) before fresh typed.1 run_before in
-      let next = by_kind came.net before hosts (more ++ past) e came.joined came.of leads (worlds_fit starts fresh (more ++ past) before run_before)
+      let came = has_come (more ++ past) before initial typed.1 run_before in
+      let next = by_kind came.net before hosts (more ++ past) e came.joined came.of leads (worlds_fit starts initial (more ++ past) before run_before)
       (kind_of e.event) refl typed.0 leads.happens in
       (next.0.steps, λ all. refl)
 
-  pub came_on : (past more : List Entry) (hosts : Stations) (fresh : IsFreshWorld starts) (typed : AreTyped (more ++ past))
+  pub came_on : (past more : List Entry) (hosts : Nodes) (initial : IsInitialWorld starts) (typed : AreTyped (more ++ past))
       (still : StillRun starts (more ++ past) hosts)
-      → (between : Stations) × (typed_past : AreTyped past) × (was : StillRun starts past between) × (steps : List Step)
-      × ((has_come (more ++ past) hosts fresh typed (ran starts (more ++ past) hosts still)).steps
-      ≡ (has_come past between fresh typed_past (ran starts past between was)).steps ++ steps)
-  came_on past [] hosts fresh typed still = (hosts, typed, still, [], sym (append-nil _))
-  came_on past (e ∷ more) hosts fresh typed (before, still, leads, all) =
-      let came = came_on past more before fresh typed.1 still in
-      let next = next_steps past more e hosts fresh typed before still leads in (
+      → (between : Nodes) × (typed_past : AreTyped past) × (was : StillRun starts past between) × (steps : List Step)
+      × ((has_come (more ++ past) hosts initial typed (ran starts (more ++ past) hosts still)).steps
+      ≡ (has_come past between initial typed_past (ran starts past between was)).steps ++ steps)
+  came_on past [] hosts initial typed still = (hosts, typed, still, [], sym (append-nil _))
+  came_on past (e ∷ more) hosts initial typed (before, still, leads, all) =
+      let came = came_on past more before initial typed.1 still in
+      let next = next_steps past more e hosts initial typed before still leads in (
         came.0,
         came.1,
         came.2,
         came.3 ++ next.0,
         next.1 all ∙ ap (λ (xs : List Step). xs ++ next.0) came.4
-            ∙ append_assoc (has_come past came.0 fresh came.1 (ran starts past came.0 came.2)).steps came.3 next.0,
+            ∙ append_assoc (has_come past came.0 initial came.1 (ran starts past came.0 came.2)).steps came.3 next.0,
       )
 
-  pub runs_safe : IsFreshWorld starts → (history : List Entry) (hosts : Stations) → AreTyped history → WorldRun history (unused_both starts) hosts
+  pub runs_safe : IsInitialWorld starts → (history : List Entry) (hosts : Nodes) → AreTyped history → WorldRun history (unused_both starts) hosts
       → IsSafe (first_port starts) (net_of (record { hosts = hosts; starts = starts; history = history }))
-  runs_safe fresh history hosts typed ran = came_safe starts (λ h n. AreWell starts history h n) fresh history hosts (has_come history hosts fresh typed ran)
+  runs_safe initial history hosts typed ran = came_safe starts (λ h n. AreWell starts history h n) initial history hosts (has_come history hosts initial typed ran)

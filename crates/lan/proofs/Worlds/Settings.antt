@@ -1,21 +1,21 @@
 -- A setting keeps what is said of a host's frames.
 use Rattle.std.proofs.Common.{◌≡◌, ℕ, Bool, true, false, cond, List, length, replicate, ◌≤◌, Option, Some, None, IfSome, refl, sym, ap, subst, arith}
 use Rattle.std.specs.List.{AllByRecursion, list_any}
-use Rattle.interface_ingress.specs.AddressTests.{is_ethernet_unicast}
-use Rattle.interface_ingress.specs.EthernetAddress.{EthernetAddress}
-use Rattle.interface_ingress.specs.HardwareAddress.{HardwareAddress}
-use Rattle.interface_ingress.specs.HardwareAddress.TheVariants as Hardware
-use Rattle.interface_ingress.specs.Address.{IsIpAddress}
-use Rattle.interface_ingress.specs.IpAddress.{IpAddress}
-use Rattle.interface_ingress.specs.IpAddress.TheVariants as Address
-use Rattle.ip_address.specs.declared.ip.IpCidr.{IpCidr}
-use Rattle.interface_tables.specs.Inner.{InnerValue}
-use Rattle.interface_tables.specs.Neighbor.{flushed}
-use Rattle.interface_tables.specs.Route.{is_gateway_v4, is_gateway_v6, IsGateway, IsAdded}
-use Rattle.interface_tables.specs.declared.route.Route.{Route}
-use Rattle.interface_tables.specs.Settings.{hardware_refusal, if_none, is_stranger, with_addresses, with_any_ip, routes_of, with_routes, used}
-use Rattle.interface_tables.specs.declared.config.HardwareAddrError.TheVariants as Set
-use Rattle.interface_egress.specs.Fragments.{LeftValue}
+use Rattle.iface_ingress.specs.AddressTests.{is_ethernet_unicast}
+use Rattle.iface_ingress.specs.EthernetAddress.{EthernetAddress}
+use Rattle.iface_ingress.specs.HardwareAddress.{HardwareAddress}
+use Rattle.iface_ingress.specs.HardwareAddress.TheVariants as Hardware
+use Rattle.iface_ingress.specs.Address.{IsIpAddress}
+use Rattle.iface_ingress.specs.IpAddress.{IpAddress}
+use Rattle.iface_ingress.specs.IpAddress.TheVariants as Address
+use Rattle.wire_address.specs.declared.ip.IpCidr.{IpCidr}
+use Rattle.iface_tables.specs.Inner.{InnerValue}
+use Rattle.iface_tables.specs.Neighbor.{flushed}
+use Rattle.iface_tables.specs.Route.{is_gateway_v4, is_gateway_v6, IsGateway, IsAdded}
+use Rattle.iface_tables.specs.declared.route.Route.{Route}
+use Rattle.iface_tables.specs.Settings.{hardware_refusal, if_none, is_stranger, with_addresses, with_any_ip, routes_of, with_routes, used}
+use Rattle.iface_tables.specs.declared.config.HardwareAddrError.TheVariants as Set
+use Rattle.iface_egress.specs.Fragments.{LeftValue}
 use Rattle.interface.specs.Host.{HostValue}
 use Rattle.interface.specs.Made.{with_inner, with_timeout}
 use Rattle.lan.specs.Worlds.AtLink.Kinds.{Setting, other}
@@ -24,7 +24,7 @@ use Rattle.lan.specs.Worlds.AtLink.Answer.{Answer}
 use Rattle.lan.specs.Worlds.AtLink.Side.{Side}
 use Rattle.lan.specs.Worlds.AtLink.Parties.{Party, Net, party}
 use Rattle.lan.specs.Worlds.AtLink.Sets.{SetsTo, Configures, RoutedIf, has_route_room}
-use Rattle.lan.specs.Worlds.AtLink.Station.{StationValue, Stations, station}
+use Rattle.lan.specs.Worlds.AtLink.Node.{NodeValue, Nodes, node}
 use Rattle.lan.specs.Worlds.Moves.Made.{MadeBy}
 use Rattle.lan.specs.Worlds.Link.Frames.{Outgoing, medium_on, BringsFrom}
 use Rattle.lan.specs.Worlds.Link.Numbers.{count_numbered}
@@ -37,10 +37,10 @@ use Rattle.lan.proofs.Worlds.Link.Grown.{same_out}
 
 -- SETTINGS THAT LEAVE THE HARDWARE ADDRESS
 
-inner_settled : (s : StationValue) (i : InnerValue) → i.hardware ≡ s.host.inner.hardware → i.ident ≡ s.host.inner.ident → (IsSound s.host.inner → IsSound i) →
+inner_settled : (s : NodeValue) (i : InnerValue) → i.hardware ≡ s.host.inner.hardware → i.ident ≡ s.host.inner.ident → (IsSound s.host.inner → IsSound i) →
     IsSettled s (record s { host = record s.host { inner = i } })
 inner_settled s i hardware ident sound =
-    record { sent = refl; waiting = refl; device = refl; left = refl; slots = refl; hardware = hardware; ident = ident; sound = sound }
+    record { sent = refl; waiting = refl; device = refl; left = refl; assemblers = refl; hardware = hardware; ident = ident; sound = sound }
 
 pub flushed_sound : (i : InnerValue) (blocks : List IpCidr) → IsSound i → IsSound (record i { addresses = blocks; neighbors = flushed i.neighbors })
 flushed_sound i blocks s =
@@ -65,7 +65,7 @@ used_sound i s = record {
       s.checksums;
 }
 
-addresses_settled : (s : StationValue) (blocks : List IpCidr) → IsSettled s (record s { host = with_inner s.host (with_addresses s.host.inner blocks) })
+addresses_settled : (s : NodeValue) (blocks : List IpCidr) → IsSettled s (record s { host = with_inner s.host (with_addresses s.host.inner blocks) })
 addresses_settled s blocks =
     elim (list_any is_stranger blocks) as
     (λ b. IsSettled s (record s {
@@ -107,15 +107,15 @@ routed_sound i routes router room to is s =
 
 -- A TIME
 
-timeout_settled : (s : StationValue) (timeout : ℕ) → IsSettled s (record s { host = with_timeout s.host timeout })
+timeout_settled : (s : NodeValue) (timeout : ℕ) → IsSettled s (record s { host = with_timeout s.host timeout })
 timeout_settled s timeout =
-    record { sent = refl; waiting = refl; device = refl; left = refl; slots = refl; hardware = refl; ident = refl; sound = used_sound s.host.inner }
+    record { sent = refl; waiting = refl; device = refl; left = refl; assemblers = refl; hardware = refl; ident = refl; sound = used_sound s.host.inner }
 
 -- A HARDWARE ADDRESS
 
-pub station_sound : (i : InnerValue) (own address : EthernetAddress) → i.hardware ≡ Hardware.Ethernet own → length address.0 ≡ 6 → IsSound i →
+pub node_sound : (i : InnerValue) (own address : EthernetAddress) → i.hardware ≡ Hardware.Ethernet own → length address.0 ≡ 6 → IsSound i →
     IsSound (record i { hardware = Hardware.Ethernet address })
-station_sound i own address is six s =
+node_sound i own address is six s =
     record { own = six; neighbors = s.neighbors; routers = s.routers; widths = record { mtu = s.widths.mtu; ident = s.widths.ident }; checksums = s.checksums }
 
 same_kind : (own address : EthernetAddress) (to : HardwareAddress) → IsSameKind (Hardware.Ethernet own) to → IsSameKind (Hardware.Ethernet address) to
@@ -127,27 +127,27 @@ left_kind : (own address : EthernetAddress) (out : List Outgoing) (l : Option Le
 left_kind own address out None is = tt
 left_kind own address out (Some l) is = record { sent = is.sent; half = is.half; to = same_kind own address l.to is.to }
 
-module _ (p q : Party) (first most : ℕ) (out others : List Outgoing) (s : StationValue) (sends : Sends p first s out) (receives : Receives q others s)
+module _ (p q : Party) (first most : ℕ) (out others : List Outgoing) (s : NodeValue) (sends : Sends p first s out) (receives : Receives q others s)
     (few : count_numbered out ≤ most) where
-  abbrev with_station_address : EthernetAddress → StationValue
-  with_station_address address = record s { host = with_inner s.host (record s.host.inner { hardware = Hardware.Ethernet address }) }
+  abbrev with_node_address : EthernetAddress → NodeValue
+  with_node_address address = record s { host = with_inner s.host (record s.host.inner { hardware = Hardware.Ethernet address }) }
 
   address_acts : (own address : EthernetAddress) → s.host.inner.hardware ≡ Hardware.Ethernet own → length address.0 ≡ 6 →
-      HasActed p q first most out others s (with_station_address address)
+      HasActed p q first most out others s (with_node_address address)
   address_acts own address is six = record {
     out_after = out;
     more = same_out _;
     medium = ap medium_on (sym is);
     device = refl;
     sends = record {
-      sound = station_sound s.host.inner own address is six sends.sound;
+      sound = node_sound s.host.inner own address is six sends.sound;
       are_sent = sends.are_sent;
       left_is = left_kind own address out s.host.left (subst (λ (h : HardwareAddress). IfSome s.host.left (IsLeft h out)) is sends.left_is);
       frames = subst (λ (h : HardwareAddress). AllByRecursion (IsHostFrame (medium_on h) out) s.link.sent) is sends.frames;
     };
     receives = record {
       checksums = receives.checksums;
-      slots_are = receives.slots_are;
+      assemblers_are = receives.assemblers_are;
       waits = subst (λ (h : HardwareAddress). AllByRecursion (BringsFrom (MadeBy q) others h) s.link.waiting) is receives.waits;
     };
     counted = few;
@@ -159,7 +159,7 @@ module _ (p q : Party) (first most : ℕ) (out others : List Outgoing) (s : Stat
     waiting = refl;
     device = refl;
     left = refl;
-    slots = refl;
+    assemblers = refl;
     hardware = refl;
     ident =
         refl;
@@ -207,12 +207,12 @@ module _ (p q : Party) (first most : ℕ) (out others : List Outgoing) (s : Stat
       (settled_acts p q first most out others s (record s { host = with_timeout s.host timeout }) (timeout_settled s timeout) sends receives few)
 
 -- a setting of one host
-pub setting_joins : (firsts most : Side → ℕ) (old new : Stations) (net : Net) (side : Side) (setting : Setting) (answer : Answer) →
-    AreJoined firsts most old net → HasRange setting → Configures (station old side) setting answer (station new side)
-    → station new (other side) ≡ station old (other side) → AreJoined firsts most new net
+pub setting_joins : (firsts most : Side → ℕ) (old new : Nodes) (net : Net) (side : Side) (setting : Setting) (answer : Answer) →
+    AreJoined firsts most old net → HasRange setting → Configures (node old side) setting answer (node new side)
+    → node new (other side) ≡ node old (other side) → AreJoined firsts most new net
 setting_joins firsts most old new net side setting answer j range is rests =
     acted_joins firsts most most old new net j side rests (omega arith)
-    (subst (λ (x : StationValue). HasActed (party net side) (party net (other side)) (firsts side) (most side) (j.out side) (j.out (other side))
-    (station old side) x) (sym is.3)
-    (set_acts (party net side) (party net (other side)) (firsts side) (most side) (j.out side) (j.out (other side)) (station old side) (j.sends side)
+    (subst (λ (x : NodeValue). HasActed (party net side) (party net (other side)) (firsts side) (most side) (j.out side) (j.out (other side))
+    (node old side) x) (sym is.3)
+    (set_acts (party net side) (party net (other side)) (firsts side) (most side) (j.out side) (j.out (other side)) (node old side) (j.sends side)
     (j.receives side) (j.counted side) setting is.0 range is.1))

@@ -10,7 +10,7 @@ use Rattle.lan.specs.declared.at_link.history.event.Event.{Event}
 use Rattle.lan.specs.declared.at_link.history.event.Event.TheVariants as E
 use Rattle.lan.specs.declared.at_link.history.event.Side.{Side}
 use Rattle.lan.specs.Worlds.AtLink.Runs.{Step, Steps, WorldValue}
-use Rattle.lan.specs.Worlds.Settling.{AreAtRest, AreServed, Goes, Handed, IsService, NextRound, Rounds, Settles, deliveries}
+use Rattle.lan.specs.Worlds.Settling.{AreIdle, AreServed, Goes, Handed, IsService, NextRound, Rounds, Settles, deliveries}
 
 pub goes_not : (w : WorldValue) → Goes w w
 goes_not w = ([], tt, refl)
@@ -26,8 +26,8 @@ steps_of_both : (old mid new : WorldValue) (xs ys : List Event) → Steps old xs
 steps_of_both old mid new [] ys is steps = subst (λ (w : WorldValue). Steps w ys new) is steps
 steps_of_both old mid new (x ∷ xs) ys before steps = (before.0, before.1, before.2, steps_of_both before.1 mid new xs ys before.3 steps)
 
-pub goes_on : (old mid new : WorldValue) → Goes old mid → Goes mid new → Goes old new
-goes_on old mid new (xs, are, steps) (ys, are_too, more) = (xs ++ ys, all_of_both xs ys are are_too, steps_of_both old mid new xs ys steps more)
+pub proceeds : (old mid new : WorldValue) → Goes old mid → Goes mid new → Goes old new
+proceeds old mid new (xs, are, steps) (ys, are_too, more) = (xs ++ ys, all_of_both xs ys are are_too, steps_of_both old mid new xs ys steps more)
 
 -- an event that isn't taken leaves all as it was
 pub served_or_not : (old new : WorldValue) (event : Event) (r : Result Answer Refused) → IsService event
@@ -44,49 +44,49 @@ one_more side k (suc n) =
     ap (λ (events : List Event). E.Deliver side k [] ∷ events)
     (subst (λ (m : ℕ). deliveries side (suc k) (suc n) ≡ deliveries side (suc k) n ++ E.Deliver side m [] ∷ []) moved (one_more side (suc k) n))
 
--- the next one behind those of a host from one number up to another
+-- the next one after those of a host from one number up to another
 pub handed_on : (old mid new : WorldValue) (side : Side) (from frame : ℕ) (padding : List ℕ) (answer : Answer) → from ≤ frame → padding ≡ []
     → Steps old (deliveries side from (frame - from)) mid → Step mid (E.Deliver side frame padding) answer new
     → Steps old (deliveries side from (frame + 1 - from)) new
 handed_on old mid new side from frame padding answer below bare before step =
     let counted : frame + 1 - from ≡ suc (frame - from) = omega arith in
-    let place : frame ≡ from + (frame - from) = omega arith in
+    let slot : frame ≡ from + (frame - from) = omega arith in
     let first : List Event = deliveries side from (frame - from) in
     let plain : Step mid (E.Deliver side frame []) answer new = subst (λ (p : List ℕ). Step mid (E.Deliver side frame p) answer new) bare step in
     let both : Steps old (first ++ E.Deliver side frame [] ∷ []) new =
     steps_of_both old mid new first (E.Deliver side frame [] ∷ []) before (answer, new, plain, refl) in
     let all : Steps old (first ++ E.Deliver side (from + (frame - from)) [] ∷ []) new =
-    subst (λ (m : ℕ). Steps old (first ++ E.Deliver side m [] ∷ []) new) place both in
+    subst (λ (m : ℕ). Steps old (first ++ E.Deliver side m [] ∷ []) new) slot both in
     subst (λ (n : ℕ). Steps old (deliveries side from n) new) (sym counted)
     (subst (λ (events : List Event). Steps old events new) (sym (one_more side from (frame - from))) all)
 
 -- ROUNDS
 
-neither : (a b : Option ℤ) (moment : ℤ) → None ≡ option_map (int_max moment) (earlier a b) → (a ≡ None) × (b ≡ None)
-neither None None moment is = (refl, refl)
-neither None (Some b) moment is = absurd cc
-neither (Some a) None moment is = absurd cc
-neither (Some a) (Some b) moment is = absurd cc
+neither : (a b : Option ℤ) (instant : ℤ) → None ≡ option_map (int_max instant) (earlier a b) → (a ≡ None) × (b ≡ None)
+neither None None instant is = (refl, refl)
+neither None (Some b) instant is = absurd cc
+neither (Some a) None instant is = absurd cc
+neither (Some a) (Some b) instant is = absurd cc
 
--- behind a round after which there is none both are at rest
-pub rests : (moment : ℤ) (handed : Handed) (old new : WorldValue) → NextRound moment handed None old new → AreAtRest moment new.history
-rests moment handed old new (inl (under_way, at, same)) = absurd cc
-rests moment handed old new (inr (calm, a, b, (between, one, two), is)) =
-    let none : (a ≡ None) × (b ≡ None) = neither a b moment is in (
+-- after a round after which there is none both are at rest
+pub rests : (instant : ℤ) (handed : Handed) (old new : WorldValue) → NextRound instant handed None old new → AreIdle instant new.history
+rests instant handed old new (inl (under_way, at, same)) = absurd cc
+rests instant handed old new (inr (calm, a, b, (between, one, two), is)) =
+    let none : (a ≡ None) × (b ≡ None) = neither a b instant is in (
       old.history,
       between.history,
       (one.entry, one.history, one.event_kept, one.answer_kept ∙ ap To.At none.0),
       (two.entry, two.history, two.event_kept, two.answer_kept ∙ ap To.At none.1),
     )
 
-pub one_round_more : (budget : ℕ) (from moment next : ℤ) (handed now : Handed) (n : ℕ) (first old served new : WorldValue)
-    → Rounds budget from first n moment handed old → AreServed moment budget handed now old served → NextRound moment handed (Some next) served new
+pub one_round_more : (budget : ℕ) (from instant next : ℤ) (handed now : Handed) (n : ℕ) (first old served new : WorldValue)
+    → Rounds budget from first n instant handed old → AreServed instant budget handed now old served → NextRound instant handed (Some next) served new
     → Rounds budget from first (n + 1) next now new
-one_round_more budget from moment next handed now n first old served new before are goes =
-    subst (λ (m : ℕ). Rounds budget from first m next now new) (sym (add-one n)) (moment, handed, old, before, (served, are, goes))
+one_round_more budget from instant next handed now n first old served new before are goes =
+    subst (λ (m : ℕ). Rounds budget from first m next now new) (sym (add-one n)) (instant, handed, old, before, (served, are, goes))
 
-pub the_last_round : (budget : ℕ) (from moment : ℤ) (handed now : Handed) (n rounds : ℕ) (first old served new : WorldValue) → n < rounds
-    → Rounds budget from first n moment handed old → AreServed moment budget handed now old served → NextRound moment handed None served new
-    → Settles budget from rounds (Some moment) first new
-the_last_round budget from moment handed now n rounds first old served new below before are goes =
+pub the_last_round : (budget : ℕ) (from instant : ℤ) (handed now : Handed) (n rounds : ℕ) (first old served new : WorldValue) → n < rounds
+    → Rounds budget from first n instant handed old → AreServed instant budget handed now old served → NextRound instant handed None served new
+    → Settles budget from rounds (Some instant) first new
+the_last_round budget from instant handed now n rounds first old served new below before are goes =
     (n, below, handed, now, old, before, (served, are, goes))

@@ -3,30 +3,30 @@ use Rattle.std.proofs.Common.{◌≡◌, ℕ, ℤ, ◌≤ℤ◌, Bool, false, Li
 use Rattle.std.specs.Prelude.{pos}
 use Rattle.std.specs.List.{list_any}
 use Rattle.std.proofs.lemmas.Int.{ints}
-use Rattle.ip_wire.specs.Block.{block_address}
-use Rattle.interface_ingress.specs.AddressTests.{is_loopback}
-use Rattle.interface_tables.specs.Inner.{InnerValue}
-use Rattle.tcp_model.specs.Value.{TcpValue}
-use Rattle.lan.specs.Worlds.AtLink.Fresh.{IsFreshWorld}
+use Rattle.ip_wire.specs.Cidr.{cidr_address}
+use Rattle.iface_ingress.specs.AddressTests.{is_loopback}
+use Rattle.iface_tables.specs.Inner.{InnerValue}
+use Rattle.tcp_block.specs.Value.{TcpValue}
+use Rattle.lan.specs.Worlds.AtLink.Initial.{IsInitialWorld}
 use Rattle.lan.specs.Worlds.AtLink.History.{Entry}
 use Rattle.lan.specs.Worlds.AtLink.Moves.{IsRun, Step, after, run}
 use Rattle.lan.specs.Worlds.AtLink.Paired.{AreHosted, Seat, at_zero, clocks_after, clocks_in}
 use Rattle.lan.specs.Worlds.AtLink.Parties.{Net, party, socket_at}
 use Rattle.lan.specs.Worlds.AtLink.Parties.Socket.{Tcp}
-use Rattle.lan.specs.Worlds.AtLink.PacketsSafe.{IsFreshParty}
+use Rattle.lan.specs.Worlds.AtLink.PacketsSafe.{IsInitialParty}
 use Rattle.lan.specs.Worlds.AtLink.Runs.{Starts}
 use Rattle.lan.specs.Worlds.AtLink.Side.{Side}
 use Rattle.lan.specs.Worlds.AtLink.Side.TheVariants.{A, B}
-use Rattle.lan.specs.Worlds.AtLink.Station.{Stations}
+use Rattle.lan.specs.Worlds.AtLink.Node.{Nodes}
 use Rattle.lan.specs.Worlds.Events.{AreTyped}
 use Rattle.lan.specs.Worlds.Moves.Follows.{IsNetOf}
 use Rattle.lan.specs.Worlds.Moves.Joined.{first_net}
 use Rattle.lan.specs.Worlds.Still.{MovePlainly, StillRun, seats_of}
 use Rattle.lan.proofs.Worlds.Moves.Calls.{names}
-use Rattle.lan.proofs.Worlds.Moves.Worlds.{fresh_net}
+use Rattle.lan.proofs.Worlds.Moves.Worlds.{initial_net}
 use Rattle.lan.proofs.Worlds.Runs.{came_on, has_come, held_run}
 use Rattle.lan.proofs.Worlds.AtLink.Extended.{run-append}
-use Rattle.lan.proofs.Worlds.StillOnward.{first, moments, now_still, ran}
+use Rattle.lan.proofs.Worlds.StillOnward.{first, instants, now_still, ran}
 use Rattle.lan.proofs.Worlds.StillPlain.{plain_run}
 use Rattle.lan.proofs.Worlds.StillSources.{PairKeeps}
 
@@ -44,36 +44,36 @@ hosted_rest seats clocks net (step ∷ steps) more are = hosted_rest seats (cloc
 
 module _ (starts : Starts) where
   -- no socket has a pair at first
-  new_keeps : (i : InnerValue) (ports : ℕ → ℕ) (net : Net) (side : Side) → IsFreshParty ports (party net side) → (at : ℕ) (v : TcpValue) →
-      socket_at (party net side) at ≡ Some (Tcp v) → PairKeeps i v.block.names.pair
-  new_keeps i ports net side fresh at v is pair some =
-      absurd (let clash : None ≡ Some pair = sym (fresh.sockets at (Tcp v) is).1.pair ∙ some in cc)
+  new_keeps : (i : InnerValue) (ports : ℕ → ℕ) (net : Net) (side : Side) → IsInitialParty ports (party net side) → (at : ℕ) (v : TcpValue) →
+      socket_at (party net side) at ≡ Some (Tcp v) → PairKeeps i v.tcb.names.pair
+  new_keeps i ports net side initial at v is pair some =
+      absurd (let clash : None ≡ Some pair = sym (initial.sockets at (Tcp v) is).1.pair ∙ some in cc)
 
-  first_keeps : IsFreshWorld starts → (side : Side) (at : ℕ) (v : TcpValue) → socket_at (party (first_net starts) side) at ≡ Some (Tcp v) →
-      PairKeeps (first starts side) v.block.names.pair
-  first_keeps fresh A = new_keeps (first starts A) _ (first_net starts) A (fresh_net starts fresh).a
-  first_keeps fresh B = new_keeps (first starts B) _ (first_net starts) B (fresh_net starts fresh).b
+  first_keeps : IsInitialWorld starts → (side : Side) (at : ℕ) (v : TcpValue) → socket_at (party (first_net starts) side) at ≡ Some (Tcp v) →
+      PairKeeps (first starts side) v.tcb.names.pair
+  first_keeps initial A = new_keeps (first starts A) _ (first_net starts) A (initial_net starts initial).a
+  first_keeps initial B = new_keeps (first starts B) _ (first_net starts) B (initial_net starts initial).b
 
-  outward : (history : List Entry) (hosts : Stations) → StillRun starts history hosts → (s : Side) →
-      list_any (λ b. is_loopback (block_address b)) (first starts s).addresses ≡ false
+  outward : (history : List Entry) (hosts : Nodes) → StillRun starts history hosts → (s : Side) →
+      list_any (λ b. is_loopback (cidr_address b)) (first starts s).addresses ≡ false
   outward history hosts still s =
       let it = now_still starts history hosts still s in
-      ap (list_any (λ b. is_loopback (block_address b))) (sym it.addresses) ∙ it.outward
+      ap (list_any (λ b. is_loopback (cidr_address b))) (sym it.addresses) ∙ it.outward
 
-  hosted : (history : List Entry) (hosts : Stations) (fresh : IsFreshWorld starts) (typed : AreTyped history) (still : StillRun starts history hosts)
-      (places : Side → ℕ)
-      → AreHosted (seats_of starts places) at_zero (first_net starts) (has_come starts history hosts fresh typed (ran starts history hosts still)).steps
-  hosted history hosts fresh typed still places =
-      let came = has_come starts history hosts fresh typed (ran starts history hosts still) in
-      plain_run (first starts) (outward history hosts still) names (seats_of starts places) (λ s. refl) at_zero at_zero (first_net starts) came.steps
-      (moments starts hosts) came.may (held_run starts history hosts fresh typed still) (first_keeps fresh) (λ s. at_once)
+  hosted : (history : List Entry) (hosts : Nodes) (initial : IsInitialWorld starts) (typed : AreTyped history) (still : StillRun starts history hosts)
+      (slots : Side → ℕ)
+      → AreHosted (seats_of starts slots) at_zero (first_net starts) (has_come starts history hosts initial typed (ran starts history hosts still)).steps
+  hosted history hosts initial typed still slots =
+      let came = has_come starts history hosts initial typed (ran starts history hosts still) in
+      plain_run (first starts) (outward history hosts still) names (seats_of starts slots) (λ s. refl) at_zero at_zero (first_net starts) came.steps
+      (instants starts hosts) came.may (held_run starts history hosts initial typed still) (first_keeps initial) (λ s. at_once)
 
-  pub still_hosts_move_plainly : (past more : List Entry) (hosts : Stations) → IsFreshWorld starts → AreTyped (more ++ past) →
-      StillRun starts (more ++ past) hosts → (between : Stations) × StillRun starts past between × MovePlainly starts past between (more ++ past) hosts
-  still_hosts_move_plainly past more hosts fresh typed still =
-      let (between, typed_past, was, steps, is) = came_on starts past more hosts fresh typed still in
-      let one = has_come starts past between fresh typed_past (ran starts past between was) in
-      let all = has_come starts (more ++ past) hosts fresh typed (ran starts (more ++ past) hosts still) in
+  pub still_hosts_move_plainly : (past more : List Entry) (hosts : Nodes) → IsInitialWorld starts → AreTyped (more ++ past) →
+      StillRun starts (more ++ past) hosts → (between : Nodes) × StillRun starts past between × MovePlainly starts past between (more ++ past) hosts
+  still_hosts_move_plainly past more hosts initial typed still =
+      let (between, typed_past, was, steps, is) = came_on starts past more hosts initial typed still in
+      let one = has_come starts past between initial typed_past (ran starts past between was) in
+      let all = has_come starts (more ++ past) hosts initial typed (ran starts (more ++ past) hosts still) in
       let net = first_net starts in
       let ends : all.net ≡ run (run net one.steps) steps = sym all.ends ∙ ap (run net) is ∙ run-append net one.steps steps in (
         between,
@@ -82,11 +82,11 @@ module _ (starts : Starts) where
           before = one.steps;
           may = one.may;
           of = subst (λ (n : Net). IsNetOf n between past) (sym one.ends) one.of;
-          hosted = hosted past between fresh typed_past was;
+          hosted = hosted past between initial typed_past was;
           steps = steps;
           may_on = run_rest names net one.steps steps (subst (IsRun names net) is all.may);
           of_these = subst (λ (n : Net). IsNetOf n hosts (more ++ past)) ends all.of;
-          hosted_on = λ places. hosted_rest (seats_of starts places) at_zero net one.steps steps
-              (subst (AreHosted (seats_of starts places) at_zero net) is (hosted (more ++ past) hosts fresh typed still places));
+          hosted_on = λ slots. hosted_rest (seats_of starts slots) at_zero net one.steps steps
+              (subst (AreHosted (seats_of starts slots) at_zero net) is (hosted (more ++ past) hosts initial typed still slots));
         },
       )

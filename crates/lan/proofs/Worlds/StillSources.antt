@@ -4,39 +4,39 @@ use Rattle.std.proofs.Common.{Option, Some, None, IfSome, Result, Ok, Err, refl,
 use Rattle.std.specs.Prelude.{◌||◌, ◌==◌}
 use Rattle.std.specs.List.{list_any}
 use Rattle.ip_wire.specs.IpCidr.{IpCidr}
-use Rattle.ip_wire.specs.Block.{block_address}
-use Rattle.interface_ingress.specs.AddressTests.{are_of_one_family, is_loopback, is_multicast, is_unspecified}
-use Rattle.interface_ingress.specs.IpAddress.{IpAddress}
-use Rattle.interface_ingress.specs.IpAddress.TheVariants as Address
-use Rattle.ip_address.specs.declared.ip.IpEndpoint.{IpEndpoint}
-use Rattle.ip_address.specs.declared.ip.IpListenEndpoint.{IpListenEndpoint}
+use Rattle.ip_wire.specs.Cidr.{cidr_address}
+use Rattle.iface_ingress.specs.AddressTests.{are_of_one_family, is_loopback, is_multicast, is_unspecified}
+use Rattle.iface_ingress.specs.IpAddress.{IpAddress}
+use Rattle.iface_ingress.specs.IpAddress.TheVariants as Address
+use Rattle.wire_address.specs.declared.ip.IpEndpoint.{IpEndpoint}
+use Rattle.wire_address.specs.declared.ip.IpListenEndpoint.{IpListenEndpoint}
 use Rattle.interface.specs.Ip.{source_of, destination_of}
 use Rattle.interface.specs.IpRepr.{IpRepr}
 use Rattle.interface.specs.IpRepr.TheVariants as Ip
-use Rattle.interface.specs.Turn.{with_source}
-use Rattle.interface_tables.specs.Inner.{InnerValue, is_foreign_loopback, is_local_broadcast, is_loopback_of, may_come_from}
-use Rattle.interface_tables.specs.Source.{source_for}
-use Rattle.ip_tcp.specs.declared.header.TcpHeader.{TcpHeader}
-use Rattle.net_containers.specs.Ring.{anchored, enqueued}
+use Rattle.interface.specs.Serve.{with_source}
+use Rattle.iface_tables.specs.Inner.{InnerValue, is_foreign_loopback, is_local_broadcast, is_loopback_of, may_be_source}
+use Rattle.iface_tables.specs.Source.{source_for}
+use Rattle.wire_tcp.specs.declared.header.TcpHeader.{TcpHeader}
+use Rattle.base_buffer.specs.Ring.{anchored, enqueued}
 use Rattle.sockets.specs.Context.{ContextValue}
-use Rattle.tcp_tie.specs.Endpoints.{IsRenamed}
-use Rattle.tcp_tie.proofs.NameLaws.{abort_names, arrival_names, close_names, offer_between_ends, sent_names, withheld_names}
-use Rattle.tcp_model.specs.AddressPair.{AddressPair}
-use Rattle.tcp_model.specs.AddressPair.TheVariants as Pair
-use Rattle.tcp_model.specs.Arrival.{arrives}
-use Rattle.tcp_model.specs.Calls.{abort_after, addresses_by, close_after, connected_by, listening, pair_by, pair_for, recv_answer, send_after, sent_more}
-use Rattle.tcp_model.specs.EndpointPair.{EndpointPair}
-use Rattle.tcp_model.specs.Endpoints.{addresses_in, local_of, pair_in, pair_of, remote_of}
-use Rattle.tcp_model.specs.FirstNumbers.{number_for}
-use Rattle.tcp_model.specs.Offers.{offer_of}
-use Rattle.tcp_model.specs.OpenOffer.{OpenOffer}
-use Rattle.tcp_model.specs.RecvError.{RecvError}
-use Rattle.tcp_model.specs.Settled.{settled}
-use Rattle.tcp_model.specs.State.{State}
-use Rattle.tcp_model.specs.States.{is_closed, takes_writes}
-use Rattle.tcp_model.specs.Value.{TcpValue, unoffered}
-use Rattle.tcp_model.specs.declared.block.Block.{Block}
-use Rattle.tcp_model.specs.declared.block.Names.{Names}
+use Rattle.tcp_refinement.specs.Endpoints.{IsRenamed}
+use Rattle.tcp_refinement.proofs.NameLaws.{abort_names, arrival_names, close_names, offer_between_ends, sent_names, withheld_names}
+use Rattle.tcp_block.specs.AddressPair.{AddressPair}
+use Rattle.tcp_block.specs.AddressPair.TheVariants as Pair
+use Rattle.tcp_block.specs.Arrival.{arrives}
+use Rattle.tcp_block.specs.Calls.{abort_after, addresses_by, close_after, connected_by, listening, pair_by, four_tuple_for, recv_answer, send_after, sent_more}
+use Rattle.tcp_block.specs.FourTuple.{FourTuple}
+use Rattle.tcp_block.specs.Endpoints.{addresses_in, local_of, pair_in, pair_of, remote_of}
+use Rattle.tcp_block.specs.Isn.{number_for}
+use Rattle.tcp_block.specs.Offers.{offer_of}
+use Rattle.tcp_block.specs.OpenOffer.{OpenOffer}
+use Rattle.tcp_block.specs.RecvError.{RecvError}
+use Rattle.tcp_block.specs.Settled.{settled}
+use Rattle.tcp_block.specs.State.{State}
+use Rattle.tcp_block.specs.States.{is_closed, takes_writes}
+use Rattle.tcp_block.specs.Value.{TcpValue, unoffered}
+use Rattle.tcp_block.specs.declared.tcb.Tcb.{Tcb}
+use Rattle.tcp_block.specs.declared.tcb.Names.{Names}
 use Rattle.lan.specs.Worlds.AtLink.Answer.{Answer}
 use Rattle.lan.specs.Worlds.AtLink.Call as Call
 use Rattle.lan.specs.Worlds.AtLink.Call.{SocketCall}
@@ -51,13 +51,13 @@ use Rattle.lan.proofs.Worlds.Moves.Held.{IsBetweenHosts, source_by}
 
 -- an address may be the source, or is the one that the host chooses
 abbrev Keeps : InnerValue → AddressPair → Type 0
-Keeps i a = (may_come_from i (local_of a) (remote_of a) ≡ true) ⊎ (source_for i.addresses (remote_of a) ≡ Some (local_of a))
+Keeps i a = (may_be_source i (local_of a) (remote_of a) ≡ true) ⊎ (source_for i.addresses (remote_of a) ≡ Some (local_of a))
 
-abbrev pub PairKeeps : InnerValue → Option EndpointPair → Type 0
-PairKeeps i o = (pair : EndpointPair) → o ≡ Some pair → Keeps i pair.addresses
+abbrev pub PairKeeps : InnerValue → Option FourTuple → Type 0
+PairKeeps i o = (pair : FourTuple) → o ≡ Some pair → Keeps i pair.addresses
 
 abbrev pub TcpKeeps : InnerValue → TcpValue → Type 0
-TcpKeeps i v = PairKeeps i v.block.names.pair
+TcpKeeps i v = PairKeeps i v.tcb.names.pair
 
 -- so what such a socket offers leaves from its own address
 chosen_same : (h : IpRepr) → source_of (with_source h (Some (source_of h))) ≡ source_of h
@@ -65,15 +65,15 @@ chosen_same (Ip.Ipv4 v) = refl
 chosen_same (Ip.Ipv6 v) = refl
 
 own_source : (i : InnerValue) (h : IpRepr) →
-    (may_come_from i (source_of h) (destination_of h) ≡ true) ⊎ (source_for i.addresses (destination_of h) ≡ Some (source_of h)) → source_by i h ≡ source_of h
+    (may_be_source i (source_of h) (destination_of h) ≡ true) ⊎ (source_for i.addresses (destination_of h) ≡ Some (source_of h)) → source_by i h ≡ source_of h
 own_source i h (inl may) = λ k. source_of (if may k then h else with_source h (source_for i.addresses (destination_of h)))
-own_source i h (inr chosen) = by (may_come_from i (source_of h) (destination_of h)) where
+own_source i h (inr chosen) = by (may_be_source i (source_of h) (destination_of h)) where
   by : (b : Bool) → source_of (if b then h else with_source h (source_for i.addresses (destination_of h))) ≡ source_of h
   by true = refl
   by false = ap (λ (o : Option IpAddress). source_of (with_source h o)) chosen ∙ chosen_same h
 
 kept_source : (i : InnerValue) (a : AddressPair) (h : IpRepr) → source_of h ≡ local_of a → destination_of h ≡ remote_of a → Keeps i a → source_by i h ≡ source_of h
-kept_source i a h source destination (inl may) = own_source i h (inl ((λ k. may_come_from i (source k) (destination k)) ∙ may))
+kept_source i a h source destination (inl may) = own_source i h (inl ((λ k. may_be_source i (source k) (destination k)) ∙ may))
 kept_source i a h source destination (inr chosen) =
     own_source i h (inr (ap (source_for i.addresses) destination ∙ chosen ∙ ap (λ (x : IpAddress). Some x) (sym source)))
 
@@ -92,11 +92,11 @@ no_or : (a b : Bool) → (a || b) ≡ false → (a ≡ false) × (b ≡ false)
 no_or true b is = absurd (let clash : true ≡ false = is in cc)
 no_or false b is = (refl, is)
 
-none_such : (a : IpAddress) (blocks : List IpCidr) → list_any (λ b. is_loopback (block_address b)) blocks ≡ false → list_any (is_loopback_of a) blocks ≡ false
+none_such : (a : IpAddress) (blocks : List IpCidr) → list_any (λ b. is_loopback (cidr_address b)) blocks ≡ false → list_any (is_loopback_of a) blocks ≡ false
 none_such a [] is = refl
 none_such a (b ∷ blocks) is =
-    let parts = no_or (is_loopback (block_address b)) (list_any (λ b. is_loopback (block_address b)) blocks) is in
-    (λ k. (parts.0 k && are_of_one_family a (block_address b)) || list_any (is_loopback_of a) blocks) ∙ none_such a blocks parts.1
+    let parts = no_or (is_loopback (cidr_address b)) (list_any (λ b. is_loopback (cidr_address b)) blocks) is in
+    (λ k. (parts.0 k && are_of_one_family a (cidr_address b)) || list_any (is_loopback_of a) blocks) ∙ none_such a blocks parts.1
 
 no_loop : (loop any : Bool) → (loop && not any) ≡ false → any ≡ false → loop ≡ false
 no_loop true any is none = absurd (let clash : true ≡ false = (λ k. not (sym none k)) ∙ is in cc)
@@ -108,8 +108,8 @@ may_so true group loop far one two three = absurd (let clash : true ≡ false = 
 may_so false true loop far one two three = absurd (let clash : true ≡ false = two in cc)
 may_so false false true far one two three = absurd (let clash : true ≡ false = three in cc)
 
-module _ (i : InnerValue) (outward : list_any (λ b. is_loopback (block_address b)) i.addresses ≡ false) where
-  opened_keeps : (ip : IpRepr) → IsBetweenHosts i ip → may_come_from i (destination_of ip) (source_of ip) ≡ true
+module _ (i : InnerValue) (outward : list_any (λ b. is_loopback (cidr_address b)) i.addresses ≡ false) where
+  opened_keeps : (ip : IpRepr) → IsBetweenHosts i ip → may_be_source i (destination_of ip) (source_of ip) ≡ true
   opened_keeps ip between =
       let to = destination_of ip in
       let parts = no_or (is_unspecified (source_of ip)) (is_unspecified to || (is_local_broadcast i to || is_multicast to)) between.somebody in
@@ -123,15 +123,15 @@ module _ (i : InnerValue) (outward : list_any (λ b. is_loopback (block_address 
   ends_in (Ip.Ipv4 v) between = inl (opened_keeps (Ip.Ipv4 v) between)
   ends_in (Ip.Ipv6 v) between = inl (opened_keeps (Ip.Ipv6 v) between)
 
-  none_keeps : (o : Option EndpointPair) → o ≡ None → PairKeeps i o
+  none_keeps : (o : Option FourTuple) → o ≡ None → PairKeeps i o
   none_keeps o none pair is = absurd (let clash : None ≡ Some pair = sym none ∙ is in cc)
 
-  renamed_keeps : (ip : IpRepr) (header : TcpHeader) (old new : Block) → IsRenamed ip header old new → IsBetweenHosts i ip → PairKeeps i old.names.pair →
+  renamed_keeps : (ip : IpRepr) (header : TcpHeader) (old new : Tcb) → IsRenamed ip header old new → IsBetweenHosts i ip → PairKeeps i old.names.pair →
       PairKeeps i new.names.pair
   renamed_keeps ip header old new (inl opened) between holds pair is =
       let some : Some (pair_in ip header) ≡ Some pair = sym (ap (λ (n : Names). n.pair) opened.names) ∙ is in
       let same : pair_in ip header ≡ pair = cc in
-      subst (λ (x : EndpointPair). Keeps i x.addresses) same (ends_in ip between)
+      subst (λ (x : FourTuple). Keeps i x.addresses) same (ends_in ip between)
   renamed_keeps ip header old new (inr (inl back)) between holds pair is =
       none_keeps new.names.pair (ap (λ (n : Names). n.pair) back.names) pair is
   renamed_keeps ip header old new (inr (inr keeps)) between holds pair is = holds pair (pair_kept old new pair keeps is)
@@ -139,11 +139,11 @@ module _ (i : InnerValue) (outward : list_any (λ b. is_loopback (block_address 
   pub arrival_keeps : (cx : ContextValue) (v : TcpValue) (ip : IpRepr) (header : TcpHeader) (bytes : List ℕ) → IsBetweenHosts i ip → TcpKeeps i v →
       TcpKeeps i (arrives cx v ip header bytes).socket
   arrival_keeps cx v ip header bytes between holds =
-      renamed_keeps ip header v.block (arrives cx v ip header bytes).socket.block (arrival_names cx v ip header bytes) between holds
+      renamed_keeps ip header v.tcb (arrives cx v ip header bytes).socket.tcb (arrival_names cx v ip header bytes) between holds
 
   pub settled_keeps : (cx : ContextValue) (v : TcpValue) (sent : Bool) → TcpKeeps i v → TcpKeeps i (settled sent (offer_of cx v).socket)
-  settled_keeps cx v true holds pair is = holds pair (pair_left v.block (settled true (offer_of cx v).socket).block pair (sent_names cx v) is)
-  settled_keeps cx v false holds pair is = holds pair (pair_left v.block (settled false (offer_of cx v).socket).block pair (withheld_names cx v) is)
+  settled_keeps cx v true holds pair is = holds pair (pair_left v.tcb (settled true (offer_of cx v).socket).tcb pair (sent_names cx v) is)
+  settled_keeps cx v false holds pair is = holds pair (pair_left v.tcb (settled false (offer_of cx v).socket).tcb pair (withheld_names cx v) is)
 
   -- CALLS
 
@@ -162,26 +162,26 @@ module _ (i : InnerValue) (outward : list_any (λ b. is_loopback (block_address 
         let ends = family local remote a is in
         inr (ap (source_for i.addresses) ends.1 ∙ (λ k. sym chooses k remote) ∙ by ∙ ap (λ (x : IpAddress). Some x) (sym ends.0))
 
-    found_keeps : (remote : IpEndpoint) (port : ℕ) → PairKeeps i (pair_for cx remote (at_port port))
+    found_keeps : (remote : IpEndpoint) (port : ℕ) → PairKeeps i (four_tuple_for cx remote (at_port port))
     found_keeps remote port = by (remote.port == 0) (is_unspecified remote.addr) (port == 0) (addresses_by (cx.source_for remote.addr) remote.addr) refl where
       by : (a b c : Bool) (addresses : Option AddressPair) → addresses_by (cx.source_for remote.addr) remote.addr ≡ addresses
-          → PairKeeps i (let r : Option EndpointPair = if a || (b || c) then None else pair_by addresses port remote.port in r)
+          → PairKeeps i (let r : Option FourTuple = if a || (b || c) then None else pair_by addresses port remote.port in r)
       by true b c addresses is = none_keeps None refl
       by false true c addresses is = none_keeps None refl
       by false false true addresses is = none_keeps None refl
       by false false false None is = none_keeps None refl
       by false false false (Some addresses) is = λ pair some.
           let same : record { addresses = addresses; local_port = port; remote_port = remote.port } ≡ pair = cc in
-          subst (λ (x : EndpointPair). Keeps i x.addresses) same (chosen_keeps (cx.source_for remote.addr) remote.addr addresses refl is)
+          subst (λ (x : FourTuple). Keeps i x.addresses) same (chosen_keeps (cx.source_for remote.addr) remote.addr addresses refl is)
 
-    connected_keeps : (v : TcpValue) (o : Option EndpointPair) (number : ℕ) → PairKeeps i o → TcpKeeps i v → TcpKeeps i (connected_by v o number)
+    connected_keeps : (v : TcpValue) (o : Option FourTuple) (number : ℕ) → PairKeeps i o → TcpKeeps i v → TcpKeeps i (connected_by v o number)
     connected_keeps v None number new holds = holds
     connected_keeps v (Some pair) number new holds = new
 
     connects_keeps : (closed : Bool) (v : TcpValue) (remote : IpEndpoint) (port : ℕ) → TcpKeeps i v
-        → TcpKeeps i (if closed then connected_by v (pair_for cx remote (at_port port)) (number_for cx (pair_for cx remote (at_port port))) else unoffered v)
+        → TcpKeeps i (if closed then connected_by v (four_tuple_for cx remote (at_port port)) (number_for cx (four_tuple_for cx remote (at_port port))) else unoffered v)
     connects_keeps true v remote port holds =
-        connected_keeps v (pair_for cx remote (at_port port)) (number_for cx (pair_for cx remote (at_port port))) (found_keeps remote port) holds
+        connected_keeps v (four_tuple_for cx remote (at_port port)) (number_for cx (four_tuple_for cx remote (at_port port))) (found_keeps remote port) holds
     connects_keeps false v remote port holds = holds
 
     listens_keeps : (opens : Bool) (v : TcpValue) (endpoint : IpListenEndpoint) → TcpKeeps i v → TcpKeeps i (if opens then listening v endpoint else unoffered v)
@@ -189,7 +189,7 @@ module _ (i : InnerValue) (outward : list_any (λ b. is_loopback (block_address 
     listens_keeps false v endpoint holds = holds
 
     writes_keeps : (v : TcpValue) (bytes : List ℕ) → TcpKeeps i v → TcpKeeps i (send_after v bytes)
-    writes_keeps v bytes holds = by (takes_writes v.block.state) where
+    writes_keeps v bytes holds = by (takes_writes v.tcb.state) where
       by : (takes : Bool) → TcpKeeps i
           (if takes then sent_more v (enqueued (anchored v.queued) (take (min (length bytes) (length v.queued.free)) bytes)) else unoffered v)
       by true = holds
@@ -204,7 +204,7 @@ module _ (i : InnerValue) (outward : list_any (λ b. is_loopback (block_address 
     sets_keeps v (Changed.AckDelay duration) holds = holds
     sets_keeps v (Changed.KeepAlive interval) holds = holds
     sets_keeps v (Changed.NagleEnabled enabled) holds = holds
-    sets_keeps v (Changed.HopLimit hops) holds = holds
+    sets_keeps v (Changed.HopLimit hop_limit) holds = holds
     sets_keeps v (Changed.CongestionControl control) holds = holds
     sets_keeps v (Changed.TsvalGenerator generator) holds = holds
     sets_keeps v (Changed.PauseSynack paused) holds = holds
@@ -213,12 +213,12 @@ module _ (i : InnerValue) (outward : list_any (λ b. is_loopback (block_address 
     IfKeeps o = IfSome o (λ d. TcpKeeps i d.socket)
 
     tcp_keeps : (v : TcpValue) (call : SocketCall) → TcpKeeps i v → IfKeeps (tcp_does cx v call)
-    tcp_keeps v (Call.Listen port) holds = listens_keeps (is_closed v.block.state && not (port == 0)) v (at_port port) holds
-    tcp_keeps v (Call.Connect remote port) holds = connects_keeps (is_closed v.block.state) v remote port holds
+    tcp_keeps v (Call.Listen port) holds = listens_keeps (is_closed v.tcb.state && not (port == 0)) v (at_port port) holds
+    tcp_keeps v (Call.Connect remote port) holds = connects_keeps (is_closed v.tcb.state) v remote port holds
     tcp_keeps v (Call.Send bytes) holds = writes_keeps v bytes holds
     tcp_keeps v (Call.Recv limit) holds = reads_keeps v (recv_answer v limit) holds
-    tcp_keeps v Call.Close holds = λ pair is. holds pair (pair_kept v.block (close_after v).block pair (close_names v) is)
-    tcp_keeps v Call.Abort holds = λ pair is. holds pair (pair_kept v.block (abort_after v).block pair (abort_names v) is)
+    tcp_keeps v Call.Close holds = λ pair is. holds pair (pair_kept v.tcb (close_after v).tcb pair (close_names v) is)
+    tcp_keeps v Call.Abort holds = λ pair is. holds pair (pair_kept v.tcb (abort_after v).tcb pair (abort_names v) is)
     tcp_keeps v Call.State holds = holds
     tcp_keeps v (Call.Set setting) holds = sets_keeps v setting holds
     tcp_keeps v call holds = tt

@@ -2,7 +2,7 @@
 use Rattle.std.proofs.Common.{ℤ, ◌≤ℤ◌, Bool, true, false, if◌then◌else◌, List, [], ◌∷◌, ◌++◌, sym, subst, arith}
 use Rattle.std.proofs.lemmas.Int.{ints}
 use Rattle.net_base.specs.Time.{IsMoment}
-use Rattle.interface_tables.specs.Inner.{InnerValue}
+use Rattle.iface_tables.specs.Inner.{InnerValue}
 use Rattle.lan.specs.Worlds.AtLink.Kinds.{same_side}
 use Rattle.lan.specs.Worlds.AtLink.Moves.{Step, after, run}
 use Rattle.lan.specs.Worlds.AtLink.Parties.{Net}
@@ -10,11 +10,11 @@ use Rattle.lan.specs.Worlds.AtLink.Side.{Side}
 use Rattle.lan.specs.Worlds.AtLink.Side.TheVariants.{A, B}
 use Rattle.lan.proofs.Worlds.Moves.Held.{AreHeld, IsHeld}
 
--- one side's clock shows a later moment
+-- one side's clock shows a later instant
 abbrev pub raised : (Side → ℤ) → Side → ℤ → Side → ℤ
 raised floors side t s = if same_side side s then t else floors s
 
--- each step is at a moment of its host that isn't before the last one, in which the host is as it was at first
+-- each step is at an instant of its host that isn't before the last one, in which the host is as it was at first
 abbrev pub AreAllHeld : (Side → InnerValue) → (Side → ℤ) → Net → List Step → (Side → ℤ) → Type 0
 AreAllHeld firsts floors net [] ends = (s : Side) → floors s ≤ℤ ends s
 AreAllHeld firsts floors net (step ∷ steps) ends =
@@ -48,9 +48,9 @@ module _ (firsts : Side → InnerValue) where
   lower : (floors floors' : Side → ℤ) (net : Net) (steps : List Step) (ends : Side → ℤ) → ((s : Side) → floors s ≤ℤ floors' s) →
       AreAllHeld firsts floors' net steps ends → AreAllHeld firsts floors net steps ends
   lower floors floors' net [] ends up held = λ s. in_turn (floors s) (floors' s) (ends s) (up s) (held s)
-  lower floors floors' net (step ∷ steps) ends up (t, moment, later, held, rest) = (
+  lower floors floors' net (step ∷ steps) ends up (t, instant, later, held, rest) = (
     t,
-    moment,
+    instant,
     in_turn (floors step.side) (floors' step.side) t (up step.side) later,
     held,
     lower (raised floors step.side t) (raised floors' step.side t) (after net step) steps ends (raised_up floors floors' step.side t up) rest,
@@ -59,16 +59,16 @@ module _ (firsts : Side → InnerValue) where
   pub all-append : (floors between : Side → ℤ) (net : Net) (steps more : List Step) (ends : Side → ℤ) → AreAllHeld firsts floors net steps between →
       AreAllHeld firsts between (run net steps) more ends → AreAllHeld firsts floors net (steps ++ more) ends
   all-append floors between net [] more ends first second = lower floors between net more ends first second
-  all-append floors between net (step ∷ steps) more ends (t, moment, later, held, rest) second =
-      (t, moment, later, held, all-append (raised floors step.side t) between (after net step) steps more ends rest second)
+  all-append floors between net (step ∷ steps) more ends (t, instant, later, held, rest) second =
+      (t, instant, later, held, all-append (raised floors step.side t) between (after net step) steps more ends rest second)
 
-  -- a step that shows nothing, or shows the host at this moment
+  -- a step that shows nothing, or shows the host at this instant
   pub one-held : (floors : Side → ℤ) (net : Net) (step : Step) (ends : Side → ℤ) (t : ℤ) → IsMoment t → floors step.side ≤ℤ t → t ≤ℤ ends step.side →
       ((s : Side) → floors s ≤ℤ ends s) → IsHeld (firsts step.side) t net step.side step.move → AreAllHeld firsts floors net (step ∷ []) ends
-  one-held floors net step ends t moment later before all held = (t, moment, later, held, raised_within floors ends step.side t before all)
+  one-held floors net step ends t instant later before all held = (t, instant, later, held, raised_within floors ends step.side t before all)
 
-  -- the steps of one host at one moment
-  module _ (side : Side) (t : ℤ) (moment : IsMoment t) (ends : Side → ℤ) (before : t ≤ℤ ends side) where
+  -- the steps of one host at one instant
+  module _ (side : Side) (t : ℤ) (instant : IsMoment t) (ends : Side → ℤ) (before : t ≤ℤ ends side) where
     pub all-at : (floors : Side → ℤ) (net : Net) (steps : List Step) → floors side ≤ℤ t → ((s : Side) → floors s ≤ℤ ends s) →
         AreHeld (firsts side) t side net steps → AreAllHeld firsts floors net steps ends
     all-at floors net [] later all held = all
@@ -77,7 +77,7 @@ module _ (firsts : Side → InnerValue) where
         × AreAllHeld firsts (raised floors x u) (after net step) steps ends in
         subst Goes (sym held.0.0) (
           t,
-          moment,
+          instant,
           later,
           held.0.1,
           all-at (raised floors side t) (after net step) steps (raised_here floors side t)

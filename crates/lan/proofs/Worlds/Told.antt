@@ -1,34 +1,34 @@
--- An ARP packet that a host answers with goes between two stations.
+-- An ARP packet that a host answers with goes between two hosts.
 use Rattle.std.proofs.Common.{◌≡◌, ℕ, ◌-◌, ◌^◌, ◌≤◌, Bool, true, false, cond, List, length, take, drop, Option, Some, None, refl, sym, ◌∙◌, ap, subst, arith}
 use Rattle.std.proofs.Common.{length-take, length-drop}
 use Rattle.std.specs.Prelude.{nat_lt, ◌||◌}
-use Rattle.lan_base.specs.ChecksumCapabilities.{ChecksumCapabilities}
-use Rattle.interface_egress.specs.Arp as Wire
+use Rattle.sim_link.specs.ChecksumCapabilities.{ChecksumCapabilities}
+use Rattle.iface_egress.specs.Arp as Wire
 use Rattle.lan.specs.Worlds.AtLink.Ethernet as Ethernet
-use Rattle.interface_ingress.specs.HardwareAddress.{HardwareAddress}
-use Rattle.interface_ingress.specs.HardwareAddress.TheVariants as Hardware
-use Rattle.interface_ingress.specs.IpAddress.TheVariants as Address
+use Rattle.iface_ingress.specs.HardwareAddress.{HardwareAddress}
+use Rattle.iface_ingress.specs.HardwareAddress.TheVariants as Hardware
+use Rattle.iface_ingress.specs.IpAddress.TheVariants as Address
 use Rattle.interface.specs.IpRepr.{IpRepr}
 use Rattle.interface.specs.IpRepr.TheVariants as Ip
-use Rattle.interface.specs.Ipv4Piece.{Ipv4Piece}
+use Rattle.interface.specs.Ipv4Fragment.{Ipv4Fragment}
 use Rattle.interface.specs.Ipv4Repr.{Ipv4Repr}
 use Rattle.interface.specs.Ipv6Repr.{Ipv6Repr}
-use Rattle.interface_ingress.specs.IpProtocol.TheVariants as Protocol
+use Rattle.iface_ingress.specs.IpProtocol.TheVariants as Protocol
 use Rattle.lan.specs.Worlds.AtLink.ArpOperation.TheVariants as Operation
-use Rattle.interface_ingress.specs.ArpRepr.{ArpRepr}
-use Rattle.interface_ingress.specs.ArpRepr.TheVariants as ArpIs
-use Rattle.interface_ingress.specs.EthernetRepr.{EthernetRepr}
+use Rattle.iface_ingress.specs.ArpRepr.{ArpRepr}
+use Rattle.iface_ingress.specs.ArpRepr.TheVariants as ArpIs
+use Rattle.iface_ingress.specs.EthernetRepr.{EthernetRepr}
 use Rattle.sockets.specs.Packet.{PacketValue}
-use Rattle.interface_tables.specs.Inner.{InnerValue, is_for_us}
-use Rattle.interface_ingress.specs.Arp as Arps
-use Rattle.interface_ingress.specs.Arp.{arp_answer, answer_at}
-use Rattle.interface_ingress.specs.Arrives as Replies
-use Rattle.interface_ingress.specs.Arrives.{Arrived, ArrivesV4, ArrivesV6, Brings, told, answered, whole_after}
-use Rattle.interface_ingress.specs.Delivered.{Places}
-use Rattle.interface_ingress.specs.Incoming.{IncomingValue, Arp, Ip4, Ip6, IsIncoming, IsContent}
-use Rattle.interface_ingress.specs.Reassembled.{Slots, is_piece, is_piece_v6, is_taken_in, taken_in, bytes_at, kept, place_in, rebuilt, rebuilt_v6}
-use Rattle.interface_ingress.specs.Reassembled.{uncut, whole_of}
-use Rattle.lan.specs.Worlds.Link.Sides.{IsStation, HasSixBytes, IsBetweenStations}
+use Rattle.iface_tables.specs.Inner.{InnerValue, is_for_us}
+use Rattle.iface_ingress.specs.Arp as Arps
+use Rattle.iface_ingress.specs.Arp.{arp_answer, answer_at}
+use Rattle.iface_ingress.specs.Arrives as Replies
+use Rattle.iface_ingress.specs.Arrives.{Arrived, ArrivesV4, ArrivesV6, Brings, told, answered, whole_after}
+use Rattle.iface_ingress.specs.Delivered.{Slots}
+use Rattle.iface_ingress.specs.Incoming.{IncomingValue, Arp, Ip4, Ip6, IsIncoming, IsContent}
+use Rattle.iface_ingress.specs.Reassembled.{Assemblers, is_fragment, is_fragment_v6, is_taken_in, taken_in, bytes_at, kept, slot_in, reassembled, reassembled_v6}
+use Rattle.iface_ingress.specs.Reassembled.{uncut, whole_of}
+use Rattle.lan.specs.Worlds.Link.Sides.{IsNode, HasSixBytes, IsBetweenNodes}
 
 -- WHICH CONTENT IS ANSWERED SO
 
@@ -47,25 +47,25 @@ told_is : (o : Option ArpRepr) (packet : ArpRepr) → told o ≡ Some (Replies.T
 told_is None packet is = absurd cc
 told_is (Some p) packet is = let e : p ≡ packet = cc in ap Some e
 
-not_v4 : (ours : Bool) (i : InnerValue) (places : Places) (link : Option EthernetRepr) (ip : IpRepr) (payload : List ℕ) (a : Arrived) (packet : ArpRepr) →
-    ArrivesV4 ours i places link ip payload a → a.reply ≡ Some (Replies.Tells packet) → ⊥
-not_v4 true i places link ip payload a packet (carried, is, handed) reply = not_answered _ packet (sym handed.reply ∙ reply)
-not_v4 false i places link ip payload a packet is reply = let none = is.reply in cc
+not_v4 : (ours : Bool) (i : InnerValue) (slots : Slots) (link : Option EthernetRepr) (ip : IpRepr) (payload : List ℕ) (a : Arrived) (packet : ArpRepr) →
+    ArrivesV4 ours i slots link ip payload a → a.reply ≡ Some (Replies.Tells packet) → ⊥
+not_v4 true i slots link ip payload a packet (carried, is, handed) reply = not_answered _ packet (sym handed.reply ∙ reply)
+not_v4 false i slots link ip payload a packet is reply = let none = is.reply in cc
 
-not_v6 : (ours : Bool) (i : InnerValue) (places : Places) (link : Option EthernetRepr) (ip : IpRepr) (payload : List ℕ) (a : Arrived) (packet : ArpRepr) →
-    ArrivesV6 ours i places link ip payload a → a.reply ≡ Some (Replies.Tells packet) → ⊥
-not_v6 true i places link ip payload a packet (carried, is, handed) reply = not_answered _ packet (sym handed.reply ∙ reply)
-not_v6 false i places link ip payload a packet is reply = let none = is.reply in cc
+not_v6 : (ours : Bool) (i : InnerValue) (slots : Slots) (link : Option EthernetRepr) (ip : IpRepr) (payload : List ℕ) (a : Arrived) (packet : ArpRepr) →
+    ArrivesV6 ours i slots link ip payload a → a.reply ≡ Some (Replies.Tells packet) → ⊥
+not_v6 true i slots link ip payload a packet (carried, is, handed) reply = not_answered _ packet (sym handed.reply ∙ reply)
+not_v6 false i slots link ip payload a packet is reply = let none = is.reply in cc
 
-told_by : (i : InnerValue) (places : Places) (whole : Option IncomingValue) (a : Arrived) (packet : ArpRepr) → Brings i places whole a →
+told_by : (i : InnerValue) (slots : Slots) (whole : Option IncomingValue) (a : Arrived) (packet : ArpRepr) → Brings i slots whole a →
     a.reply ≡ Some (Replies.Tells packet) → IsToldBy i whole packet
-told_by i places None a packet is reply = absurd (let none = is.reply in cc)
-told_by i places (Some (Arp link question)) a packet is reply =
+told_by i slots None a packet is reply = absurd (let none = is.reply in cc)
+told_by i slots (Some (Arp link question)) a packet is reply =
     record { link = link; question = question; whole_is = refl; answer = told_is (arp_answer i question) packet (sym is.reply ∙ reply) }
-told_by i places (Some (Ip4 link header piece payload)) a packet is reply =
-    absurd (not_v4 (is_for_us i (Address.Ipv4 header.dst_addr)) i places link (Ip.Ipv4 header) payload a packet is reply)
-told_by i places (Some (Ip6 link header payload)) a packet is reply =
-    absurd (not_v6 (is_for_us i (Address.Ipv6 header.dst_addr)) i places link (Ip.Ipv6 header) payload a packet is reply)
+told_by i slots (Some (Ip4 link header fragment payload)) a packet is reply =
+    absurd (not_v4 (is_for_us i (Address.Ipv4 header.dst_addr)) i slots link (Ip.Ipv4 header) payload a packet is reply)
+told_by i slots (Some (Ip6 link header payload)) a packet is reply =
+    absurd (not_v6 (is_for_us i (Address.Ipv6 header.dst_addr)) i slots link (Ip.Ipv6 header) payload a packet is reply)
 
 -- WHICH FRAME BROUGHT IT
 
@@ -74,39 +74,39 @@ short_arp : (link : Option EthernetRepr) (h : Ipv4Repr) (bytes : List ℕ) (b : 
 short_arp link h bytes true l q is = cc
 short_arp link h bytes false l q is = cc
 
-never_arp : (link : Option EthernetRepr) (h : Ipv4Repr) (o : Option (List ℕ)) (l : EthernetRepr) (q : ArpRepr) → rebuilt link h o ≡ Some (Arp l q) → ⊥
+never_arp : (link : Option EthernetRepr) (h : Ipv4Repr) (o : Option (List ℕ)) (l : EthernetRepr) (q : ArpRepr) → reassembled link h o ≡ Some (Arp l q) → ⊥
 never_arp link h None l q is = cc
 never_arp link h (Some bytes) l q is = short_arp link h bytes (nat_lt (length bytes) (2 ^ 16 - 20)) l q is
 
-piece_never : (slots : Slots) (at : Option ℕ) (link : Option EthernetRepr) (h : Ipv4Repr) (p : Ipv4Piece) (x : List ℕ) (l : EthernetRepr) (q : ArpRepr) →
-    whole_of slots at (Some (Ip4 link h p x)) ≡ Some (Arp l q) → ⊥
-piece_never slots at link h p x l q =
-    elim (is_piece p) as (λ b. cond b (rebuilt link h (bytes_at at slots)) (Some (Ip4 link h p x)) ≡ Some (Arp l q) →
-    ⊥) [ true ↦ λ is. never_arp link h (bytes_at at slots) l q is | false ↦ λ is. cc ]
+fragment_never : (assemblers : Assemblers) (at : Option ℕ) (link : Option EthernetRepr) (h : Ipv4Repr) (p : Ipv4Fragment) (x : List ℕ) (l : EthernetRepr) (q : ArpRepr) →
+    whole_of assemblers at (Some (Ip4 link h p x)) ≡ Some (Arp l q) → ⊥
+fragment_never assemblers at link h p x l q =
+    elim (is_fragment p) as (λ b. cond b (reassembled link h (bytes_at at assemblers)) (Some (Ip4 link h p x)) ≡ Some (Arp l q) →
+    ⊥) [ true ↦ λ is. never_arp link h (bytes_at at assemblers) l q is | false ↦ λ is. cc ]
 
 short6_arp : (link : Option EthernetRepr) (h : Ipv6Repr) (bytes : List ℕ) (b : Bool) (l : EthernetRepr) (q : ArpRepr) →
     cond b (Some (Ip6 link (record h { next_header = Protocol.Ipv6Frag; payload_len = length bytes }) bytes)) None ≡ Some (Arp l q) → ⊥
 short6_arp link h bytes true l q is = cc
 short6_arp link h bytes false l q is = cc
 
-never6_arp : (link : Option EthernetRepr) (h : Ipv6Repr) (o : Option (List ℕ)) (l : EthernetRepr) (q : ArpRepr) → rebuilt_v6 link h o ≡ Some (Arp l q) → ⊥
+never6_arp : (link : Option EthernetRepr) (h : Ipv6Repr) (o : Option (List ℕ)) (l : EthernetRepr) (q : ArpRepr) → reassembled_v6 link h o ≡ Some (Arp l q) → ⊥
 never6_arp link h None l q is = cc
 never6_arp link h (Some bytes) l q is = short6_arp link h bytes (nat_lt (length bytes) (2 ^ 16)) l q is
 
-piece6_never : (slots : Slots) (at : Option ℕ) (link : Option EthernetRepr) (h : Ipv6Repr) (x : List ℕ) (l : EthernetRepr) (q : ArpRepr) →
-    whole_of slots at (Some (Ip6 link h x)) ≡ Some (Arp l q) → ⊥
-piece6_never slots at link h x l q =
-    elim (is_piece_v6 h x) as (λ b. cond b (rebuilt_v6 link h (bytes_at at slots)) (Some (Ip6 link h x)) ≡ Some (Arp l q) →
-    ⊥) [ true ↦ λ is. never6_arp link h (bytes_at at slots) l q is | false ↦ λ is. cc ]
+fragment6_never : (assemblers : Assemblers) (at : Option ℕ) (link : Option EthernetRepr) (h : Ipv6Repr) (x : List ℕ) (l : EthernetRepr) (q : ArpRepr) →
+    whole_of assemblers at (Some (Ip6 link h x)) ≡ Some (Arp l q) → ⊥
+fragment6_never assemblers at link h x l q =
+    elim (is_fragment_v6 h x) as (λ b. cond b (reassembled_v6 link h (bytes_at at assemblers)) (Some (Ip6 link h x)) ≡ Some (Arp l q) →
+    ⊥) [ true ↦ λ is. never6_arp link h (bytes_at at assemblers) l q is | false ↦ λ is. cc ]
 
-whole_arp : (i : InnerValue) (timeout : ℕ) (slots : Slots) (content : Option IncomingValue) (l : EthernetRepr) (q : ArpRepr) →
-    whole_after i timeout slots content ≡ Some (Arp l q) → content ≡ Some (Arp l q)
-whole_arp i timeout slots None l q is = is
-whole_arp i timeout slots (Some (Arp link packet)) l q is = is
-whole_arp i timeout slots (Some (Ip4 link h p x)) l q is =
-    absurd (piece_never (kept i timeout slots (Some (Ip4 link h p x))) (place_in slots (Some (Ip4 link h p x))) link h p x l q is)
-whole_arp i timeout slots (Some (Ip6 link h x)) l q is =
-    absurd (piece6_never (kept i timeout slots (Some (Ip6 link h x))) (place_in slots (Some (Ip6 link h x))) link h x l q is)
+whole_arp : (i : InnerValue) (timeout : ℕ) (assemblers : Assemblers) (content : Option IncomingValue) (l : EthernetRepr) (q : ArpRepr) →
+    whole_after i timeout assemblers content ≡ Some (Arp l q) → content ≡ Some (Arp l q)
+whole_arp i timeout assemblers None l q is = is
+whole_arp i timeout assemblers (Some (Arp link packet)) l q is = is
+whole_arp i timeout assemblers (Some (Ip4 link h p x)) l q is =
+    absurd (fragment_never (kept i timeout assemblers (Some (Ip4 link h p x))) (slot_in assemblers (Some (Ip4 link h p x))) link h p x l q is)
+whole_arp i timeout assemblers (Some (Ip6 link h x)) l q is =
+    absurd (fragment6_never (kept i timeout assemblers (Some (Ip6 link h x))) (slot_in assemblers (Some (Ip6 link h x))) link h x l q is)
 
 taken_if : (v : IncomingValue) (b : Bool) (l : EthernetRepr) (q : ArpRepr) → cond b (Some v) None ≡ Some (Arp l q) → Some v ≡ Some (Arp l q)
 taken_if v true l q is = is
@@ -122,10 +122,10 @@ six : (bytes s : List ℕ) → 28 ≤ length bytes → s ≡ take 6 (drop 8 byte
 six bytes s room is = omega (arith, ap length is, length-take 6 (drop 8 bytes), length-drop 8 bytes)
 
 answer_between : (hardware : HardwareAddress) (question packet : ArpRepr) (bytes : List ℕ) → HasSixBytes hardware → Wire.IsArp bytes question →
-    answer_at hardware question ≡ Some packet → IsStation hardware × IsBetweenStations packet
+    answer_at hardware question ≡ Some packet → IsNode hardware × IsBetweenNodes packet
 answer_between (Hardware.Ethernet own) (ArpIs.EthernetIpv4 Operation.Request source source_protocol target target_protocol) packet bytes long is answer =
     let e : ArpIs.EthernetIpv4 Operation.Reply own target_protocol source source_protocol ≡ packet = cc in
-    (tt, subst IsBetweenStations e (long, six bytes source.0 is.room is.source_hardware_is))
+    (tt, subst IsBetweenNodes e (long, six bytes source.0 is.room is.source_hardware_is))
 answer_between (Hardware.Ethernet own) (ArpIs.EthernetIpv4 Operation.Reply source source_protocol target target_protocol) packet bytes long is
     answer = absurd cc
 answer_between (Hardware.Ethernet own) (ArpIs.EthernetIpv4 (Operation.Unknown n) source source_protocol target target_protocol) packet bytes long is
@@ -141,15 +141,15 @@ read_arp : (hardware : HardwareAddress) (caps : ChecksumCapabilities) (frame : L
 read_arp (Hardware.Ethernet own) caps frame l q is = is.1
 read_arp Hardware.Ip caps frame l q is = absurd is
 
--- what a host tells in answer to a frame goes between stations
-pub told_between : (i : InnerValue) (timeout : ℕ) (slots : Slots) (places : Places) (frame : List ℕ) (content : Option IncomingValue) (a : Arrived)
+-- what a host tells in answer to a frame goes between hosts
+pub told_between : (i : InnerValue) (timeout : ℕ) (assemblers : Assemblers) (slots : Slots) (frame : List ℕ) (content : Option IncomingValue) (a : Arrived)
     (packet : ArpRepr) → HasSixBytes i.hardware → IsContent i.hardware i.checksums frame content
-    → Brings i places (whole_after i timeout slots (taken_in i content)) a → a.reply ≡ Some (Replies.Tells packet) → IsStation i.hardware ×
-    IsBetweenStations packet
-told_between i timeout slots places frame content a packet long is brings reply =
-    let by = told_by i places (whole_after i timeout slots (taken_in i content)) a packet brings reply in
+    → Brings i slots (whole_after i timeout assemblers (taken_in i content)) a → a.reply ≡ Some (Replies.Tells packet) → IsNode i.hardware ×
+    IsBetweenNodes packet
+told_between i timeout assemblers slots frame content a packet long is brings reply =
+    let by = told_by i slots (whole_after i timeout assemblers (taken_in i content)) a packet brings reply in
     let came : content ≡ Some (Arp by.link by.question) =
-    taken_arp i content by.link by.question (whole_arp i timeout slots (taken_in i content) by.link by.question by.whole_is) in
+    taken_arp i content by.link by.question (whole_arp i timeout assemblers (taken_in i content) by.link by.question by.whole_is) in
     let read : IsIncoming i.hardware i.checksums frame (Arp by.link by.question) =
     subst (λ (o : Option IncomingValue). IsContent i.hardware i.checksums frame o) came is in
     answer_between i.hardware by.question packet (Ethernet.payload_of frame) long (read_arp i.hardware i.checksums frame by.link by.question read)

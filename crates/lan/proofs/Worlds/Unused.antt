@@ -1,4 +1,4 @@
--- What the tests of a fresh host find.
+-- What the tests of a new host find.
 use Rattle.std.proofs.Common.{◌≡◌, ℕ, zero, suc, Bool, true, false, not, ◌||◌, if◌then◌else◌, List, [], ◌∷◌, length, Option, None, Some, refl, sym, subst}
 use Rattle.std.proofs.Common.{arith}
 use Rattle.std.specs.Prelude.{◌==◌}
@@ -9,24 +9,24 @@ use Rattle.net_base.specs.Checksum.{Checksum}
 use Rattle.net_base.specs.Checksum.TheVariants as On
 use Rattle.net_base.specs.ChecksumCapabilities.{ChecksumCapabilities}
 use Rattle.net_base.specs.Packets.{QueuedPacket, Packets, packets_in, contents}
-use Rattle.sockets.specs.SocketValue.{has_packets, due}
-use Rattle.interface_egress.specs.Set.{socket_at, socket_of}
-use Rattle.interface_egress.specs.declared.socket_set.SocketStorage.{SocketStorage}
-use Rattle.interface_egress.specs.declared.socket_set.Item.{Item}
+use Rattle.socket_datagram.specs.SocketValue.{has_packets, due}
+use Rattle.iface_egress.specs.Set.{socket_at, socket_of}
+use Rattle.iface_egress.specs.declared.socket_set.SocketStorage.{SocketStorage}
+use Rattle.iface_egress.specs.declared.socket_set.Item.{Item}
 use Rattle.sockets.specs.declared.socket.Socket.{Socket}
 use Rattle.sockets.specs.declared.socket.Socket.TheVariants as Is
-use Rattle.tcp_tie.specs.Endpoints.{IsNameless}
-use Rattle.lan.specs.Worlds.AtLink.Promises.{IsFresh}
-use Rattle.sockets.specs.TcpStates.{is_closed, takes_text}
+use Rattle.tcp_refinement.specs.Endpoints.{IsNameless}
+use Rattle.lan.specs.Worlds.AtLink.Promises.{IsInitial}
+use Rattle.sockets.specs.TcpStates.{is_closed, accepts_data}
 use Rattle.lan.specs.Worlds.AtLink.State.{State}
 use Rattle.lan.specs.Worlds.AtLink.State.TheVariants as In
-use Rattle.tcp_model.specs.EndpointPair.{EndpointPair}
-use Rattle.tcp_model.specs.Calls.{nothing_left}
-use Rattle.tcp_model.specs.Value.{TcpValue}
+use Rattle.tcp_block.specs.FourTuple.{FourTuple}
+use Rattle.tcp_block.specs.Calls.{nothing_left}
+use Rattle.tcp_block.specs.Value.{TcpValue}
 use Rattle.lan.specs.Worlds.AtLink.Socket.{local_in}
 use Rattle.std.specs.Prelude.{is_some}
-use Rattle.lan.specs.Worlds.AtLink.Fresh.{IsUnused}
-use Rattle.lan.specs.Worlds.New.{is_both, are_on, is_no_socket, is_unopened, is_ingress, is_unused, of_item, of_place}
+use Rattle.lan.specs.Worlds.AtLink.Initial.{IsUnused}
+use Rattle.lan.specs.Worlds.New.{is_both, are_on, is_no_socket, is_unopened, is_ingress, is_unused, of_item, of_slot}
 
 -- LISTS
 
@@ -53,21 +53,21 @@ on_is c h =
 -- QUEUES
 
 module _ {H : Type 0} where
-  none_in : (packets : List (QueuedPacket H)) (start places room : ℕ) → has_packets (packets_in packets start places room) ≡ false
-      → contents (packets_in packets start places room) ≡ []
-  none_in [] start places room h = refl
-  none_in (p ∷ ps) start places room h = absurd (false≢true (sym h))
+  none_in : (packets : List (QueuedPacket H)) (start slots room : ℕ) → has_packets (packets_in packets start slots room) ≡ false
+      → contents (packets_in packets start slots room) ≡ []
+  none_in [] start slots room h = refl
+  none_in (p ∷ ps) start slots room h = absurd (false≢true (sym h))
 
   nothing_received : (q : Packets H) → not (has_packets q) ≡ true → contents q ≡ []
-  nothing_received q h = none_in q.packets q.start q.places q.room (not-true (has_packets q) h)
+  nothing_received q h = none_in q.packets q.start q.positions q.room (not-true (has_packets q) h)
 
-  nothing_queued_in : (packets : List (QueuedPacket H)) (start places room : ℕ) → is_ingress (due (packets_in packets start places room)) ≡ true
-      → contents (packets_in packets start places room) ≡ []
-  nothing_queued_in [] start places room h = refl
-  nothing_queued_in (p ∷ ps) start places room h = absurd (false≢true h)
+  nothing_queued_in : (packets : List (QueuedPacket H)) (start slots room : ℕ) → is_ingress (due (packets_in packets start slots room)) ≡ true
+      → contents (packets_in packets start slots room) ≡ []
+  nothing_queued_in [] start slots room h = refl
+  nothing_queued_in (p ∷ ps) start slots room h = absurd (false≢true h)
 
   nothing_queued : (q : Packets H) → is_ingress (due q) ≡ true → contents q ≡ []
-  nothing_queued q h = nothing_queued_in q.packets q.start q.places q.room h
+  nothing_queued q h = nothing_queued_in q.packets q.start q.positions q.room h
 
 -- TCP
 
@@ -84,7 +84,7 @@ closed_is In.Closing h = absurd (false≢true h)
 closed_is In.LastAck h = absurd (false≢true h)
 closed_is In.TimeWait h = absurd (false≢true h)
 
-no_pair : (p : Option EndpointPair) → not (is_some (local_in p)) ≡ true → p ≡ None
+no_pair : (p : Option FourTuple) → not (is_some (local_in p)) ≡ true → p ≡ None
 no_pair None h = refl
 no_pair (Some p) h = absurd (false≢true h)
 
@@ -95,21 +95,21 @@ nothing_waits false true true h = absurd (false≢true h)
 nothing_waits false true false h = (refl, refl)
 nothing_waits false false fin h = absurd (false≢true h)
 
-unopened_is : (v : TcpValue) → is_unopened v ≡ true → IsFresh v × IsNameless v.block
+unopened_is : (v : TcpValue) → is_unopened v ≡ true → IsInitial v × IsNameless v.tcb
 unopened_is v h =
     let p = and_parts _ _ h in
     let q = and_parts _ _ p.0 in
     let r = and_parts _ _ q.0 in
     let s = and_parts _ _ r.0 in
-    let w = nothing_waits (takes_text v.block.state) (length v.received.waiting == 0) v.block.receiver.took_fin p.1 in
-    let fresh : IsFresh v = record {
-      state = closed_is v.block.state s.0;
+    let w = nothing_waits (accepts_data v.tcb.state) (length v.received.waiting == 0) v.tcb.receiver.took_fin p.1 in
+    let initial : IsInitial v = record {
+      state = closed_is v.tcb.state s.0;
       waiting = empty v.received.waiting w.0;
       queue = empty v.queued.queue q.1;
       unfinished = w.1;
     } in
-    let nameless : IsNameless v.block = record { state = s.0; pair = no_pair v.block.names.pair r.1 } in
-    (fresh, nameless)
+    let nameless : IsNameless v.tcb = record { state = s.0; pair = no_pair v.tcb.names.pair r.1 } in
+    (initial, nameless)
 
 -- SOCKETS
 
@@ -125,8 +125,8 @@ unused_item : (item : Option (Item Socket)) (socket : Socket) → of_item is_unu
 unused_item None socket h is = cc
 unused_item (Some item) socket h is = let same : item.socket ≡ socket = cc in subst IsUnused same (unused_is item.socket h)
 
-pub unused_at : (places : List (SocketStorage Socket)) (i : ℕ) (socket : Socket) → list_all (of_place is_unused) places ≡ true →
-    socket_at places i ≡ Some socket → IsUnused socket
+pub unused_at : (slots : List (SocketStorage Socket)) (i : ℕ) (socket : Socket) → list_all (of_slot is_unused) slots ≡ true →
+    socket_at slots i ≡ Some socket → IsUnused socket
 unused_at [] i socket h is = cc
 unused_at (p ∷ ps) zero socket h is = unused_item p.inner socket (and_parts _ _ h).0 is
 unused_at (p ∷ ps) (suc i) socket h is = unused_at ps i socket (and_parts _ _ h).1 is

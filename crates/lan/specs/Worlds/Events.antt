@@ -1,6 +1,6 @@
 -- Events whose numbers and addresses are of their widths, as those of typed events are.
 use Rattle.std.specs.Prelude.{◌<◌, ◌^◌, List, [], ◌∷◌}
-use Rattle.interface_ingress.specs.Address.{IsEthernetAddress, IsIpAddress}
+use Rattle.iface_ingress.specs.Address.{IsEthernetAddress, IsIpAddress}
 use Rattle.lan.specs.Worlds.AtLink.History.{Entry}
 use Rattle.lan.specs.Worlds.AtLink.Kinds.{Kind, Setting, Origin, Delivered, Damaged, Noisy, kind_of}
 use Rattle.lan.specs.Worlds.AtLink.Kinds as Settings
@@ -11,7 +11,7 @@ use Rattle.lan.specs.Worlds.AtLink.Kinds.LinkAct.{Hands, Cuts}
 -- an exchanged word is one of 16 bits
 abbrev pub HasWord : Origin → Type 0
 HasWord (Delivered from k padding) = Unit {0}
-HasWord (Damaged from k place word padding) = word < 2 ^ 16
+HasWord (Damaged from k slot word padding) = word < 2 ^ 16
 HasWord (Noisy to bytes) = Unit {0}
 
 -- a hardware address has six bytes, and a router those of its family

@@ -2,5 +2,5 @@
 pub mod Made
 pub mod Frames
 pub mod Numbers
-pub mod Held
+pub mod StoredFragments
 pub mod Sides

@@ -20,6 +20,6 @@ pub record IsLinked (q : Party) (others base : List Outgoing) (first : ℕ) (bef
   pub out : List Outgoing
   pub more : Grows base out
   pub sender : IsSender (MadeBy p) first s.host.inner s.host.left s.device.link.sent out
-  pub receiver : IsReceiver (MadeBy q) others s.host.inner s.host.slots s.device.link.waiting
+  pub receiver : IsReceiver (MadeBy q) others s.host.inner s.host.assemblers s.device.link.waiting
   pub count : count_numbered out ≤ n
   pub tied : IsTied (medium_on s.host.inner.hardware) base before out s.device.link.sent

@@ -12,12 +12,12 @@ use Rattle.lan.specs.declared.at_link.history.event.Side.TheVariants.{A, B}
 pub use Rattle.lan.specs.declared.world.settle.Handed.{Handed}
 use Rattle.lan.specs.Worlds.AtLink.History.{Entry}
 use Rattle.lan.specs.Worlds.AtLink.Runs.{Step, Steps, WorldValue}
-use Rattle.lan.specs.Worlds.AtLink.Station.{station}
+use Rattle.lan.specs.Worlds.AtLink.Node.{node}
 
 -- a host is polled, or asked when it wants to be; or the link hands a sent frame over as it is
 abbrev pub IsService : Event → Type 0
-IsService (E.Poll side moment budget) = Unit {0}
-IsService (E.PollAt side moment) = Unit {0}
+IsService (E.Poll side instant budget) = Unit {0}
+IsService (E.PollAt side instant) = Unit {0}
 IsService (E.Deliver from k padding) = padding ≡ []
 IsService event = ⊥
 
@@ -25,14 +25,14 @@ IsService event = ⊥
 abbrev pub Goes : WorldValue → WorldValue → Type 0
 Goes old new = (events : List Event) × AllByRecursion IsService events × Steps old events new
 
--- a host was asked last, at this moment, and wants to be polled then
+-- a host was asked last, at this instant, and wants to be polled then
 abbrev pub WasAsked : Side → ℤ → Option ℤ → List Entry → List Entry → Type 0
-WasAsked side moment at past history = (e : Entry) × (history ≡ e ∷ past) × (e.event ≡ E.PollAt side moment) × (e.answer ≡ To.At at)
+WasAsked side instant at past history = (e : Entry) × (history ≡ e ∷ past) × (e.event ≡ E.PollAt side instant) × (e.answer ≡ To.At at)
 
--- both hosts were asked last, at this moment, and neither wants to be polled any more
-abbrev pub AreAtRest : ℤ → List Entry → Type 0
-AreAtRest moment history =
-    (past between : List Entry) × WasAsked A moment None past between × WasAsked B moment None between history
+-- both hosts were asked last, at this instant, and neither wants to be polled any more
+abbrev pub AreIdle : ℤ → List Entry → Type 0
+AreIdle instant history =
+    (past between : List Entry) × WasAsked A instant None past between × WasAsked B instant None between history
 
 -- FRAMES THAT ARE HANDED OVER
 
@@ -40,25 +40,25 @@ AreAtRest moment history =
 abbrev pub all_sent : WorldValue → Handed
 all_sent w = record { a = length w.hosts.a.link.sent; b = length w.hosts.b.link.sent }
 
--- of the frames that a host sent those behind the first k, so many, one after the other, each as it is
+-- of the frames that a host sent those after the first k, so many, one after the other, each as it is
 abbrev pub deliveries : Side → ℕ → ℕ → List Event
 deliveries side k zero = []
 deliveries side k (suc n) = E.Deliver side k [] ∷ deliveries side (suc k) n
 
 -- A ROUND
 
--- a host is polled, and of its frames those behind the ones that were handed over are, no more of them than its budget
-pub record IsServed (side : Side) (moment : ℤ) (budget handed now : ℕ) (old new : WorldValue) : Type 0 where
+-- a host is polled, and of its frames those after the ones that were handed over are, no more of them than its budget
+pub record IsServed (side : Side) (instant : ℤ) (budget handed now : ℕ) (old new : WorldValue) : Type 0 where
   pub answer : Answer
   pub polled : WorldValue
-  pub poll : Step old (E.Poll side moment budget) answer polled
-  pub count : now ≡ min (length (station polled.hosts side).link.sent) (handed + budget)
+  pub poll : Step old (E.Poll side instant budget) answer polled
+  pub count : now ≡ min (length (node polled.hosts side).link.sent) (handed + budget)
   pub delivers : Steps polled (deliveries side handed (now - handed)) new
 
 -- first A, then B
 abbrev pub AreServed : ℤ → ℕ → Handed → Handed → WorldValue → WorldValue → Type 0
-AreServed moment budget handed now old new =
-    (between : WorldValue) × IsServed A moment budget handed.a now.a old between × IsServed B moment budget handed.b now.b between new
+AreServed instant budget handed now old new =
+    (between : WorldValue) × IsServed A instant budget handed.a now.a old between × IsServed B instant budget handed.b now.b between new
 
 -- nothing is under way: all that was sent has come before, and no frame waits at either host
 abbrev pub IsCalm : Handed → WorldValue → Type 0
@@ -66,33 +66,33 @@ IsCalm handed w = (handed ≡ all_sent w) × (w.hosts.a.link.waiting ≡ []) × 
 
 -- A is asked when it wants to be polled, then B
 abbrev pub AreBothAsked : ℤ → Option ℤ → Option ℤ → WorldValue → WorldValue → Type 0
-AreBothAsked moment a b old new =
-    (between : WorldValue) × Step old (E.PollAt A moment) (To.At a) between × Step between (E.PollAt B moment) (To.At b) new
+AreBothAsked instant a b old new =
+    (between : WorldValue) × Step old (E.PollAt A instant) (To.At a) between × Step between (E.PollAt B instant) (To.At b) new
 
--- Where something is under way, the next round is at the same moment. Where nothing is, both hosts are asked when they want to be polled, and it is
--- at the earlier moment, or at once where that has passed; if neither wants to be there is none.
+-- Where something is under way, the next round is at the same time. Where nothing is, both hosts are asked when they want to be polled, and it is
+-- at the earlier instant, or at once where that has passed; if neither wants to be there is none.
 abbrev pub NextRound : ℤ → Handed → Option ℤ → WorldValue → WorldValue → Type 0
-NextRound moment handed next old new =
-    ((IsCalm handed old → ⊥) × (next ≡ Some moment) × (new ≡ old))
-    ⊎ (IsCalm handed old × (a b : Option ℤ) × AreBothAsked moment a b old new × (next ≡ option_map (int_max moment) (earlier a b)))
+NextRound instant handed next old new =
+    ((IsCalm handed old → ⊥) × (next ≡ Some instant) × (new ≡ old))
+    ⊎ (IsCalm handed old × (a b : Option ℤ) × AreBothAsked instant a b old new × (next ≡ option_map (int_max instant) (earlier a b)))
 
--- a round at a moment: both hosts are served, and it goes on from there
+-- a round at an instant: both hosts are served, and it goes on from there
 abbrev pub IsRound : ℕ → ℤ → Handed → Handed → Option ℤ → WorldValue → WorldValue → Type 0
-IsRound budget moment handed now next old new =
-    (served : WorldValue) × AreServed moment budget handed now old served × NextRound moment handed next served new
+IsRound budget instant handed now next old new =
+    (served : WorldValue) × AreServed instant budget handed now old served × NextRound instant handed next served new
 
 -- ROUNDS
 
--- so many rounds, the first at a moment; behind them the next is at another, and so many frames are handed over. What was sent before is lost
+-- so many rounds, the first at an instant; after them the next is at another, and so many frames are handed over. What was sent before is lost
 abbrev pub Rounds : ℕ → ℤ → WorldValue → ℕ → ℤ → Handed → WorldValue → Type 0
 Rounds budget from old zero next handed new = (next ≡ from) × (handed ≡ all_sent old) × (new ≡ old)
 Rounds budget from old (suc n) next now new =
-    (moment : ℤ) × (handed : Handed) × (before : WorldValue) × Rounds budget from old n moment handed before
-    × IsRound budget moment handed now (Some next) before new
+    (instant : ℤ) × (handed : Handed) × (before : WorldValue) × Rounds budget from old n instant handed before
+    × IsRound budget instant handed now (Some next) before new
 
--- what settling did: fewer than so many rounds, and one more at the moment of rest, behind which there is none; or all of them
+-- what settling did: fewer than so many rounds, and one more at the instant of rest, after which there is none; or all of them
 abbrev pub Settles : ℕ → ℤ → ℕ → Option ℤ → WorldValue → WorldValue → Type 0
-Settles budget from rounds (Some moment) old new =
-    (n : ℕ) × (n < rounds) × (handed now : Handed) × (before : WorldValue) × Rounds budget from old n moment handed before
-    × IsRound budget moment handed now None before new
+Settles budget from rounds (Some instant) old new =
+    (n : ℕ) × (n < rounds) × (handed now : Handed) × (before : WorldValue) × Rounds budget from old n instant handed before
+    × IsRound budget instant handed now None before new
 Settles budget from rounds None old new = (next : ℤ) × (handed : Handed) × Rounds budget from old rounds next handed new

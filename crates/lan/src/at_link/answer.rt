@@ -1,6 +1,6 @@
 //! What calls answer, as answers of a world.
 ghost use Rattle.std.specs.Prelude.{◌≡◌, ◌≢◌, None, Some, IfOk, length};
-ghost use Rattle.lan.specs.Worlds.AtLink.Calls.{done_or, count_or, listen_fault, connect_fault, write_fault, recv_fault, bind_fault, send_fault, hops_or_none};
+ghost use Rattle.lan.specs.Worlds.AtLink.Calls.{done_or, count_or, listen_fault, connect_fault, write_fault, recv_fault, bind_fault, send_fault, hop_limit_or_none};
 ghost use Rattle.lan.specs.Worlds.AtLink.Does.{raw_fault};
 ghost use Rattle.lan.specs.Worlds.AtLink.Answers.{IsTwice, Gives, brief, fault_of};
 
@@ -154,11 +154,11 @@ pub(crate) fn read_fault(fault: udp::RecvError) -> Fault
 }
 
 /// The hop limit that is set: 0 counts as none.
-pub(crate) fn hops_or_none(hops: Option<u8>) -> Option<u8>
-    ensures value { result ≡ hops_or_none hops }
+pub(crate) fn hop_limit_or_none(hop_limit: Option<u8>) -> Option<u8>
+    ensures value { result ≡ hop_limit_or_none hop_limit }
     ensures some { result ≢ Some 0 }
 {
-    match hops {
+    match hop_limit {
         None => None,
         Some(n) => { if n == 0 { None } else { Some(n) } }
     }

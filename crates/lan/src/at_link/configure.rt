@@ -16,11 +16,11 @@ use ip_wire::{EthernetAddress, IpAddress, IpCidr};
 use net_base::{Duration, Instant};
 use std::alloc::AllocError;
 
-fn instant_twice(instant: Option<Instant>) -> Twins
-    ensures { IsTwice result (to.At instant) }
+fn instant_twice(due_instant: Option<Instant>) -> Twins
+    ensures { IsTwice result (to.At due_instant) }
 {
-    match instant {
-        Some(moment) => (Answer::At(Some(moment)), Answer::At(Some(moment))),
+    match due_instant {
+        Some(instant) => (Answer::At(Some(instant)), Answer::At(Some(instant))),
         None => (Answer::At(None), Answer::At(None)),
     }
 }
@@ -57,7 +57,7 @@ impl Host {
         give(settings::set_any_ip(&mut self.interface, any), None)
     }
 
-    /// Sets how long the pieces of a datagram are waited for.
+    /// Sets how long the fragments of a datagram are waited for.
     pub fn set_reassembly_timeout(&mut self, timeout: Duration) -> Taken
         ensures { ActsSo self.old (Sets (acts.ReassemblyTimeout timeout)) result self.new }
     {
@@ -76,20 +76,20 @@ impl Host {
     }
 
     /// Asks when the host wants to be polled.
-    pub fn ask(&mut self, moment: Instant) -> Taken
-        requires { IsMoment moment }
-        ensures { ActsSo self.old (Asks moment) result self.new }
+    pub fn ask(&mut self, instant: Instant) -> Taken
+        requires { IsMoment instant }
+        ensures { ActsSo self.old (Asks instant) result self.new }
     {
-        give_twice(instant_twice(self.poll_at(moment)))
+        give_twice(instant_twice(self.poll_at(instant)))
     }
 
     /// Polls the host, with room made first.
-    pub fn polled(&mut self, moment: Instant, budget: u16) -> Result<Taken, AllocError>
-        requires { IsMoment moment }
-        ensures done { IfOk result (λ t. ActsSo self.old (Polls moment budget) t self.new) }
+    pub fn polled(&mut self, instant: Instant, budget: u16) -> Result<Taken, AllocError>
+        requires { IsMoment instant }
+        ensures done { IfOk result (λ t. ActsSo self.old (Polls instant budget) t self.new) }
         ensures unchanged { OnErr result (self.new ≡ self.old) }
     {
-        let changed = self.poll(moment, budget)?;
+        let changed = self.poll(instant, budget)?;
         Ok(give_twice((Answer::Poll(changed), Answer::Poll(changed))))
     }
 }

@@ -1,11 +1,11 @@
 //! Calls of UDP, ICMP and raw sockets. Each says what its kind of socket makes of it; memory is asked for before anything changes.
 ghost use Rattle.std.specs.Prelude.{◌≡◌, ◌≤◌, length, take, IfOk, OnOk, OnErr};
 ghost use Rattle.net_base.specs.Packets.{first};
-ghost use Rattle.sockets.specs.SocketValue.{recv_after};
-ghost use Rattle.sockets.specs.Udp as udps;
-ghost use Rattle.sockets.specs.Icmp as icmps;
-ghost use Rattle.sockets.specs.Raw as raws;
-ghost use Rattle.sockets.specs.declared.icmp.Endpoint.TheVariants.{Ident};
+ghost use Rattle.socket_datagram.specs.SocketValue.{recv_after};
+ghost use Rattle.socket_datagram.specs.Udp as udps;
+ghost use Rattle.socket_datagram.specs.Icmp as icmps;
+ghost use Rattle.socket_datagram.specs.Raw as raws;
+ghost use Rattle.socket_datagram.specs.declared.icmp.Endpoint.TheVariants.{Ident};
 ghost use Rattle.lan.specs.Worlds.AtLink.Calls.{done_or, bind_fault, send_fault, at_port, datagram_or};
 ghost use Rattle.lan.specs.Worlds.AtLink.Does.{raw_fault, message_or, packet_or};
 ghost use Rattle.lan.specs.Worlds.AtLink.Answers.{IsTwice, brief};

@@ -5,13 +5,13 @@ ghost use Rattle.lan.specs.declared.at_link.history.event.Side.TheVariants.{A, B
 ghost use Rattle.lan.specs.Worlds.AtLink.Kinds.Act.{Polls};
 ghost use Rattle.lan.specs.Worlds.AtLink.Tables.{first_refusal};
 ghost use Rattle.lan.specs.Worlds.AtLink.Acting.{ActsBy, CanActBy, CanHappen, HappensBy, actor, act_refusal, link_refusal, damage_tests, sent_cut_tests};
-ghost use Rattle.lan_base.specs.Cuts.{ipv4_part};
-ghost use Rattle.lan.specs.Worlds.AtLink.Linking.{CanLinkBy, HasPiece, linked_by};
+ghost use Rattle.sim_link.specs.Cuts.{ipv4_part};
+ghost use Rattle.lan.specs.Worlds.AtLink.Linking.{CanLinkBy, HasFragment, linked_by};
 ghost use Rattle.lan.specs.Worlds.AtLink.Origins.{medium_of, frame_sent, cut as cut_hosts};
 ghost use Rattle.lan.specs.Worlds.AtLink.Records.{table_next};
 ghost use Rattle.interface.specs.Used.{sockets_in};
 ghost use Rattle.lan.specs.Worlds.AtLink.Refusals.{act_tests, refusal, may_run_out};
-ghost use Rattle.lan.specs.Worlds.AtLink.Station.{station};
+ghost use Rattle.lan.specs.Worlds.AtLink.Node.{node};
 ghost use Rattle.lan.specs.Worlds.AtLink.Steps.{Happens};
 
 use crate::at_link::answer::{Brief, Taken, give};
@@ -21,8 +21,8 @@ use crate::at_link::link::{cut, deliver, deliver_damaged, deliver_noise};
 use crate::at_link::records::Records;
 use crate::at_link::refusal as refusals;
 use interface::SocketStorage;
-use lan_base::names_tcp_or_udp;
 use net_base::Instant;
+use sim_link::names_tcp_or_udp;
 use sockets::Socket;
 use std::alloc::{AllocError, Global};
 
@@ -58,12 +58,12 @@ fn actor(event: &Event) -> Option<Side>
 }
 
 /// How many sockets there are.
-fn socket_count(places: &[SocketStorage<Socket>]) -> usize
-    ensures { result ≡ sockets_in places.now }
+fn socket_count(slots: &[SocketStorage<Socket>]) -> usize
+    ensures { result ≡ sockets_in slots.now }
 {
     let mut count = 0;
-    for place in places {
-        if place.inner.is_some() {
+    for slot in slots {
+        if slot.inner.is_some() {
             count += 1;
         }
     }
@@ -74,18 +74,18 @@ fn socket_count(places: &[SocketStorage<Socket>]) -> usize
 fn may_run_out(host: &Host, records: &Records, budget: u16) -> bool
     ensures { result ≡ may_run_out host.now records.now budget }
 {
-    let each = socket_count(host.sockets.places.as_slice()).saturating_add(1);
+    let each = socket_count(host.sockets.slots.as_slice()).saturating_add(1);
     let most = each.saturating_mul(budget as usize);
     records.numbered.saturating_add(most) >= 1 << 16
 }
 
 /// Why a host isn't polled.
-fn poll_refusal(host: &Host, records: &Records, moment: Instant, budget: u16) -> Option<Refused>
-    ensures { result ≡ first_refusal (act_tests host.now records.now (Polls moment budget)) }
+fn poll_refusal(host: &Host, records: &Records, instant: Instant, budget: u16) -> Option<Refused>
+    ensures { result ≡ first_refusal (act_tests host.now records.now (Polls instant budget)) }
 {
     if may_run_out(host, records, budget) {
         Some(Refused::TooManyCut)
-    } else if refusals::is_too_early(&host.interface, moment) {
+    } else if refusals::is_too_early(&host.interface, instant) {
         Some(Refused::Moment)
     } else {
         None
@@ -99,52 +99,50 @@ fn act_refusal(host: &Host, records: &Records, event: &Event) -> Option<Refused>
     let sockets = &host.sockets;
     let table = records.sockets.as_slice();
     match event {
-        Event::Listen(_, place, port) => {
-            refusals::listen_refusal(refusals::kind_at(sockets, *place), table, *place, *port)
+        Event::Listen(_, slot, port) => {
+            refusals::listen_refusal(refusals::kind_at(sockets, *slot), table, *slot, *port)
         }
-        Event::Connect(_, place, remote, port) => refusals::connect_refusal(
-            refusals::kind_at(sockets, *place),
+        Event::Connect(_, slot, remote, port) => refusals::connect_refusal(
+            refusals::kind_at(sockets, *slot),
             table,
-            *place,
+            *slot,
             remote.port,
             *port,
         ),
-        Event::Send(_, place, bytes) => refusals::send_refusal(
-            refusals::kind_at(sockets, *place),
+        Event::Send(_, slot, bytes) => refusals::send_refusal(
+            refusals::kind_at(sockets, *slot),
             table,
-            *place,
+            *slot,
             bytes.as_slice(),
         ),
-        Event::Recv(_, place, _) => refusals::tcp_refusal(refusals::kind_at(sockets, *place)),
-        Event::Abort(_, place) => refusals::tcp_refusal(refusals::kind_at(sockets, *place)),
-        Event::State(_, place) => refusals::tcp_refusal(refusals::kind_at(sockets, *place)),
-        Event::TcpSetting(_, place, _) => {
-            refusals::tcp_refusal(refusals::kind_at(sockets, *place))
+        Event::Recv(_, slot, _) => refusals::tcp_refusal(refusals::kind_at(sockets, *slot)),
+        Event::Abort(_, slot) => refusals::tcp_refusal(refusals::kind_at(sockets, *slot)),
+        Event::State(_, slot) => refusals::tcp_refusal(refusals::kind_at(sockets, *slot)),
+        Event::TcpSetting(_, slot, _) => {
+            refusals::tcp_refusal(refusals::kind_at(sockets, *slot))
         }
-        Event::Close(_, place) => refusals::close_refusal(refusals::kind_at(sockets, *place)),
-        Event::Bind(_, place, _) => refusals::udp_refusal(refusals::kind_at(sockets, *place)),
-        Event::SendTo(_, place, _, _) => refusals::udp_refusal(refusals::kind_at(sockets, *place)),
-        Event::Ident(_, place, _) => refusals::icmp_refusal(refusals::kind_at(sockets, *place)),
-        Event::SendIcmp(_, place, _, _) => {
-            refusals::icmp_refusal(refusals::kind_at(sockets, *place))
+        Event::Close(_, slot) => refusals::close_refusal(refusals::kind_at(sockets, *slot)),
+        Event::Bind(_, slot, _) => refusals::udp_refusal(refusals::kind_at(sockets, *slot)),
+        Event::SendTo(_, slot, _, _) => refusals::udp_refusal(refusals::kind_at(sockets, *slot)),
+        Event::Ident(_, slot, _) => refusals::icmp_refusal(refusals::kind_at(sockets, *slot)),
+        Event::SendIcmp(_, slot, _, _) => {
+            refusals::icmp_refusal(refusals::kind_at(sockets, *slot))
         }
-        Event::SendRaw(_, place, bytes) => {
-            refusals::raw_refusal(refusals::kind_at(sockets, *place), bytes.as_slice())
+        Event::SendRaw(_, slot, bytes) => {
+            refusals::raw_refusal(refusals::kind_at(sockets, *slot), bytes.as_slice())
         }
-        Event::RecvFrom(_, place, _) => {
-            refusals::read_refusal(refusals::kind_at(sockets, *place))
-        }
-        Event::Poll(_, moment, budget) => poll_refusal(host, records, *moment, *budget),
-        Event::PollAt(_, moment) => {
-            refusals::is_too_early(&host.interface, *moment).then_some(Refused::Moment)
+        Event::RecvFrom(_, slot, _) => { refusals::read_refusal(refusals::kind_at(sockets, *slot)) }
+        Event::Poll(_, instant, budget) => poll_refusal(host, records, *instant, *budget),
+        Event::PollAt(_, instant) => {
+            refusals::is_too_early(&host.interface, *instant).then_some(Refused::Moment)
         }
         _ => None,
     }
 }
 
 /// One of two hosts.
-fn station<'a>(a: &'a Host, b: &'a Host, side: Side) -> &'a Host
-    ensures { result.now ≡ station (record { a = a.now; b = b.now }) side }
+fn node<'a>(a: &'a Host, b: &'a Host, side: Side) -> &'a Host
+    ensures { result.now ≡ node (record { a = a.now; b = b.now }) side }
 {
     match side {
         Side::A => a,
@@ -153,13 +151,13 @@ fn station<'a>(a: &'a Host, b: &'a Host, side: Side) -> &'a Host
 }
 
 /// Why no word of a sent frame is exchanged.
-fn damage_refusal(host: &Host, frame: usize, place: usize, word: u16) -> Option<Refused>
-    ensures { result ≡ first_refusal (damage_tests host.now frame place word) }
+fn damage_refusal(host: &Host, frame: usize, slot: usize, word: u16) -> Option<Refused>
+    ensures { result ≡ first_refusal (damage_tests host.now frame slot word) }
 {
     if frame >= host.sent_count() {
         return Some(Refused::NoFrame);
     }
-    refusals::damage_refusal(host.medium(), host.sent_frame(frame), place, word)
+    refusals::damage_refusal(host.medium(), host.sent_frame(frame), slot, word)
 }
 
 /// Why a sent frame isn't cut.
@@ -178,22 +176,22 @@ fn link_refusal(a: &Host, b: &Host, event: &Event) -> Option<Refused>
 {
     match event {
         Event::Deliver(from, frame, _) => {
-            (*frame >= station(a, b, *from).sent_count()).then_some(Refused::NoFrame)
+            (*frame >= node(a, b, *from).sent_count()).then_some(Refused::NoFrame)
         }
-        Event::Damage(from, frame, place, word, _) => {
-            damage_refusal(station(a, b, *from), *frame, *place, *word)
+        Event::Damage(from, frame, slot, word, _) => {
+            damage_refusal(node(a, b, *from), *frame, *slot, *word)
         }
         Event::Noise(to, bytes) => {
-            names_tcp_or_udp(station(a, b, *to).medium(), bytes.as_slice()).then_some(
+            names_tcp_or_udp(node(a, b, *to).medium(), bytes.as_slice()).then_some(
                 Refused::NamesTcpOrUdp,
             )
         }
-        Event::Cut(from, frame, at) => cut_refusal(station(a, b, *from), *frame, *at),
+        Event::Cut(from, frame, at) => cut_refusal(node(a, b, *from), *frame, *at),
         _ => None,
     }
 }
 
-/// Why an event isn't taken, but for want of memory.
+/// Why an event isn't taken, but for lack of memory.
 #[tactic(auto, using(crate::proofs::Worlds::AtLink::Allowed::refused_host, crate::proofs::Worlds::AtLink::Allowed::refused_link))]
 pub fn refusal_of(
     a: &Host,
@@ -219,28 +217,28 @@ impl Host {
         ensures unchanged { OnErr result (self.new ≡ self.old) }
     {
         match event {
-            Event::Listen(_, place, _)
-            | Event::Connect(_, place, _, _)
-            | Event::Send(_, place, _)
-            | Event::Recv(_, place, _)
-            | Event::Close(_, place)
-            | Event::Abort(_, place)
-            | Event::State(_, place)
-            | Event::TcpSetting(_, place, _)
-            | Event::Bind(_, place, _)
-            | Event::Ident(_, place, _)
-            | Event::SendTo(_, place, _, _)
-            | Event::SendIcmp(_, place, _, _)
-            | Event::SendRaw(_, place, _)
-            | Event::RecvFrom(_, place, _) => self.call(alloc, *place, event),
+            Event::Listen(_, slot, _)
+            | Event::Connect(_, slot, _, _)
+            | Event::Send(_, slot, _)
+            | Event::Recv(_, slot, _)
+            | Event::Close(_, slot)
+            | Event::Abort(_, slot)
+            | Event::State(_, slot)
+            | Event::TcpSetting(_, slot, _)
+            | Event::Bind(_, slot, _)
+            | Event::Ident(_, slot, _)
+            | Event::SendTo(_, slot, _, _)
+            | Event::SendIcmp(_, slot, _, _)
+            | Event::SendRaw(_, slot, _)
+            | Event::RecvFrom(_, slot, _) => self.call(alloc, *slot, event),
             Event::HardwareAddr(_, address) => Ok(self.set_hardware_addr(*address)),
             Event::Addrs(_, blocks) => Ok(self.set_addrs(blocks)),
             Event::Route(_, router) => Ok(self.set_route(*router)),
             Event::AnyIp(_, any) => Ok(self.set_any_ip(*any)),
             Event::ReassemblyTimeout(_, timeout) => Ok(self.set_reassembly_timeout(*timeout)),
             Event::Room(_, room) => Ok(self.open_room(*room)),
-            Event::PollAt(_, moment) => Ok(self.ask(*moment)),
-            Event::Poll(_, moment, budget) => self.polled(*moment, *budget),
+            Event::PollAt(_, instant) => Ok(self.ask(*instant)),
+            Event::Poll(_, instant, budget) => self.polled(*instant, *budget),
             Event::Deliver(..) | Event::Damage(..) | Event::Noise(..) | Event::Cut(..) => {
                 unreachable!()
             }
@@ -257,9 +255,9 @@ fn cut_of(
     frame: usize,
     at: usize,
 ) -> Result<(), AllocError>
-    requires frame { frame < length (station (record { a = a.old; b = b.old }) from).link.sent }
-    requires piece { HasPiece
-        (ipv4_part (medium_of (station (record { a = a.old; b = b.old }) from)) (frame_sent (record { a = a.old; b = b.old }) from frame)) at }
+    requires frame { frame < length (node (record { a = a.old; b = b.old }) from).link.sent }
+    requires fragment { HasFragment
+        (ipv4_part (medium_of (node (record { a = a.old; b = b.old }) from)) (frame_sent (record { a = a.old; b = b.old }) from frame)) at }
     ensures ok { OnOk result (record { a = a.new; b = b.new } ≡ cut_hosts (record { a = a.old; b = b.old }) from frame at) }
     ensures a { OnErr result (a.new ≡ a.old) }
     ensures b { OnErr result (b.new ≡ b.old) }
@@ -280,11 +278,11 @@ fn link(alloc: Global, a: &mut Host, b: &mut Host, event: &Event) -> Result<(), 
     match event {
         Event::Deliver(Side::A, frame, padding) => deliver(alloc, a, b, *frame, padding),
         Event::Deliver(Side::B, frame, padding) => deliver(alloc, b, a, *frame, padding),
-        Event::Damage(Side::A, frame, place, word, padding) => {
-            deliver_damaged(alloc, a, b, *frame, *place, *word, padding)
+        Event::Damage(Side::A, frame, slot, word, padding) => {
+            deliver_damaged(alloc, a, b, *frame, *slot, *word, padding)
         }
-        Event::Damage(Side::B, frame, place, word, padding) => {
-            deliver_damaged(alloc, b, a, *frame, *place, *word, padding)
+        Event::Damage(Side::B, frame, slot, word, padding) => {
+            deliver_damaged(alloc, b, a, *frame, *slot, *word, padding)
         }
         Event::Noise(Side::A, bytes) => deliver_noise(alloc, a, bytes),
         Event::Noise(Side::B, bytes) => deliver_noise(alloc, b, bytes),
@@ -311,7 +309,7 @@ fn play(alloc: Global, a: &mut Host, b: &mut Host, event: &Event) -> Result<Take
     }
 }
 
-/// Takes an event that isn't refused: the hosts, the link and the tables follow it. Room is made first, so that want of memory refuses
+/// Takes an event that isn't refused: the hosts, the link and the tables follow it. Room is made first, so that lack of memory refuses
 /// the event whole.
 #[tactic(auto, using(crate::proofs::Worlds::AtLink::Allowed::allowed_can, crate::proofs::Worlds::AtLink::Allowed::allowed_room))]
 pub fn take(

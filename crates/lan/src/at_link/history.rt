@@ -1,9 +1,9 @@
-//! What happens between two hosts, before any frame: events and answers, what their history says of each socket, partners, and the tables
+//! What happens between two hosts, before any frame: events and answers, what their history says of each socket, peers, and the tables
 //! that refusals read; and the hosts' sockets over packets, of which what one made may arrive at the other in any order, any number of times,
 //! or never.
 //!
 //! The types of events and answers are plain values. `Kinds` of `specs/Worlds/AtLink` sorts the events, `History` has the words of a history,
-//! `Partners` says which sockets are partners, `Reads` what was promised of each read, and `Tables` when a call is
+//! `PeerSides` says which sockets are peers, `Reads` what was promised of each read, and `Tables` when a call is
 //! refused. `Moves` says what may happen to sockets over packets and what becomes of it, `PacketsSafe` what holds in every run.
 
 mod answer;

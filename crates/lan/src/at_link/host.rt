@@ -3,7 +3,7 @@ ghost use Rattle.std.specs.Prelude.{◌≡◌, ◌≤◌, length, drop};
 ghost use Rattle.net_base.specs.Device.{frames_of};
 
 use interface::{Interface, SocketSet};
-use lan_base::Port;
+use sim_link::Port;
 use sockets::Socket;
 use std::marker::Model;
 
@@ -16,16 +16,16 @@ pub struct Host {
 }
 
 impl Model for Host {
-    ghost use Rattle.interface.specs.Set.{places};
-    ghost use Rattle.lan.specs.Worlds.AtLink.Station.{StationValue};
+    ghost use Rattle.interface.specs.Set.{slots};
+    ghost use Rattle.lan.specs.Worlds.AtLink.Node.{NodeValue};
 
-    ghost Value = { StationValue };
+    ghost Value = { NodeValue };
 
-    ghost view = { λ h. record { host = h.interface; places = places h.sockets; link = h.port.link } };
+    ghost view = { λ h. record { host = h.interface; slots = slots h.sockets; link = h.port.link } };
 }
 
 impl Host {
-    /// How many frames the host has sent, the link's pieces among them.
+    /// How many frames the host has sent, the link's fragments among them.
     pub fn sent_count(&self) -> usize
         ensures { result ≡ length self.now.link.sent }
     {
@@ -40,7 +40,7 @@ impl Host {
     }
 
     /// The sent frames but for so many.
-    #[tactic(auto, using(crate::proofs::Worlds::AtLink::Counting::frames_behind))]
+    #[tactic(auto, using(crate::proofs::Worlds::AtLink::Counting::frames_following))]
     pub(crate) fn sent_since(&self, before: usize) -> &[Vec<u8>]
         requires { before ≤ length self.now.link.sent }
         ensures { frames_of result.now ≡ drop before self.now.link.sent }

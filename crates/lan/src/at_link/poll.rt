@@ -2,17 +2,17 @@
 ghost use Rattle.std.specs.Prelude.{◌≡◌, ◌+◌, ◌*◌, ◌≤◌, IfOk, IfSome, OnErr, length};
 ghost use Rattle.net_base.specs.Time.{IsMoment};
 ghost use Rattle.interface.specs.Departing.{link_room};
-ghost use Rattle.interface.specs.Set.{places};
+ghost use Rattle.interface.specs.Set.{slots};
 ghost use Rattle.interface.specs.Polls.{Polls};
 ghost use Rattle.interface.specs.State.{state};
-ghost use Rattle.lan_base.specs.Port.{PortMove};
+ghost use Rattle.sim_link.specs.Port.{PortMove};
 ghost use Rattle.lan.specs.Worlds.AtLink.Steps.{PollsAt};
 
 use crate::at_link::host::Host;
 use interface::{Interface, PollResult, SocketSet};
 use ip_wire::HardwareAddress;
-use lan_base::Port;
 use net_base::Instant;
+use sim_link::Port;
 use sockets::Socket;
 use std::alloc::AllocError;
 
@@ -28,12 +28,12 @@ fn longest_frame(interface: &Interface) -> usize
     link + interface.context().mtu()
 }
 
-/// How many frames a poll of this budget sends at most: in answer to each frame that it takes, and in each pass a piece of a datagram
+/// How many frames a poll of this budget sends at most: in answer to each frame that it takes, and in each pass a fragment of a datagram
 /// and a packet of each socket.
 fn most_sends(budget: u16, sockets: &SocketSet<Socket>) -> Option<usize>
-    ensures { IfSome result (λ count. count ≡ budget * (length (places sockets.now) + 2)) }
+    ensures { IfSome result (λ count. count ≡ budget * (length (slots sockets.now) + 2)) }
 {
-    let each = sockets.places.as_slice().len().checked_add(2)?;
+    let each = sockets.slots.as_slice().len().checked_add(2)?;
     each.checked_mul(budget as usize)
 }
 
@@ -42,29 +42,29 @@ fn poll_ready(
     interface: &mut Interface,
     port: &mut Port,
     sockets: &mut SocketSet<Socket>,
-    moment: Instant,
+    instant: Instant,
     budget: u16,
 ) -> bool
-    requires moment { IsMoment moment }
-    requires count { budget * (length (places sockets.old) + 2) ≤ port.old.ready }
+    requires instant { IsMoment instant }
+    requires count { budget * (length (slots sockets.old) + 2) ≤ port.old.ready }
     requires size { link_room interface.old.inner.hardware + interface.old.inner.mtu ≤ port.old.size }
     requires least { 576 ≤ interface.old.inner.mtu }
-    ensures polls { Polls PortMove moment budget (state port.old interface.old (places sockets.old)) result
-        (state port.new interface.new (places sockets.new)) }
+    ensures polls { Polls PortMove instant budget (state port.old interface.old (slots sockets.old)) result
+        (state port.new interface.new (slots sockets.new)) }
     ensures none_denied { port.new.link.refusals ≡ port.old.link.refusals }
 {
-    match interface.poll(moment, port, sockets, budget) {
+    match interface.poll(instant, port, sockets, budget) {
         PollResult::None => false,
         PollResult::SocketStateChanged => true,
     }
 }
 
 impl Host {
-    /// Polls the host at a moment. Room for all that it may send is made first: want of memory refuses the poll whole. What is left of
+    /// Polls the host at an instant. Room for all that it may send is made first: lack of memory refuses the poll whole. What is left of
     /// the room stays for later polls.
-    pub fn poll(&mut self, moment: Instant, budget: u16) -> Result<bool, AllocError>
-        requires { IsMoment moment }
-        ensures polls { IfOk result (λ changed. PollsAt self.old moment budget changed self.new) }
+    pub fn poll(&mut self, instant: Instant, budget: u16) -> Result<bool, AllocError>
+        requires { IsMoment instant }
+        ensures polls { IfOk result (λ changed. PollsAt self.old instant budget changed self.new) }
         ensures unchanged { OnErr result (self.new ≡ self.old) }
     {
         let count = most_sends(budget, &self.sockets).ok_or(AllocError)?;
@@ -73,7 +73,7 @@ impl Host {
             &mut self.interface,
             &mut self.port,
             &mut self.sockets,
-            moment,
+            instant,
             budget,
         ))
     }

@@ -5,16 +5,16 @@ ghost use Rattle.net_base.specs.Device.{frames_of};
 ghost use Rattle.lan.specs.Worlds.AtLink.Kinds.{kind_of, same_side};
 ghost use Rattle.lan.specs.Worlds.AtLink.Tables.{no_record, record_at, table_after};
 ghost use Rattle.lan.specs.Worlds.AtLink.Origins.{medium_of, is_cut_of, begins_datagram};
-ghost use Rattle.lan_base.specs.Carried.{packet_in};
-ghost use Rattle.lan_base.specs.Cuts.{ipv4_part};
-ghost use Rattle.ip_wire.specs.Ipv4.{piece_of};
-ghost use Rattle.lan.specs.Worlds.AtLink.Records.{table_next, datagrams_added, place_of, opening_in, written_in, record_by, HasByteRoom, CanRise};
+ghost use Rattle.sim_link.specs.PacketInFrame.{packet_in};
+ghost use Rattle.sim_link.specs.Cuts.{ipv4_part};
+ghost use Rattle.ip_wire.specs.Ipv4.{fragment_of};
+ghost use Rattle.lan.specs.Worlds.AtLink.Records.{table_next, datagrams_added, slot_of, opening_in, written_in, record_by, HasByteRoom, CanRise};
 
 use crate::at_link::history::{Answer, Event, Opening, Side, SocketRecord};
 use crate::at_link::host::Host;
 use ip_wire::Ipv4Packet;
-use lan_base::{begins_pieces, ipv4_part, packet_in};
 use net_base::Medium;
+use sim_link::{begins_fragments, ipv4_part, packet_in};
 use std::alloc::{AllocError, Global};
 use std::marker::Model;
 
@@ -36,9 +36,9 @@ impl Model for Records {
 impl Records {
     /// The records of a host at which nothing happened yet.
     pub fn new(alloc: Global, host: &Host) -> Result<Records, AllocError>
-        ensures { IfOk result (λ r. r ≡ record { records = replicate (length host.now.places) no_record; numbered = 0 }) }
+        ensures { IfOk result (λ r. r ≡ record { records = replicate (length host.now.slots) no_record; numbered = 0 }) }
     {
-        let count = host.sockets.places.as_slice().len();
+        let count = host.sockets.slots.as_slice().len();
         Ok(Records {
             sockets: vec![in alloc; SocketRecord::NONE; count]?,
             numbered: 0,
@@ -111,40 +111,40 @@ fn datagrams(medium: Medium, frames: &[Vec<u8>]) -> usize
 fn begins_datagram(medium: Medium, frame: &[u8]) -> bool
     ensures { result ≡ begins_datagram medium frame.now }
 {
-    begins_ipv4(medium, frame) || begins_pieces(medium, frame)
+    begins_ipv4(medium, frame) || begins_fragments(medium, frame)
 }
 
 fn begins_ipv4(medium: Medium, frame: &[u8]) -> bool
-    ensures { result ≡ (is_some (ipv4_part medium frame.now) && ((piece_of (packet_in medium frame.now)).offset == 0)) }
+    ensures { result ≡ (is_some (ipv4_part medium frame.now) && ((fragment_of (packet_in medium frame.now)).offset == 0)) }
 {
     if ipv4_part(medium, frame).is_none() {
         return false;
     }
     Ipv4Packet::new_unchecked(packet_in(medium, frame))
-        .piece()
+        .fragment()
         .offset
         == 0
 }
 
 /// The place of the socket that an event calls, where it is this host's.
-fn place_of(side: Side, event: &Event) -> Option<usize>
-    ensures { result ≡ place_of side (kind_of event.now) }
+fn slot_of(side: Side, event: &Event) -> Option<usize>
+    ensures { result ≡ slot_of side (kind_of event.now) }
 {
     match event {
-        Event::Listen(on, place, _)
-        | Event::Connect(on, place, _, _)
-        | Event::Send(on, place, _)
-        | Event::Recv(on, place, _)
-        | Event::Close(on, place)
-        | Event::Abort(on, place)
-        | Event::State(on, place)
-        | Event::TcpSetting(on, place, _)
-        | Event::Bind(on, place, _)
-        | Event::Ident(on, place, _)
-        | Event::SendTo(on, place, _, _)
-        | Event::SendIcmp(on, place, _, _)
-        | Event::SendRaw(on, place, _)
-        | Event::RecvFrom(on, place, _) => same_side(*on, side).then_some(*place),
+        Event::Listen(on, slot, _)
+        | Event::Connect(on, slot, _, _)
+        | Event::Send(on, slot, _)
+        | Event::Recv(on, slot, _)
+        | Event::Close(on, slot)
+        | Event::Abort(on, slot)
+        | Event::State(on, slot)
+        | Event::TcpSetting(on, slot, _)
+        | Event::Bind(on, slot, _)
+        | Event::Ident(on, slot, _)
+        | Event::SendTo(on, slot, _, _)
+        | Event::SendIcmp(on, slot, _, _)
+        | Event::SendRaw(on, slot, _)
+        | Event::RecvFrom(on, slot, _) => same_side(*on, side).then_some(*slot),
         _ => None,
     }
 }
@@ -182,7 +182,7 @@ fn written_in(event: &Event, answer: &Answer) -> usize
     }
 }
 
-/// A record behind an event of its socket.
+/// A record after an event of its socket.
 fn record_after(was: SocketRecord, event: &Event, answer: &Answer) -> SocketRecord
     requires { CanRise was (written_in (kind_of event.now) answer.now) }
     ensures { result ≡ record_by was (kind_of event.now) answer.now }
@@ -199,16 +199,16 @@ fn follow_call(records: &mut Vec<SocketRecord>, side: Side, event: &Event, answe
     requires { HasByteRoom side records.old.items (kind_of event.now) }
     ensures { records.new.items ≡ table_after (kind_of event.now) answer.now side records.old.items }
 {
-    if let Some(place) = place_of(side, event) {
-        follow_at(records, place, event, answer);
+    if let Some(slot) = slot_of(side, event) {
+        follow_at(records, slot, event, answer);
     }
 }
 
-fn follow_at(records: &mut Vec<SocketRecord>, place: usize, event: &Event, answer: &Answer)
-    requires { CanRise (record_at records.old.items place) (written_in (kind_of event.now) answer.now) }
-    ensures { records.new.items ≡ slice_set records.old.items place (record_by (record_at records.old.items place) (kind_of event.now) answer.now) }
+fn follow_at(records: &mut Vec<SocketRecord>, slot: usize, event: &Event, answer: &Answer)
+    requires { CanRise (record_at records.old.items slot) (written_in (kind_of event.now) answer.now) }
+    ensures { records.new.items ≡ slice_set records.old.items slot (record_by (record_at records.old.items slot) (kind_of event.now) answer.now) }
 {
-    if place < records.len() {
-        records[place] = record_after(records[place], event, answer);
+    if slot < records.len() {
+        records[slot] = record_after(records[slot], event, answer);
     }
 }

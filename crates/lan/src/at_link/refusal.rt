@@ -1,34 +1,34 @@
-//! Why an event isn't taken, but for want of memory. No test reads the history: what it has to say is in the tables.
+//! Why an event isn't taken, but for lack of memory. No test reads the history: what it has to say is in the tables.
 ghost use Rattle.std.specs.Prelude.{◌≡◌, ◌+◌, ◌≤◌, ◌||◌, ℕ, Bool, int_lt, not, List, length};
 ghost use Rattle.interface.specs.Settings.{is_moment};
 ghost use Rattle.ip_wire.specs.Fields.{be16};
 ghost use Rattle.ip_wire.specs.IpEndpoint.{IpEndpoint};
-ghost use Rattle.lan_base.specs.Parts.{bytes_at};
-ghost use Rattle.lan_base.specs.Cuts.{ipv4_part};
-ghost use Rattle.lan_base.specs.Parts.{tcp_part};
+ghost use Rattle.sim_link.specs.Parts.{bytes_at};
+ghost use Rattle.sim_link.specs.Cuts.{ipv4_part};
+ghost use Rattle.sim_link.specs.Parts.{tcp_part};
 ghost use Rattle.ip_wire.specs.IpAddress.{IpAddress};
 ghost use Rattle.net_base.specs.Medium.TheVariants as medium;
-ghost use Rattle.lan_base.specs.Carried.{names_tcp_or_udp};
+ghost use Rattle.sim_link.specs.PacketInFrame.{names_tcp_or_udp};
 ghost use Rattle.lan.specs.Worlds.AtLink.Call as calls;
 ghost use Rattle.lan.specs.declared.at_link.history.event.TcpSetting.{TcpSetting};
 ghost use Rattle.lan.specs.declared.at_link.history.record.SocketRecord.{SocketRecord};
 ghost use Rattle.lan.specs.Worlds.AtLink.Tables.{first_refusal, call_refusal, opening_tests, record_at};
-ghost use Rattle.interface.specs.Set.{places};
-ghost use Rattle.lan.specs.Worlds.AtLink.Station.{kind_at, kind_of_socket};
-ghost use Rattle.lan.specs.Worlds.AtLink.Refusals.{is_no_place, segment_tests, cut_tests};
+ghost use Rattle.interface.specs.Set.{slots};
+ghost use Rattle.lan.specs.Worlds.AtLink.Node.{kind_at, kind_of_socket};
+ghost use Rattle.lan.specs.Worlds.AtLink.Refusals.{is_no_slot, segment_tests, cut_tests};
 
 use crate::at_link::history::{Opening, Refused, SocketKind, SocketRecord, is_port_taken};
 use interface::{Interface, SocketSet};
 use ip_wire::network_order::read_u16;
-use lan_base::{Part, ipv4_part, names_tcp_or_udp, tcp_part};
 use net_base::{Instant, Medium};
+use sim_link::{Part, ipv4_part, names_tcp_or_udp, tcp_part};
 use sockets::{Context, Socket};
 
-/// Which kind of socket that events call is at a place: a client of DHCP or DNS is none.
-pub fn kind_at(sockets: &SocketSet<Socket>, place: usize) -> Option<SocketKind>
-    ensures { result ≡ kind_at (places sockets.now) place }
+/// Which kind of socket that events call is at a slot: a client of DHCP or DNS is none.
+pub fn kind_at(sockets: &SocketSet<Socket>, slot: usize) -> Option<SocketKind>
+    ensures { result ≡ kind_at (slots sockets.now) slot }
 {
-    match sockets.places.as_slice().get(place) {
+    match sockets.slots.as_slice().get(slot) {
         Some(storage) => match &storage.inner {
             Some(item) => kind_of_socket(&item.socket),
             None => None,
@@ -49,14 +49,14 @@ fn kind_of_socket(socket: &Socket) -> Option<SocketKind>
     }
 }
 
-/// Why a place isn't listened at.
+/// Why a slot isn't listened at.
 pub fn listen_refusal(
     kind: Option<SocketKind>,
     records: &[SocketRecord],
-    place: usize,
+    slot: usize,
     port: u16,
 ) -> Option<Refused>
-    ensures { (names : List ℕ → Bool) → result ≡ call_refusal names kind records.now place (calls.Listen port) }
+    ensures { (names : List ℕ → Bool) → result ≡ call_refusal names kind records.now slot (calls.Listen port) }
 {
     let opening = Opening {
         local: port,
@@ -64,21 +64,21 @@ pub fn listen_refusal(
     };
     match kind {
         None => Some(Refused::NoSocket),
-        Some(SocketKind::Tcp) => opening_refusal(records, place, &opening),
+        Some(SocketKind::Tcp) => opening_refusal(records, slot, &opening),
         Some(SocketKind::Raw | SocketKind::Icmp | SocketKind::Udp) => Some(Refused::WrongKind),
     }
 }
 
-/// Why no connection is opened at a place.
+/// Why no connection is opened at a slot.
 pub fn connect_refusal(
     kind: Option<SocketKind>,
     records: &[SocketRecord],
-    place: usize,
+    slot: usize,
     remote_port: u16,
     port: u16,
 ) -> Option<Refused>
     ensures { (names : List ℕ → Bool) (remote : IpEndpoint) → remote.port ≡ remote_port →
-        result ≡ call_refusal names kind records.now place (calls.Connect remote port) }
+        result ≡ call_refusal names kind records.now slot (calls.Connect remote port) }
 {
     let opening = Opening {
         local: port,
@@ -86,21 +86,21 @@ pub fn connect_refusal(
     };
     match kind {
         None => Some(Refused::NoSocket),
-        Some(SocketKind::Tcp) => opening_refusal(records, place, &opening),
+        Some(SocketKind::Tcp) => opening_refusal(records, slot, &opening),
         Some(SocketKind::Raw | SocketKind::Icmp | SocketKind::Udp) => Some(Refused::WrongKind),
     }
 }
 
-fn record_at(records: &[SocketRecord], place: usize) -> SocketRecord
-    ensures { result ≡ record_at records.now place }
+fn record_at(records: &[SocketRecord], slot: usize) -> SocketRecord
+    ensures { result ≡ record_at records.now slot }
 {
-    records.get(place).copied().unwrap_or(SocketRecord::NONE)
+    records.get(slot).copied().unwrap_or(SocketRecord::NONE)
 }
 
-fn opening_refusal(records: &[SocketRecord], place: usize, opening: &Opening) -> Option<Refused>
-    ensures { result ≡ first_refusal (opening_tests records.now place opening.now) }
+fn opening_refusal(records: &[SocketRecord], slot: usize, opening: &Opening) -> Option<Refused>
+    ensures { result ≡ first_refusal (opening_tests records.now slot opening.now) }
 {
-    if record_at(records, place).opened.is_some() {
+    if record_at(records, slot).opened.is_some() {
         Some(Refused::OpenedTwice)
     } else if is_port_taken(records, opening) {
         Some(Refused::PortTaken)
@@ -109,18 +109,18 @@ fn opening_refusal(records: &[SocketRecord], place: usize, opening: &Opening) ->
     }
 }
 
-/// Why a place isn't written to.
+/// Why a slot isn't written to.
 pub fn send_refusal(
     kind: Option<SocketKind>,
     records: &[SocketRecord],
-    place: usize,
+    slot: usize,
     bytes: &[u8],
 ) -> Option<Refused>
-    ensures { (names : List ℕ → Bool) → result ≡ call_refusal names kind records.now place (calls.Send bytes.now) }
+    ensures { (names : List ℕ → Bool) → result ≡ call_refusal names kind records.now slot (calls.Send bytes.now) }
 {
     match kind {
         None => Some(Refused::NoSocket),
-        Some(SocketKind::Tcp) => record_at(records, place)
+        Some(SocketKind::Tcp) => record_at(records, slot)
             .is_too_many(bytes.len())
             .then_some(Refused::TooManyBytes),
         Some(SocketKind::Raw | SocketKind::Icmp | SocketKind::Udp) => Some(Refused::WrongKind),
@@ -203,23 +203,23 @@ pub fn raw_refusal(kind: Option<SocketKind>, bytes: &[u8]) -> Option<Refused>
     }
 }
 
-/// Why a host isn't polled or asked at a moment.
-pub fn is_too_early(interface: &Interface, moment: Instant) -> bool
-    ensures { result ≡ (not (is_moment moment) || int_lt moment interface.now.inner.moment) }
+/// Why a host isn't polled or asked at an instant.
+pub fn is_too_early(interface: &Interface, instant: Instant) -> bool
+    ensures { result ≡ (not (is_moment instant) || int_lt instant interface.now.inner.instant) }
 {
-    !moment.is_moment() || moment < interface.now()
+    !instant.is_moment() || instant < interface.now()
 }
 
 /// Why no word of a sent frame's TCP segment is exchanged.
-pub fn damage_refusal(medium: Medium, frame: &[u8], place: usize, word: u16) -> Option<Refused>
-    ensures { result ≡ first_refusal (segment_tests frame.now (tcp_part medium frame.now) place word) }
+pub fn damage_refusal(medium: Medium, frame: &[u8], slot: usize, word: u16) -> Option<Refused>
+    ensures { result ≡ first_refusal (segment_tests frame.now (tcp_part medium frame.now) slot word) }
 {
     match tcp_part(medium, frame) {
         None => Some(Refused::NotTcp),
         Some(part) => {
-            if is_no_place(part, place) {
+            if is_no_slot(part, slot) {
                 Some(Refused::Place)
-            } else if word_at(frame, part, place) % 65535 == word % 65535 {
+            } else if word_at(frame, part, slot) % 65535 == word % 65535 {
                 Some(Refused::SameSum)
             } else {
                 None
@@ -229,19 +229,19 @@ pub fn damage_refusal(medium: Medium, frame: &[u8], place: usize, word: u16) -> 
 }
 
 /// The word at a place of a part of a frame.
-fn word_at(frame: &[u8], part: Part, place: usize) -> u16
+fn word_at(frame: &[u8], part: Part, slot: usize) -> u16
     requires within { part.at + part.len ≤ length frame.now }
-    requires word { place + 2 ≤ part.len }
-    ensures { result ≡ be16 (bytes_at frame.now part) place }
+    requires word { slot + 2 ≤ part.len }
+    ensures { result ≡ be16 (bytes_at frame.now part) slot }
 {
-    read_u16(&frame[part.at..part.at + part.len], place)
+    read_u16(&frame[part.at..part.at + part.len], slot)
 }
 
-/// Whether a part has no word at a place that stands at an even one.
-fn is_no_place(part: Part, place: usize) -> bool
-    ensures { result ≡ is_no_place part place }
+/// Whether a part has no word at a slot that stands at an even one.
+fn is_no_slot(part: Part, slot: usize) -> bool
+    ensures { result ≡ is_no_slot part slot }
 {
-    place % 2 == 1 || part.len < 2 || part.len - 2 < place
+    slot % 2 == 1 || part.len < 2 || part.len - 2 < slot
 }
 
 /// Why a sent frame isn't cut there.

@@ -135,7 +135,7 @@ pub fn set_any_ip(interface: &mut Interface, any: bool) -> Brief
     Brief::Done
 }
 
-/// Sets how long the pieces of a datagram are waited for.
+/// Sets how long the fragments of a datagram are waited for.
 pub fn set_reassembly_timeout(interface: &mut Interface, timeout: Duration) -> Brief
     ensures answer { brief result ≡ setting_answer interface.old (sets.ReassemblyTimeout timeout) }
     ensures after { SetsTo interface.old (sets.ReassemblyTimeout timeout) interface.new }
@@ -152,12 +152,12 @@ impl Host {
         self.port.set_room(room);
     }
 
-    /// When the host wants to be polled, asked at a moment.
-    pub fn poll_at(&mut self, moment: Instant) -> Option<Instant>
-        requires { IsMoment moment }
-        ensures answer { result ≡ instant_at self.old moment }
-        ensures after { self.new ≡ asked self.old moment }
+    /// When the host wants to be polled, asked at an instant.
+    pub fn poll_at(&mut self, instant: Instant) -> Option<Instant>
+        requires { IsMoment instant }
+        ensures answer { result ≡ instant_at self.old instant }
+        ensures after { self.new ≡ asked self.old instant }
     {
-        self.interface.poll_at(moment, &self.sockets)
+        self.interface.poll_at(instant, &self.sockets)
     }
 }

@@ -6,7 +6,7 @@ ghost use Rattle.lan.specs.Worlds.AtLink.Calls.{done_or, count_or, listen_fault,
 ghost use Rattle.lan.specs.Worlds.AtLink.Answers.{IsTwice, brief};
 
 use crate::at_link::answer::{
-    Brief, Twins, connected, hops_or_none, listened, recv_fault, twins, two_buffers, written,
+    Brief, Twins, connected, hop_limit_or_none, listened, recv_fault, twins, two_buffers, written,
 };
 use crate::at_link::history::{Answer, Bytes, TcpSetting};
 use ip_wire::{IpEndpoint, IpListenEndpoint};
@@ -78,7 +78,7 @@ pub fn set(socket: &mut Socket, setting: &TcpSetting)
         TcpSetting::AckDelay(duration) => socket.set_ack_delay(*duration),
         TcpSetting::KeepAlive(interval) => socket.set_keep_alive(*interval),
         TcpSetting::NagleEnabled(enabled) => socket.set_nagle_enabled(*enabled),
-        TcpSetting::HopLimit(hops) => socket.set_hop_limit(hops_or_none(*hops)),
+        TcpSetting::HopLimit(hop_limit) => socket.set_hop_limit(hop_limit_or_none(*hop_limit)),
         TcpSetting::CongestionControl(control) => socket.set_congestion_control(*control),
         TcpSetting::TsvalGenerator(generator) => socket.set_tsval_generator(*generator),
         TcpSetting::PauseSynack(paused) => socket.pause_synack(*paused),

@@ -4,7 +4,7 @@ ghost use Rattle.lan.specs.declared.at_link.history.answer.Answer.TheVariants as
 ghost use Rattle.lan.specs.declared.at_link.history.event.Event.TheVariants as E;
 ghost use Rattle.lan.specs.Worlds.AtLink.Runs.{Step, Steps};
 ghost use Rattle.lan.specs.Worlds.Promises.{IsSafeWorld};
-ghost use Rattle.lan.specs.Worlds.Settling.{AreAtRest, AreServed, Goes, IsCalm, IsServed, IsService, NextRound, Settles, all_sent, deliveries};
+ghost use Rattle.lan.specs.Worlds.Settling.{AreIdle, AreServed, Goes, IsCalm, IsServed, IsService, NextRound, Settles, all_sent, deliveries};
 
 use crate::at_link::{Answer, Bytes, Event, Refused, Side};
 use crate::world::World;
@@ -20,14 +20,14 @@ struct Handed {
 
 impl World {
     /// Lets both hosts do what is theirs to do, and the link hand over each frame that they send, until neither host wants to be polled any
-    /// more, or so many rounds are over. Answers the moment at which both were at rest, if they came to be.
+    /// more, or so many rounds are over. Answers the instant at which both were at rest, if they came to be.
     ///
     /// A round polls each host once with this budget, and hands over as many of its frames, A's before B is polled. Where all frames had come
-    /// before, and none waits for a host, the clock, which begins at `from`, goes on to the moment at which a host wants to be polled. Frames
+    /// before, and none waits for a host, the clock, which begins at `from`, goes on to the instant at which a host wants to be polled. Frames
     /// that were sent before are left out, as lost.
     ///
     /// Where hosts keep their addresses, and answer nothing that no socket of theirs takes, what is at rest has arrived: all that was written
-    /// to a socket that is connected has come to its partner (`stack_laws::progress::settled`).
+    /// to a socket that is connected has come to its peer (`proof_stack::progress::settled`).
     pub fn settle(
         &mut self,
         from: Instant,
@@ -36,7 +36,7 @@ impl World {
     ) -> Result<Option<Instant>, Refused>
         ensures rounds { IfOk result (λ rested. Settles budget from rounds rested self.old self.new) }
         ensures goes { Goes self.old self.new }
-        ensures rest { IfOk result (λ rested. IfSome rested (λ moment. AreAtRest moment self.new.history)) }
+        ensures rest { IfOk result (λ rested. IfSome rested (λ instant. AreIdle instant self.new.history)) }
         ensures promises { IsSafeWorld self.new }
     {
         let outcome = self.settle_by(from, budget, rounds);
@@ -53,18 +53,18 @@ impl World {
     ) -> Result<Option<Instant>, Refused>
         ensures rounds { IfOk result (λ rested. Settles budget from rounds rested self.old self.new) }
         ensures goes { Goes self.old self.new }
-        ensures rest { IfOk result (λ rested. IfSome rested (λ moment. AreAtRest moment self.new.history)) }
+        ensures rest { IfOk result (λ rested. IfSome rested (λ instant. AreIdle instant self.new.history)) }
     {
-        let mut moment = from;
+        let mut instant = from;
         let mut handed = self.all_sent();
         for _round in 0..rounds {
-            let now = self.serve_both(moment, budget, handed)?;
-            match self.next_round(moment, handed)? {
+            let now = self.serve_both(instant, budget, handed)?;
+            match self.next_round(instant, handed)? {
                 Some(next) => {
-                    moment = next;
+                    instant = next;
                     handed = now;
                 }
-                None => return Ok(Some(moment)),
+                None => return Ok(Some(instant)),
             }
         }
         Ok(None)
@@ -83,30 +83,30 @@ impl World {
     /// Serves A, and then B. Answers how many of their frames are handed over then.
     fn serve_both(
         &mut self,
-        moment: Instant,
+        instant: Instant,
         budget: u16,
         handed: Handed,
     ) -> Result<Handed, Refused>
         ensures goes { Goes self.old self.new }
-        ensures served { IfOk result (λ now. AreServed moment budget handed now self.old self.new) }
+        ensures served { IfOk result (λ now. AreServed instant budget handed now self.old self.new) }
     {
-        let a = self.serve(Side::A, moment, budget, handed.a)?;
-        let b = self.serve(Side::B, moment, budget, handed.b)?;
+        let a = self.serve(Side::A, instant, budget, handed.a)?;
+        let b = self.serve(Side::B, instant, budget, handed.b)?;
         Ok(Handed { a, b })
     }
 
-    /// Polls a host, and hands the frames over that it sent behind so many. Answers how many are handed over then.
+    /// Polls a host, and hands the frames over that it sent after so many. Answers how many are handed over then.
     fn serve(
         &mut self,
         side: Side,
-        moment: Instant,
+        instant: Instant,
         budget: u16,
         handed: usize,
     ) -> Result<usize, Refused>
         ensures goes { Goes self.old self.new }
-        ensures served { IfOk result (λ now. IsServed side moment budget handed now self.old self.new) }
+        ensures served { IfOk result (λ now. IsServed side instant budget handed now self.old self.new) }
     {
-        self.serve_by(Event::Poll(side, moment, budget))?;
+        self.serve_by(Event::Poll(side, instant, budget))?;
         let end = self
             .sent(side)
             .len()
@@ -137,16 +137,16 @@ impl World {
     }
 
     /// When the next round is, if there is one.
-    fn next_round(&mut self, moment: Instant, handed: Handed) -> Result<Option<Instant>, Refused>
+    fn next_round(&mut self, instant: Instant, handed: Handed) -> Result<Option<Instant>, Refused>
         ensures goes { Goes self.old self.new }
-        ensures next { IfOk result (λ next. NextRound moment handed next self.old self.new) }
+        ensures next { IfOk result (λ next. NextRound instant handed next self.old self.new) }
     {
         if !self.is_calm(handed) {
-            return Ok(Some(moment));
+            return Ok(Some(instant));
         }
-        let a = self.ask(Side::A, moment)?;
-        let b = self.ask(Side::B, moment)?;
-        Ok(earlier(a, b).map(|at| moment.max(at)))
+        let a = self.ask(Side::A, instant)?;
+        let b = self.ask(Side::B, instant)?;
+        Ok(earlier(a, b).map(|at| instant.max(at)))
     }
 
     /// Whether all that the hosts sent had come before, and nothing waits.
@@ -160,11 +160,11 @@ impl World {
     }
 
     /// When a host wants to be polled.
-    fn ask(&mut self, side: Side, moment: Instant) -> Result<Option<Instant>, Refused>
+    fn ask(&mut self, side: Side, instant: Instant) -> Result<Option<Instant>, Refused>
         ensures goes { Goes self.old self.new }
-        ensures asked { IfOk result (λ at. Step self.old (E.PollAt side moment) (To.At at) self.new) }
+        ensures asked { IfOk result (λ at. Step self.old (E.PollAt side instant) (To.At at) self.new) }
     {
-        match self.serve_by(Event::PollAt(side, moment))? {
+        match self.serve_by(Event::PollAt(side, instant))? {
             Answer::At(at) => Ok(at),
             _ => unreachable!(),
         }

@@ -10,11 +10,11 @@ returns-then-not-send_waiting-clause-egress g c =
 
 pub returns-clause-egress : goal.returns-clause-egress
 returns-clause-egress g c =
-    let went = passed (sender c.pass.new.device c.pass.new.inner c.pass.new.fragmenter) c.pass.new.places c.pass.result in
+    let was_sent = passed (sender c.pass.new.device c.pass.new.inner c.pass.new.fragmenter) c.pass.new.slots c.pass.result in
     inr (
       sender c.send_waiting.new.device c.args.inner.now c.send_waiting.new.fragmenter,
       c.if-not-send_waiting.ensures.clears,
       subst (λ (o : Option IpAddress). Pass g.D.Device.moves o (sender c.send_waiting.new.device c.args.inner.now c.send_waiting.new.fragmenter) [] false
-          c.args.places.now went)
+          c.args.slots.now was_sent)
           c.turn_if_any-turn.ensures c.pass.ensures.pass,
     )

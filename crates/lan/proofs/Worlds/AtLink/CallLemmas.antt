@@ -46,9 +46,9 @@ call_at_other_side e side i j call k =
     ap (λ (kind : Kind). call_in kind (other side) j) k
     ∙ ap (λ (t : Bool). if t && (i == j) then Some call else None) (same_side_other side)
 
-pub call_at_other_place : (e : Entry) (side : Side) (i j : ℕ) (call : SocketCall) → kind_of e.event ≡ calls side i call → (i == j) ≡ false →
+pub call_at_other_slot : (e : Entry) (side : Side) (i j : ℕ) (call : SocketCall) → kind_of e.event ≡ calls side i call → (i == j) ≡ false →
     call_of e side j ≡ None
-call_at_other_place e side i j call k apart =
+call_at_other_slot e side i j call k apart =
     ap (λ (kind : Kind). call_in kind side j) k
     ∙ ap (λ (t : Bool). if t && (i == j) then Some call else None) (same_side_refl side)
     ∙ ap (λ (t : Bool). if t then Some call else None) apart
@@ -59,9 +59,9 @@ call_found (OfHost s (Calls j c)) side i call e = by (same_side s side) (j == i)
   by : (t u : Bool) → same_side s side ≡ t → (j == i) ≡ u → (if t && u then Some c else None) ≡ Some call → calls s j c ≡ calls side i call
   by true true t u e =
       let same : s ≡ side = sides_same s side t in
-      let place : j ≡ i = eqb-true j i u in
+      let slot : j ≡ i = eqb-true j i u in
       let called : c ≡ call = cc in
-      ap (λ (s : Side). calls s j c) same ∙ ap (λ (j : ℕ). calls side j c) place ∙ ap (λ (c : SocketCall). calls side i c) called
+      ap (λ (s : Side). calls s j c) same ∙ ap (λ (j : ℕ). calls side j c) slot ∙ ap (λ (c : SocketCall). calls side i c) called
   by true false t u e = absurd (cc)
   by false true t u e = absurd (cc)
   by false false t u e = absurd (cc)

@@ -3,36 +3,36 @@ use Rattle.std.proofs.Common.{◌≡◌, ◌≢◌, ◌⊎◌, inl, inr, ℕ, �
 use Rattle.std.proofs.Common.{append-nil}
 use Rattle.std.proofs.lemmas.Bool.{ne_eqb}
 use Rattle.std.specs.List.{AllByRecursion}
-use Rattle.tcp_tie.specs.Alone.{AreResets}
-use Rattle.tcp_tie.specs.Segment.{Segment}
-use Rattle.tcp_tie.specs.Segment.Control.{Rst}
-use Rattle.tcp_tie.specs.Endpoints.{HasPorts}
-use Rattle.tcp_tie.specs.Host.{Made, source_port, seen_of, sent_from, past_at}
-use Rattle.tcp_tie.specs.Promises.{KeepsAlone}
-use Rattle.tcp_tie.specs.Tie.{Past, Keeps, no_past}
-use Rattle.tcp_tie.proofs.AloneLaws.{stays_alone}
-use Rattle.tcp_tie.proofs.HostLaws.{resets_from}
-use Rattle.tcp_tie.proofs.PromiseLemmas.{alone_fresh, partner_comes, keeps_turned}
-use Rattle.tcp_model.specs.EndpointPair.{EndpointPair}
-use Rattle.tcp_model.specs.State.{State}
-use Rattle.tcp_model.specs.Value.{TcpValue}
+use Rattle.tcp_refinement.specs.Alone.{AreResets}
+use Rattle.tcp_refinement.specs.Segment.{Segment}
+use Rattle.tcp_refinement.specs.Segment.Control.{Rst}
+use Rattle.tcp_refinement.specs.Endpoints.{HasPorts}
+use Rattle.tcp_refinement.specs.Host.{Made, source_port, seen_of, sent_from, past_at}
+use Rattle.tcp_refinement.specs.Promises.{KeepsAlone}
+use Rattle.tcp_refinement.specs.Tie.{Past, Keeps, no_past}
+use Rattle.tcp_refinement.proofs.AloneLaws.{stays_alone}
+use Rattle.tcp_refinement.proofs.HostLaws.{resets_from}
+use Rattle.tcp_refinement.proofs.PromiseLemmas.{alone_initial, peer_side_comes, keeps_turned}
+use Rattle.tcp_block.specs.FourTuple.{FourTuple}
+use Rattle.tcp_block.specs.State.{State}
+use Rattle.tcp_block.specs.Value.{TcpValue}
 use Rattle.lan.specs.declared.at_link.history.answer.Answer.{Answer}
 use Rattle.lan.specs.declared.at_link.history.event.Side.{Side}
 use Rattle.lan.specs.declared.at_link.history.record.Opening.{Opening}
 use Rattle.lan.specs.Worlds.AtLink.Call.{SocketCall}
 use Rattle.lan.specs.Worlds.AtLink.Kinds.{other, kind_of, calls}
 use Rattle.lan.specs.Worlds.AtLink.History.{Entry, first_of, opening_by, bytes_written, bytes_read, closes, opening, written, read, is_closed_by}
-use Rattle.lan.specs.Worlds.AtLink.Partners.{ArePartners}
-use Rattle.lan.specs.Worlds.AtLink.Tables.{Places, AreAllowed}
-use Rattle.lan.proofs.Worlds.AtLink.CallLemmas.{other_twice, call_here, call_at_other_side, call_at_other_place}
-use Rattle.lan.proofs.Worlds.AtLink.PartnerLemmas.{MayOpen, AreApart, apart_from_opened, opened_apart, opening_stays, one_partner, partners_turned}
+use Rattle.lan.specs.Worlds.AtLink.PeerSides.{ArePartners}
+use Rattle.lan.specs.Worlds.AtLink.Tables.{Slots, AreAllowed}
+use Rattle.lan.proofs.Worlds.AtLink.CallLemmas.{other_twice, call_here, call_at_other_side, call_at_other_slot}
+use Rattle.lan.proofs.Worlds.AtLink.PeerSideLemmas.{MayOpen, AreApart, apart_from_opened, opened_apart, opening_stays, one_peer_side, peer_sides_turned}
 use Rattle.lan.specs.Worlds.AtLink.Parties.{Party, socket_at}
 use Rattle.lan.specs.Worlds.AtLink.Parties.Socket.{Tcp}
 use Rattle.lan.specs.Worlds.AtLink.Moves.{with_socket}
 use Rattle.lan.proofs.Worlds.AtLink.Lists.{Each}
 use Rattle.lan.specs.Worlds.AtLink.Paired.{way_of, way_by, told}
 use Rattle.lan.proofs.Worlds.AtLink.StreamInvariant.{ports_of, IsUntouched, SpeaksWith, TcpOk, SegmentOk, StreamsOk, PairsOk}
-use Rattle.lan.proofs.Worlds.AtLink.HostSteps.{past, or_false, told_left, opening_left, speaks_stay, segments_stay, partners_stay, HostSteps}
+use Rattle.lan.proofs.Worlds.AtLink.HostSteps.{past, or_false, told_left, opening_left, speaks_stay, segments_stay, peer_sides_stay, HostSteps}
 use Rattle.lan.proofs.Worlds.AtLink.Exchange.{Leaves, exchange_opened, exchange_untouched}
 
 -- the past after a call
@@ -81,7 +81,7 @@ pub leaves_call : (h : List Entry) (e : Entry) (side : Side) (at : ℕ) (call : 
 leaves_call h e side at call kind = record {
   stay = λ s i o opened. opening_stays h e s i o opened;
   near = λ i apart.
-      let none = call_at_other_place e side at i call kind (ne_eqb at i (λ same. apart (sym same))) in
+      let none = call_at_other_slot e side at i call kind (ne_eqb at i (λ same. apart (sym same))) in
       (opening_left h e side i none, told_left h e side i none);
   far = λ j.
       let none = call_at_other_side e side at j call kind in
@@ -89,8 +89,8 @@ leaves_call h e side at call kind = record {
 }
 
 module _
-    (places : Places) (h : List Entry) (e : Entry) (side : Side) (p q : Party) (at : ℕ) (v : TcpValue) (call : SocketCall)
-    (kind : kind_of e.event ≡ calls side at call) (allowed : AreAllowed places (e ∷ h))
+    (slots : Slots) (h : List Entry) (e : Entry) (side : Side) (p q : Party) (at : ℕ) (v : TcpValue) (call : SocketCall)
+    (kind : kind_of e.event ≡ calls side at call) (allowed : AreAllowed slots (e ∷ h))
     (is : socket_at p at ≡ Some (Tcp v)) (k : StreamsOk h side p) (far : StreamsOk h (other side) q) (pairs : PairsOk h side p q) where
   abbrev pub ok : TcpOk h side p.segments at v
   ok = k.sockets at v is
@@ -108,10 +108,10 @@ module _
   made_after : Each (SegmentOk (e ∷ h) side) p.segments
   made_after = segments_stay h (e ∷ h) side p.segments leaves.stay k.made
 
-  -- a call of an opened socket that keeps the invariant beside any partner
+  -- a call of an opened socket that keeps the invariant alongside any peer
   pub called_opened :
-      (o : Opening) (new : TcpValue) → opening h side at ≡ Some o → HasPorts (ports_of o) new.block
-      → ((pair : EndpointPair) → new.block.names.pair ≡ Some pair → v.block.names.pair ≡ Some pair)
+      (o : Opening) (new : TcpValue) → opening h side at ≡ Some o → HasPorts (ports_of o) new.tcb
+      → ((pair : FourTuple) → new.tcb.names.pair ≡ Some pair → v.tcb.names.pair ≡ Some pair)
       → ((w : TcpValue) (b : Past) → Keeps v (past_at o.local p.segments (told h side at)) w b →
       Keeps new (past_at o.local p.segments (told (e ∷ h) side at)) w b)
       → HostSteps h (e ∷ h) side p (with_socket p at (Tcp new)) q
@@ -121,12 +121,12 @@ module _
         heard = λ pair is_pair. speaks_stay h (e ∷ h) side o pair.remote_port leaves.stay (ok.heard o opened pair (named pair is_pair));
         alone = λ lone.
             stays_alone v new (past_at o.local p.segments (told h side at)) (past_at o.local p.segments (told (e ∷ h) side at))
-            (ok.alone o opened (λ j a. lone j (partners_stay h (e ∷ h) side at j leaves.stay a))) keeps;
+            (ok.alone o opened (λ j a. lone j (peer_sides_stay h (e ∷ h) side at j leaves.stay a))) keeps;
         pair = λ j w a is_w. keeps w (past_at a.another.local q.segments (told h (other side) j)) (before j w a is_w);
       })
     where
       apart : (i : ℕ) (one : Opening) → i ≢ at → opening h side i ≡ Some one → one.local ≢ o.local
-      apart i one differs is_one = by (opened_apart places h side i at one o allowed.1 is_one opened) where
+      apart i one differs is_one = by (opened_apart slots h side i at one o allowed.1 is_one opened) where
         by : (i ≡ at) ⊎ AreApart one o → one.local ≢ o.local
         by (inl same) = absurd (differs same)
         by (inr a) = a.local
@@ -140,7 +140,7 @@ module _
             one = a.one;
             another = a.another;
             opened = opened ∙ ap (λ (o : Opening). Some o) (sym one);
-            partner_opened = sym (leaves.far j).0 ∙ a.partner_opened;
+            peer_side_opened = sym (leaves.far j).0 ∙ a.peer_side_opened;
             paired = a.paired;
           } in
           subst (λ (o : Opening). Keeps v (past_at o.local p.segments (told h side at)) w (past_at a.another.local q.segments (told h (other side) j))) one
@@ -160,23 +160,23 @@ module _
 
   -- THE OPENING
 
-  all_resets : (o : Opening) → MayOpen places h side at o → (xs : List Made) → Each (SegmentOk h side) xs →
+  all_resets : (o : Opening) → MayOpen slots h side at o → (xs : List Made) → Each (SegmentOk h side) xs →
       AllByRecursion (λ x. source_port x ≡ o.local → (seen_of x).control ≡ Rst) xs
   all_resets o may [] all = tt
   all_resets o may (x ∷ xs) all = (by all.0, all_resets o may xs all.1) where
     by : SegmentOk h side x → source_port x ≡ o.local → (seen_of x).control ≡ Rst
     by (inl rst) from = rst
-    by (inr s) from = absurd ((apart_from_opened places h side at s.place o s.by allowed.1 may s.opened).local (sym from ∙ sym s.from))
+    by (inr s) from = absurd ((apart_from_opened slots h side at s.slot o s.by allowed.1 may s.opened).local (sym from ∙ sym s.from))
 
   pub called_opens :
-      (o : Opening) (new : TcpValue) → MayOpen places h side at o → opening_by (Some call) e.answer ≡ Some o
+      (o : Opening) (new : TcpValue) → MayOpen slots h side at o → opening_by (Some call) e.answer ≡ Some o
       → bytes_written (Some call) e.answer ≡ [] → bytes_read (Some call) e.answer ≡ [] → closes (Some call) e.found ≡ false
-      → HasPorts (ports_of o) new.block → ((pair : EndpointPair) → new.block.names.pair ≡ Some pair → SpeaksWith (e ∷ h) side o pair.remote_port)
+      → HasPorts (ports_of o) new.tcb → ((pair : FourTuple) → new.tcb.names.pair ≡ Some pair → SpeaksWith (e ∷ h) side o pair.remote_port)
       → ((rs : List Segment) (w : TcpValue) (b : Past) → Keeps v (no_past rs) w b → Keeps new (record (no_past rs) { opening = way_of o.remote }) w b)
       → HostSteps h (e ∷ h) side p (with_socket p at (Tcp new)) q
   called_opens o new may opens no_bytes no_read no_close ports heard keeps =
       exchange_opened h (e ∷ h) side p q at leaves made_after o p.segments new opened_now (inl refl)
-      (λ i one differs is_one same. (apart_from_opened places h side at i o one allowed.1 may is_one).local (sym same))
+      (λ i one differs is_one same. (apart_from_opened slots h side at i o one allowed.1 may is_one).local (sym same))
       (record { ports = ports; heard = heard; alone = λ lone. alone_now; pair = λ j w a is_w. pair_now j w a is_w })
     where
       u : IsUntouched h side at v
@@ -209,16 +209,16 @@ module _
       alone_now =
           subst (λ (t : Past). KeepsAlone new (past_at o.local p.segments t)) (sym told_now)
           (stays_alone v new (no_past (sent_from o.local p.segments)) (record (no_past (sent_from o.local p.segments)) { opening = way_of o.remote })
-          (alone_fresh v (sent_from o.local p.segments) u.fresh resets) (λ w b kept. keeps (sent_from o.local p.segments) w b kept))
+          (alone_initial v (sent_from o.local p.segments) u.initial resets) (λ w b kept. keeps (sent_from o.local p.segments) w b kept))
 
-      -- the partner had none before
+      -- the peer had none before
       was_lone : (j : ℕ) → ArePartners (e ∷ h) side at j → (i : ℕ) → ¬ (ArePartners h (other side) j i)
       was_lone j a i b =
-          let b' : ArePartners (e ∷ h) (other side) j i = partners_stay h (e ∷ h) (other side) j i leaves.stay b in
-          let a' : ArePartners (e ∷ h) (other side) j at = partners_turned (e ∷ h) side at j a in
-          let same : i ≡ at = one_partner places (e ∷ h) (other side) j i at allowed b' a' in
+          let b' : ArePartners (e ∷ h) (other side) j i = peer_sides_stay h (e ∷ h) (other side) j i leaves.stay b in
+          let a' : ArePartners (e ∷ h) (other side) j at = peer_sides_turned (e ∷ h) side at j a in
+          let same : i ≡ at = one_peer_side slots (e ∷ h) (other side) j i at allowed b' a' in
           let opened_before : opening h side at ≡ Some b.another =
-          ap (λ (i : ℕ). opening h side i) (sym same) ∙ ap (λ (s : Side). opening h s i) (sym (other_twice side)) ∙ b.partner_opened in
+          ap (λ (i : ℕ). opening h side i) (sym same) ∙ ap (λ (s : Side). opening h s i) (sym (other_twice side)) ∙ b.peer_side_opened in
           let clash : None ≡ Some b.another = sym may.first ∙ opened_before in
           cc
 
@@ -226,8 +226,8 @@ module _
           (j : ℕ) (w : TcpValue) (a : ArePartners (e ∷ h) side at j) → socket_at q j ≡ Some (Tcp w)
           → Keeps new (past_at o.local p.segments (told (e ∷ h) side at)) w (past_at a.another.local q.segments (told h (other side) j))
       pair_now j w a is_w =
-          let was = (far.sockets j w is_w).alone a.another (sym (leaves.far j).0 ∙ a.partner_opened) (was_lone j a) in
-          let beside = partner_comes w v (past_at a.another.local q.segments (told h (other side) j)) (sent_from o.local p.segments) was u.fresh resets in
+          let was = (far.sockets j w is_w).alone a.another (sym (leaves.far j).0 ∙ a.peer_side_opened) (was_lone j a) in
+          let beside = peer_side_comes w v (past_at a.another.local q.segments (told h (other side) j)) (sent_from o.local p.segments) was u.initial resets in
           let turned = keeps_turned w v (past_at a.another.local q.segments (told h (other side) j)) (no_past (sent_from o.local p.segments)) beside in
           subst (λ (t : Past). Keeps new (past_at o.local p.segments t) w (past_at a.another.local q.segments (told h (other side) j))) (sym told_now)
           (keeps (sent_from o.local p.segments) w (past_at a.another.local q.segments (told h (other side) j)) turned)

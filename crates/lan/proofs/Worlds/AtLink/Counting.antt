@@ -19,6 +19,6 @@ pub added_else : (b : Bool) (n m : ℕ) → b ≡ false → n ≡ m → n ≡ (i
 added_else true n m is same = absurd cc
 added_else false n m is same = same
 
--- the frames behind so many
-pub frames_behind : (n : ℕ) (xs : List (Vec ℕ)) → frames_of (drop n xs) ≡ drop n (frames_of xs)
-frames_behind n xs = sym (drop-map (λ (x : Vec ℕ). x.items) n xs)
+-- the frames after so many
+pub frames_following : (n : ℕ) (xs : List (Vec ℕ)) → frames_of (drop n xs) ≡ drop n (frames_of xs)
+frames_following n xs = sym (drop-map (λ (x : Vec ℕ). x.items) n xs)

@@ -6,16 +6,16 @@ use Rattle.ip_wire.specs.IpEndpoint.{IpEndpoint}
 use Rattle.ip_wire.specs.IpListenEndpoint.{IpListenEndpoint}
 use Rattle.net_base.specs.Packets.{contents, first, is_full_for, appended}
 use Rattle.sockets.specs.Addresses.{is_unspecified}
-use Rattle.sockets.specs.SocketValue as Datagrams
-use Rattle.sockets.specs.SocketValue.{with_settings, with_queued, sent_after, send_answer_to, settled}
-use Rattle.sockets.specs.Udp as Udps
-use Rattle.sockets.specs.Udp.{UdpValue, metadata_to, is_open, is_unaddressable}
-use Rattle.sockets.specs.declared.udp.UdpMetadata.{UdpMetadata}
-use Rattle.sockets.specs.declared.error.BindError.{BindError}
-use Rattle.sockets.specs.declared.error.BindError.TheVariants as Bind
-use Rattle.sockets.specs.declared.error.SendError.{SendError}
-use Rattle.sockets.specs.declared.error.SendError.TheVariants as SendTo
-use Rattle.tcp_model.specs.State.{State}
+use Rattle.socket_datagram.specs.SocketValue as Datagrams
+use Rattle.socket_datagram.specs.SocketValue.{with_settings, with_queued, sent_after, send_answer_to, settled}
+use Rattle.socket_datagram.specs.Udp as Udps
+use Rattle.socket_datagram.specs.Udp.{UdpValue, metadata_to, is_open, is_unaddressable}
+use Rattle.socket_datagram.specs.declared.udp.UdpMetadata.{UdpMetadata}
+use Rattle.socket_datagram.specs.declared.error.BindError.{BindError}
+use Rattle.socket_datagram.specs.declared.error.BindError.TheVariants as Bind
+use Rattle.socket_datagram.specs.declared.error.SendError.{SendError}
+use Rattle.socket_datagram.specs.declared.error.SendError.TheVariants as SendTo
+use Rattle.tcp_block.specs.State.{State}
 use Rattle.lan.specs.declared.at_link.history.answer.Answer.{Answer}
 use Rattle.lan.specs.declared.at_link.history.answer.Answer.TheVariants as To
 use Rattle.lan.specs.declared.at_link.history.answer.Fault.TheVariants as Fault

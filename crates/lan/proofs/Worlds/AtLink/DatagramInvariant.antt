@@ -1,8 +1,8 @@
 -- What is kept of UDP sockets and of the datagrams that were made.
 use Rattle.std.proofs.Common.{◌≡◌, ◌⊎◌, inl, inr, ℕ, List, [], ◌∷◌, Option, Some, None, refl, sym, ap, ◌∙◌, subst}
 use Rattle.net_base.specs.Packets.{contents}
-use Rattle.sockets.specs.Udp.{UdpValue}
-use Rattle.sockets.specs.declared.udp.UdpMetadata.{UdpMetadata}
+use Rattle.socket_datagram.specs.Udp.{UdpValue}
+use Rattle.socket_datagram.specs.declared.udp.UdpMetadata.{UdpMetadata}
 use Rattle.lan.specs.declared.at_link.history.event.Side.{Side}
 use Rattle.lan.specs.Worlds.AtLink.Kinds.{other}
 use Rattle.lan.specs.Worlds.AtLink.Call.{SocketCall}

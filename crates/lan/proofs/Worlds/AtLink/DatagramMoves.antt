@@ -10,13 +10,13 @@ use Rattle.sockets.specs.Context.{ContextValue}
 use Rattle.sockets.specs.Packet as Carried
 use Rattle.sockets.specs.Packet.{PacketValue, PayloadValue}
 use Rattle.sockets.specs.Offer as Answers
-use Rattle.sockets.specs.Offers.{IsFound, OffersFirst, left_with}
-use Rattle.sockets.specs.SocketValue as Datagrams
-use Rattle.sockets.specs.SocketValue.{left_by}
-use Rattle.sockets.specs.Udp as Udps
-use Rattle.sockets.specs.Udp.{UdpValue, UdpSettings, TakesDatagram, takes_address, metadata_of, is_open}
-use Rattle.sockets.specs.declared.udp.UdpMetadata.{UdpMetadata}
-use Rattle.tcp_model.specs.Value.{TcpValue}
+use Rattle.socket_datagram.specs.Offers.{IsFound, OffersFirst, left_with}
+use Rattle.socket_datagram.specs.SocketValue as Datagrams
+use Rattle.socket_datagram.specs.SocketValue.{left_by}
+use Rattle.socket_datagram.specs.Udp as Udps
+use Rattle.socket_datagram.specs.Udp.{UdpValue, UdpSettings, TakesDatagram, takes_address, metadata_of, is_open}
+use Rattle.socket_datagram.specs.declared.udp.UdpMetadata.{UdpMetadata}
+use Rattle.tcp_block.specs.Value.{TcpValue}
 use Rattle.lan.specs.declared.at_link.history.answer.Answer.{Answer}
 use Rattle.lan.specs.declared.at_link.history.event.Side.{Side}
 use Rattle.lan.specs.Worlds.AtLink.Kinds.{other, Kind, kind_of, calls}
@@ -27,7 +27,7 @@ use Rattle.lan.specs.Worlds.AtLink.Parties.{Socket, Datagram, Party, socket_at, 
 use Rattle.lan.specs.Worlds.AtLink.Parties.Socket.{Tcp, Udp, Icmp, Raw}
 use Rattle.lan.specs.Worlds.AtLink.Moves.{with_socket, LooksSame}
 use Rattle.lan.proofs.Worlds.AtLink.Lists.{Each, each_append, each_get}
-use Rattle.lan.proofs.Worlds.AtLink.Places.{socket_cases}
+use Rattle.lan.proofs.Worlds.AtLink.Slots.{socket_cases}
 use Rattle.lan.proofs.Worlds.AtLink.Queues.{IsLeft, contents_unpadded, contents_without_first, each_first, each_taken_in}
 use Rattle.lan.proofs.Worlds.AtLink.DatagramInvariant.{Queued, CameTo, GoesFrom, UdpOk, udp_grown, port_left, made_grown, DatagramOk, DatagramsOk, IsFewer, udp_fewer}
 
@@ -127,7 +127,7 @@ datagrams_grown starts h e side p none k = record {
   made = made_grown starts h e side p.datagrams k.made;
 }
 
--- a call of the socket at a place
+-- a call of the socket at a slot
 pub datagrams_called :
     (starts : Side → ℕ → ℕ) (h : List Entry) (e : Entry) (side : Side) (p : Party) (at : ℕ) (new : Socket) → ((i : ℕ) → i ≢ at → call_of e side i ≡ None)
     → ((v : UdpValue) → new ≡ Udp v → UdpOk starts (e ∷ h) side at v) → DatagramsOk starts h side p → DatagramsOk starts (e ∷ h) side (with_socket p at new)

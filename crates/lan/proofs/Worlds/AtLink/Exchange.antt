@@ -1,23 +1,23 @@
 -- A step of one host that exchanges one socket, or none of TCP.
 use Rattle.std.proofs.Common.{◌≡◌, ◌≢◌, ◌⊎◌, inl, inr, ℕ, List, [], ◌∷◌, ◌++◌, Some, None, refl, sym, ◌∙◌, subst}
-use Rattle.tcp_tie.specs.Segment.Control.{Rst}
-use Rattle.tcp_tie.specs.Endpoints.{HasPorts}
-use Rattle.tcp_tie.specs.Host.{Made, source_port, destination_port, seen_of, past_at}
-use Rattle.tcp_tie.specs.Promises.{KeepsAlone}
-use Rattle.tcp_tie.specs.Tie.{Keeps}
-use Rattle.tcp_tie.proofs.HostLaws.{keeps_made_elsewhere, keeps_made_reset}
-use Rattle.tcp_model.specs.EndpointPair.{EndpointPair}
-use Rattle.tcp_model.specs.Value.{TcpValue}
+use Rattle.tcp_refinement.specs.Segment.Control.{Rst}
+use Rattle.tcp_refinement.specs.Endpoints.{HasPorts}
+use Rattle.tcp_refinement.specs.Host.{Made, source_port, destination_port, seen_of, past_at}
+use Rattle.tcp_refinement.specs.Promises.{KeepsAlone}
+use Rattle.tcp_refinement.specs.Tie.{Keeps}
+use Rattle.tcp_refinement.proofs.HostLaws.{keeps_made_elsewhere, keeps_made_reset}
+use Rattle.tcp_block.specs.FourTuple.{FourTuple}
+use Rattle.tcp_block.specs.Value.{TcpValue}
 use Rattle.lan.specs.declared.at_link.history.event.Side.{Side}
 use Rattle.lan.specs.declared.at_link.history.record.Opening.{Opening}
 use Rattle.lan.specs.Worlds.AtLink.Kinds.{other}
 use Rattle.lan.specs.Worlds.AtLink.History.{Entry, opening}
-use Rattle.lan.specs.Worlds.AtLink.Partners.{ArePartners}
+use Rattle.lan.specs.Worlds.AtLink.PeerSides.{ArePartners}
 use Rattle.lan.specs.Worlds.AtLink.Parties.{Socket, Datagram, Party, socket_at}
 use Rattle.lan.specs.Worlds.AtLink.Parties.Socket.{Tcp}
 use Rattle.lan.specs.Worlds.AtLink.Moves.{with_socket}
 use Rattle.lan.proofs.Worlds.AtLink.Lists.{Each, each_append}
-use Rattle.lan.proofs.Worlds.AtLink.Places.{socket_cases}
+use Rattle.lan.proofs.Worlds.AtLink.Slots.{socket_cases}
 use Rattle.lan.proofs.Worlds.AtLink.Speaking.{same_opening}
 use Rattle.lan.specs.Worlds.AtLink.Paired.{told}
 use Rattle.lan.proofs.Worlds.AtLink.StreamInvariant.{ports_of, IsUntouched, SpeaksWith, TcpOk, SegmentOk}
@@ -36,7 +36,7 @@ more_made : (h : List Entry) (side : Side) (at : ℕ) (o : Opening) (made made' 
 more_made h side at o made made' opened (inl same) all = subst (Each (SegmentOk h side)) (sym same) all
 more_made h side at o made made' opened (inr more) all =
     subst (Each (SegmentOk h side)) (sym more.1)
-    (each_append (SegmentOk h side) made (more.0 ∷ []) all (inr (record { place = at; by = o; opened = opened; from = sym more.2; to = more.3 }), tt))
+    (each_append (SegmentOk h side) made (more.0 ∷ []) all (inr (record { slot = at; by = o; opened = opened; from = sym more.2; to = more.3 }), tt))
 
 pub keep_same : (made : List Made) (port : ℕ) → KeepAt made made port
 keep_same made port = λ v w p q k. k
@@ -59,8 +59,8 @@ leaves_all h side at = record { stay = λ s i o e. e; near = λ i apart. (refl, 
 
 -- what it makes of an opened socket
 pub record Exchanges (h h' : List Entry) (side : Side) (q : Party) (at : ℕ) (o : Opening) (made' : List Made) (new : TcpValue) : Type 0 where
-  pub ports : HasPorts (ports_of o) new.block
-  pub heard : (pair : EndpointPair) → new.block.names.pair ≡ Some pair → SpeaksWith h' side o pair.remote_port
+  pub ports : HasPorts (ports_of o) new.tcb
+  pub heard : (pair : FourTuple) → new.tcb.names.pair ≡ Some pair → SpeaksWith h' side o pair.remote_port
   pub alone : ((j : ℕ) → ¬ (ArePartners h' side at j)) → KeepsAlone new (past_at o.local made' (told h' side at))
   pub pair :
       (j : ℕ) (w : TcpValue) (a : ArePartners h' side at j) → socket_at q j ≡ Some (Tcp w)
@@ -84,7 +84,7 @@ module _ (h h' : List Entry) (side : Side) (p q : Party) (at : ℕ) (leaves : Le
     ok : TcpOk h' side made' at new
     ok = record {
       untouched = λ none. absurd (let clash : None ≡ Some o = sym none ∙ opened in cc);
-      ports = λ o' opened'. subst (λ (o : Opening). HasPorts (ports_of o) new.block) (same_opening o o' (sym opened ∙ opened')) x.ports;
+      ports = λ o' opened'. subst (λ (o : Opening). HasPorts (ports_of o) new.tcb) (same_opening o o' (sym opened ∙ opened')) x.ports;
       heard = λ o' opened' pair named. subst (λ (o : Opening). SpeaksWith h' side o pair.remote_port) (same_opening o o' (sym opened ∙ opened'))
           (x.heard pair named);
       alone = λ o' opened' lone. subst (λ (o : Opening). KeepsAlone new (past_at o.local made' (told h' side at))) (same_opening o o' (sym opened ∙ opened'))

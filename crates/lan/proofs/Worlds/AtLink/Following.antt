@@ -13,9 +13,9 @@ use Rattle.lan.specs.declared.at_link.history.answer.Answer.{Answer}
 use Rattle.lan.specs.declared.at_link.history.answer.Answer.TheVariants as To
 use Rattle.lan.specs.declared.at_link.history.event.Side.{Side}
 use Rattle.lan.specs.declared.at_link.history.record.SocketRecord.{SocketRecord}
-use Rattle.lan.specs.Worlds.AtLink.Records.{place_of, written_in, record_by, HasByteRoom, CanRise}
+use Rattle.lan.specs.Worlds.AtLink.Records.{slot_of, written_in, record_by, HasByteRoom, CanRise}
 
--- the records with that at a place behind an event
+-- the records with that at a slot after an event
 abbrev pub followed : Option ℕ → Kind → Answer → List SocketRecord → List SocketRecord
 followed None kind answer table = table
 followed (Some i) kind answer table = slice_set table i (record_by (record_at table i) kind answer)
@@ -27,12 +27,12 @@ by_side true s i call answer table = refl
 by_side false s i call answer table = refl
 
 pub follows : (kind : Kind) (answer : Answer) (side : Side) (table : List SocketRecord) →
-    followed (place_of side kind) kind answer table ≡ table_after kind answer side table
+    followed (slot_of side kind) kind answer table ≡ table_after kind answer side table
 follows (OfHost s (Calls i call)) answer side table = by_side (same_side s side) s i call answer table
 follows (OfHost s (Sets setting)) answer side table = refl
 follows (OfHost s (Opens room)) answer side table = refl
-follows (OfHost s (Asks moment)) answer side table = refl
-follows (OfHost s (Polls moment budget)) answer side table = refl
+follows (OfHost s (Asks instant)) answer side table = refl
+follows (OfHost s (Polls instant budget)) answer side table = refl
 follows (OfLink act) answer side table = refl
 
 -- ROOM
@@ -52,14 +52,14 @@ written_few bytes (To.State state) = omega arith
 written_few bytes (To.FromEndpoint endpoint read) = omega arith
 written_few bytes (To.FromAddr address read) = omega arith
 written_few bytes (To.Poll changed) = omega arith
-written_few bytes (To.At instant) = omega arith
+written_few bytes (To.At due_instant) = omega arith
 written_few bytes (To.Error fault) = omega arith
 
 sends_few : (bytes : List ℕ) (answer : Answer) (r : SocketRecord) → r.accepted + length bytes < 2 ^ 29 →
     CanRise r (length (bytes_written (Some (Call.Send bytes)) answer))
 sends_few bytes answer r few some = omega (arith, few, written_few bytes answer)
 
-pub room_at : (side : Side) (kind : Kind) (answer : Answer) (table : List SocketRecord) (i : ℕ) → place_of side kind ≡ Some i → HasByteRoom side table kind →
+pub room_at : (side : Side) (kind : Kind) (answer : Answer) (table : List SocketRecord) (i : ℕ) → slot_of side kind ≡ Some i → HasByteRoom side table kind →
     CanRise (record_at table i) (written_in kind answer)
 room_at side (OfHost s (Calls j (Call.Send bytes))) answer table i is room =
     let at = placed (same_side s side) j i is in
@@ -80,6 +80,6 @@ room_at side (OfHost s (Calls j (Call.SendRaw bytes))) answer table i is room = 
 room_at side (OfHost s (Calls j (Call.RecvFrom limit))) answer table i is room = λ some. absurd (omega (arith, some))
 room_at side (OfHost s (Sets setting)) answer table i is room = λ some. absurd (omega (arith, some))
 room_at side (OfHost s (Opens room')) answer table i is room = λ some. absurd (omega (arith, some))
-room_at side (OfHost s (Asks moment)) answer table i is room = λ some. absurd (omega (arith, some))
-room_at side (OfHost s (Polls moment budget)) answer table i is room = λ some. absurd (omega (arith, some))
+room_at side (OfHost s (Asks instant)) answer table i is room = λ some. absurd (omega (arith, some))
+room_at side (OfHost s (Polls instant budget)) answer table i is room = λ some. absurd (omega (arith, some))
 room_at side (OfLink act) answer table i is room = λ some. absurd (omega (arith, some))

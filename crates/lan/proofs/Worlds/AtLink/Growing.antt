@@ -1,4 +1,4 @@
--- What an event leaves of a host: its sent frames stay in front of those that it sends, its port stays what it is, and it has as many places.
+-- What an event leaves of a host: its sent frames stay before those that it sends, its port stays what it is, and it has as many slots.
 use Rattle.std.proofs.Common.{◌≡◌, ℕ, ◌+◌, ◌≤◌, ℤ, Bool, true, false, cond, List, [], ◌∷◌, ◌++◌, length, take, drop, Option, None, Some, refl, sym, ap, ◌∙◌}
 use Rattle.std.proofs.Common.{subst, append_assoc, append-nil, arith}
 use Rattle.std.specs.Prelude.{slice_get, if◌then◌else◌}
@@ -12,16 +12,16 @@ use Rattle.net_base.specs.DeviceCapabilities.{DeviceCapabilities}
 use Rattle.net_base.specs.Medium.{Medium}
 use Rattle.ip_wire.specs.HardwareAddress.{HardwareAddress}
 use Rattle.sockets.specs.declared.socket.Socket.{Socket}
-use Rattle.interface_egress.specs.Inner.{context_of}
-use Rattle.interface_egress.specs.declared.socket_set.Item.{Item}
-use Rattle.interface_egress.specs.declared.socket_set.SocketStorage.{SocketStorage}
-use Rattle.interface_egress.specs.Set.{with_socket}
+use Rattle.iface_egress.specs.Inner.{context_of}
+use Rattle.iface_egress.specs.declared.socket_set.Item.{Item}
+use Rattle.iface_egress.specs.declared.socket_set.SocketStorage.{SocketStorage}
+use Rattle.iface_egress.specs.Set.{with_socket}
 use Rattle.interface.specs.State.{State}
 use Rattle.interface.proofs.Kept.{IsCounted}
 use Rattle.interface.specs.Touches.{Touch, Looks, Leave, Sends, Does, DoesAll}
 use Rattle.interface.proofs.Count.{polls_count}
 use Rattle.interface.proofs.Trace.{polls_traced}
-use Rattle.lan_base.specs.Port.{LinkEnd, PortValue, PortMove}
+use Rattle.sim_link.specs.Port.{LinkEnd, PortValue, PortMove}
 use Rattle.lan.specs.Worlds.AtLink.Call.{SocketCall}
 use Rattle.lan.specs.Worlds.AtLink.History.{Entry}
 use Rattle.lan.specs.Worlds.AtLink.Kinds.{Kind, kind_of, Act, LinkAct}
@@ -33,12 +33,12 @@ use Rattle.lan.specs.declared.at_link.history.answer.Answer.{Answer}
 use Rattle.lan.specs.declared.at_link.history.event.Side.{Side}
 use Rattle.lan.specs.declared.at_link.history.event.Side.TheVariants.{A, B}
 use Rattle.lan.specs.Worlds.AtLink.Calls.{Did}
-use Rattle.tcp_model.specs.State as States
-use Rattle.lan.specs.Worlds.AtLink.Does.{does, DidAt, ItemDoes, PlaceDoes}
+use Rattle.tcp_block.specs.State as States
+use Rattle.lan.specs.Worlds.AtLink.Does.{does, DidAt, ItemDoes, SlotDoes}
 use Rattle.lan.specs.Worlds.AtLink.Origins.{medium_of, goes_to, sent_before, is_cut_of, own_frames, begins_datagram, numbered}
 use Rattle.lan.specs.Worlds.AtLink.Records.{table_next}
 use Rattle.lan.specs.Worlds.AtLink.Runs.{table_in, counts_of}
-use Rattle.lan.specs.Worlds.AtLink.Station.{StationValue, Stations, station, with_station, with_link}
+use Rattle.lan.specs.Worlds.AtLink.Node.{NodeValue, Nodes, node, with_node, with_link}
 use Rattle.lan.specs.Worlds.AtLink.Steps.{PollsAt, Acts, Happens, linked}
 
 -- A PORT
@@ -93,31 +93,31 @@ module _ (t : ℤ) (own : HardwareAddress) (caps : ChecksumCapabilities) where
 
 -- A HOST
 
-pub record Stays (s s' : StationValue) : Type 0 where
+pub record Stays (s s' : NodeValue) : Type 0 where
   pub link : Follows s.link s'.link
-  pub places : length s'.places ≡ length s.places
+  pub slots : length s'.slots ≡ length s.slots
 
-stays_same : (s s' : StationValue) → s' ≡ s → Stays s s'
+stays_same : (s s' : NodeValue) → s' ≡ s → Stays s s'
 stays_same s s' is =
-    record { link = follows_link s.link s'.link (ap (λ (x : StationValue). x.link) is); places = ap (λ (x : StationValue). length x.places) is }
+    record { link = follows_link s.link s'.link (ap (λ (x : NodeValue). x.link) is); slots = ap (λ (x : NodeValue). length x.slots) is }
 
-did_stays : (s s' : StationValue) (i : ℕ) (item : Item Socket) (call : SocketCall) (d : Option (Did Socket)) (answer : Answer) (found : Option States.State) →
+did_stays : (s s' : NodeValue) (i : ℕ) (item : Item Socket) (call : SocketCall) (d : Option (Did Socket)) (answer : Answer) (found : Option States.State) →
     DidAt s i item call d answer found s' → Stays s s'
 did_stays s s' i item call None answer found did = absurd did
 did_stays s s' i item call (Some d) answer found did = record {
-  link = follows_link s.link s'.link (ap (λ (x : StationValue). x.link) did.2);
-  places = ap (λ (x : StationValue). length x.places) did.2 ∙ length-set s.places i (with_socket item d.socket);
+  link = follows_link s.link s'.link (ap (λ (x : NodeValue). x.link) did.2);
+  slots = ap (λ (x : NodeValue). length x.slots) did.2 ∙ length-set s.slots i (with_socket item d.socket);
 }
 
-item_stays : (s s' : StationValue) (i : ℕ) (o : Option (Item Socket)) (call : SocketCall) (answer : Answer) (found : Option States.State) →
+item_stays : (s s' : NodeValue) (i : ℕ) (o : Option (Item Socket)) (call : SocketCall) (answer : Answer) (found : Option States.State) →
     ItemDoes s i o call answer found s' → Stays s s'
 item_stays s s' i None call answer found did = absurd did
 item_stays s s' i (Some item) call answer found did = did_stays s s' i item call (does (context_of s.host.inner) item.socket call) answer found did
 
-place_stays : (s s' : StationValue) (i : ℕ) (o : Option (SocketStorage Socket)) (call : SocketCall) (answer : Answer) (found : Option States.State) →
-    PlaceDoes s i o call answer found s' → Stays s s'
-place_stays s s' i None call answer found did = absurd did
-place_stays s s' i (Some place) call answer found did = item_stays s s' i place.inner call answer found did
+slot_stays : (s s' : NodeValue) (i : ℕ) (o : Option (SocketStorage Socket)) (call : SocketCall) (answer : Answer) (found : Option States.State) →
+    SlotDoes s i o call answer found s' → Stays s s'
+slot_stays s s' i None call answer found did = absurd did
+slot_stays s s' i (Some slot) call answer found did = item_stays s s' i slot.inner call answer found did
 
 -- of what isn't counted
 counts_nothing : (t : ℤ) → IsCounted PortMove t (λ (n : ℕ) (s : State PortValue). Unit {0})
@@ -125,49 +125,49 @@ counts_nothing t = record {
   more = λ n m s up so. tt;
   maintenance = λ n s so. tt;
   arrivals = λ n s s' answer runs so takes. tt;
-  pieces = λ n h ps x x' l gone runs is so leaves same. tt;
+  fragments = λ n h ps x x' l gone runs is so leaves same. tt;
   turns = λ turn n h before after p p' x x' turned runs so turns. tt;
 }
 
-polls_stay : (s s' : StationValue) (t : ℤ) (budget : ℕ) (changed : Bool) → PollsAt s t budget changed s' → Stays s s'
+polls_stay : (s s' : NodeValue) (t : ℤ) (budget : ℕ) (changed : Bool) → PollsAt s t budget changed s' → Stays s s'
 polls_stay s s' t budget changed p =
-    let from : State PortValue = record { device = p.port; host = s.host; places = s.places } in
-    let to : State PortValue = record { device = p.port_after; host = s'.host; places = s'.places } in
+    let from : State PortValue = record { device = p.port; host = s.host; slots = s.slots } in
+    let to : State PortValue = record { device = p.port_after; host = s'.host; slots = s'.slots } in
     let trace = polls_traced PortMove t budget from to changed p.polls in
     let path : Follows p.port.link p.port_after.link =
     follows_path t s.host.inner.hardware s.host.inner.checksums trace.touches p.port p.port_after trace.path in
     record {
       link = subst (λ (x : LinkEnd). Follows x s'.link) p.before (subst (λ (x : LinkEnd). Follows p.port.link x) p.after path);
-      places = (polls_count PortMove t (λ (n : ℕ) (x : State PortValue). Unit {0}) (counts_nothing t) budget 0 from to changed tt p.polls).2;
+      slots = (polls_count PortMove t (λ (n : ℕ) (x : State PortValue). Unit {0}) (counts_nothing t) budget 0 from to changed tt p.polls).2;
     }
 
-acts_stay : (s s' : StationValue) (act : Act) (answer : Answer) (found : Option States.State) → Acts s act answer found s' → Stays s s'
-acts_stay s s' (Calls i call) answer found acts = place_stays s s' i (slice_get s.places i) call answer found acts
+acts_stay : (s s' : NodeValue) (act : Act) (answer : Answer) (found : Option States.State) → Acts s act answer found s' → Stays s s'
+acts_stay s s' (Calls i call) answer found acts = slot_stays s s' i (slice_get s.slots i) call answer found acts
 acts_stay s s' (Sets setting) answer found acts =
-    record { link = follows_link s.link s'.link (ap (λ (x : StationValue). x.link) acts.0.3); places = ap (λ (x : StationValue). length x.places) acts.0.3 }
+    record { link = follows_link s.link s'.link (ap (λ (x : NodeValue). x.link) acts.0.3); slots = ap (λ (x : NodeValue). length x.slots) acts.0.3 }
 acts_stay s s' (Opens room) answer found acts = record {
-  link = follows_none s.link s'.link (ap (λ (x : StationValue). x.link.sent) acts.2) (ap (λ (x : StationValue). x.link.capabilities) acts.2);
-  places = ap (λ (x : StationValue). length x.places) acts.2;
+  link = follows_none s.link s'.link (ap (λ (x : NodeValue). x.link.sent) acts.2) (ap (λ (x : NodeValue). x.link.capabilities) acts.2);
+  slots = ap (λ (x : NodeValue). length x.slots) acts.2;
 }
-acts_stay s s' (Asks moment) answer found acts =
-    record { link = follows_link s.link s'.link (ap (λ (x : StationValue). x.link) acts.2); places = ap (λ (x : StationValue). length x.places) acts.2 }
-acts_stay s s' (Polls moment budget) answer found acts = polls_stay s s' moment budget acts.0 acts.1
+acts_stay s s' (Asks instant) answer found acts =
+    record { link = follows_link s.link s'.link (ap (λ (x : NodeValue). x.link) acts.2); slots = ap (λ (x : NodeValue). length x.slots) acts.2 }
+acts_stay s s' (Polls instant budget) answer found acts = polls_stay s s' instant budget acts.0 acts.1
 
 -- BOTH
 
-host_stays : (old new : Stations) (s side : Side) (act : Act) (answer : Answer) (found : Option States.State) → Happens old (OfHost s act) answer found new →
-    Stays (station old side) (station new side)
+host_stays : (old new : Nodes) (s side : Side) (act : Act) (answer : Answer) (found : Option States.State) → Happens old (OfHost s act) answer found new →
+    Stays (node old side) (node new side)
 host_stays old new A A act answer found happens = acts_stay old.a new.a act answer found happens.acts
 host_stays old new B B act answer found happens = acts_stay old.b new.b act answer found happens.acts
 host_stays old new A B act answer found happens = stays_same old.b new.b happens.rests
 host_stays old new B A act answer found happens = stays_same old.a new.a happens.rests
 
-stays_linked : (s : StationValue) (link : LinkEnd) → Follows s.link link → Stays s (with_link s link)
-stays_linked s link follows = record { link = follows; places = refl }
+stays_linked : (s : NodeValue) (link : LinkEnd) → Follows s.link link → Stays s (with_link s link)
+stays_linked s link follows = record { link = follows; slots = refl }
 
 -- one host at another link's end, and the other as it was
-one_stays : (old : Stations) (at side : Side) (link : LinkEnd) → Follows (station old at).link link →
-    Stays (station old side) (station (with_station old at (with_link (station old at) link)) side)
+one_stays : (old : Nodes) (at side : Side) (link : LinkEnd) → Follows (node old at).link link →
+    Stays (node old side) (node (with_node old at (with_link (node old at) link)) side)
 one_stays old A A link follows = stays_linked old.a link follows
 one_stays old B B link follows = stays_linked old.b link follows
 one_stays old A B link follows = stays_same old.b old.b refl
@@ -176,23 +176,23 @@ one_stays old B A link follows = stays_same old.a old.a refl
 two_added : (link : LinkEnd) (one two : List ℕ) → Follows link (record link { sent = (link.sent ++ one ∷ []) ++ two ∷ [] })
 two_added link one two = record { added = one ∷ two ∷ []; sent = append_assoc link.sent (one ∷ []) (two ∷ []); capabilities = refl }
 
-link_stays : (old : Stations) (act : LinkAct) (side : Side) → Stays (station old side) (station (linked old act) side)
+link_stays : (old : Nodes) (act : LinkAct) (side : Side) → Stays (node old side) (node (linked old act) side)
 link_stays old (Hands o) side = one_stays old (goes_to o) side _ (follows_none _ _ refl refl)
-link_stays old (Cuts from k at) side = one_stays old from side _ (two_added (station old from).link _ _)
+link_stays old (Cuts from k at) side = one_stays old from side _ (two_added (node old from).link _ _)
 
-pub happens_stays : (old new : Stations) (kind : Kind) (answer : Answer) (found : Option States.State) (side : Side) → Happens old kind answer found new →
-    Stays (station old side) (station new side)
+pub happens_stays : (old new : Nodes) (kind : Kind) (answer : Answer) (found : Option States.State) (side : Side) → Happens old kind answer found new →
+    Stays (node old side) (node new side)
 happens_stays old new (OfHost s act) answer found side happens = host_stays old new s side act answer found happens
 happens_stays old new (OfLink act) answer found side happens =
-    subst (λ (x : Stations). Stays (station old side) (station x side)) (sym happens.2) (link_stays old act side)
+    subst (λ (x : Nodes). Stays (node old side) (node x side)) (sym happens.2) (link_stays old act side)
 
 -- as many frames were sent as before, or more
-pub sent_grows : (old new : Stations) (kind : Kind) (answer : Answer) (found : Option States.State) (side : Side) → Happens old kind answer found new →
-    length (station old side).link.sent ≤ length (station new side).link.sent
+pub sent_grows : (old new : Nodes) (kind : Kind) (answer : Answer) (found : Option States.State) (side : Side) → Happens old kind answer found new →
+    length (node old side).link.sent ≤ length (node new side).link.sent
 sent_grows old new kind answer found side happens =
     let link = (happens_stays old new kind answer found side happens).link in
     let all = ap length link.sent in
-    omega (arith, all, length-append (station old side).link.sent link.added)
+    omega (arith, all, length-append (node old side).link.sent link.added)
 
 -- TABLES
 
@@ -213,21 +213,21 @@ numbered_on medium side past e sent sent' added is before =
     ∙ ap (λ (xs : List (List ℕ)). count_by (begins_datagram medium) (own_frames side past xs) +
     (if is_cut_of side (kind_of e.event) then 0 else count_by (begins_datagram medium) (drop (length sent) sent'))) front
 
-before_is : (old : Stations) (e : Entry) (side : Side) → e.before ≡ counts_of old → sent_before e.before side ≡ length (station old side).link.sent
+before_is : (old : Nodes) (e : Entry) (side : Side) → e.before ≡ counts_of old → sent_before e.before side ≡ length (node old side).link.sent
 before_is old e A is = ap (λ c. sent_before c A) is
 before_is old e B is = ap (λ c. sent_before c B) is
 
-pub tables_go_on : (past : List Entry) (e : Entry) (old new : Stations) (side : Side) → e.before ≡ counts_of old →
+pub tables_proceed : (past : List Entry) (e : Entry) (old new : Nodes) (side : Side) → e.before ≡ counts_of old →
     Happens old (kind_of e.event) e.answer e.found new
-    → table_in (e ∷ past) side (station new side) ≡
-    table_next side (kind_of e.event) e.answer (length (station old side).link.sent) (station new side) (table_in past side (station old side))
-tables_go_on past e old new side before happens =
+    → table_in (e ∷ past) side (node new side) ≡
+    table_next side (kind_of e.event) e.answer (length (node old side).link.sent) (node new side) (table_in past side (node old side))
+tables_proceed past e old new side before happens =
     let stays = happens_stays old new (kind_of e.event) e.answer e.found side happens in
-    let s : StationValue = station old side in
-    let s' : StationValue = station new side in
+    let s : NodeValue = node old side in
+    let s' : NodeValue = node new side in
     let medium : medium_of s' ≡ medium_of s = ap (λ (c : DeviceCapabilities). c.medium) stays.link.capabilities in
-    let records : table_of (e ∷ past) side (length s'.places) ≡ table_after (kind_of e.event) e.answer side (table_of past side (length s.places)) =
-    ap (λ (n : ℕ). table_after (kind_of e.event) e.answer side (table_of past side n)) stays.places in
+    let records : table_of (e ∷ past) side (length s'.slots) ≡ table_after (kind_of e.event) e.answer side (table_of past side (length s.slots)) =
+    ap (λ (n : ℕ). table_after (kind_of e.event) e.answer side (table_of past side n)) stays.slots in
     let count = numbered_on (medium_of s') side past e s.link.sent s'.link.sent stays.link.added stays.link.sent (before_is old e side before) in
     let first : numbered (medium_of s') side past s.link.sent ≡ numbered (medium_of s) side past s.link.sent =
     ap (λ (m : Medium). numbered m side past s.link.sent) medium in

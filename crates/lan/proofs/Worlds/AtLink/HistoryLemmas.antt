@@ -1,8 +1,8 @@
 -- The promises are true of some short histories, and false of others.
 use Rattle.std.proofs.Common.{◌≡◌, ◌⊎◌, inl, inr, ℕ, ◌||◌, Bool, true, false, List, [], ◌∷◌, drop, Option, Some, None, refl, sym, ap, ◌∙◌, arith}
 use Rattle.ip_wire.specs.IpEndpoint.{IpEndpoint}
-use Rattle.tcp_model.specs.State.{State}
-use Rattle.tcp_model.specs.State.TheVariants as In
+use Rattle.tcp_block.specs.State.{State}
+use Rattle.tcp_block.specs.State.TheVariants as In
 use Rattle.lan.specs.declared.at_link.history.event.Side.{Side}
 use Rattle.lan.specs.declared.at_link.history.event.Side.TheVariants.{A, B}
 use Rattle.lan.specs.Worlds.AtLink.Call as Call
@@ -55,19 +55,19 @@ unclosed (e ∷ h) side j none =
 
 pub no_close : ¬ (EndsWereTrue end_without_close)
 no_close ends =
-    let clash : false ≡ true = sym (unclosed (drop 1 end_without_close) B ends.0.partner (refl, (refl, tt))) ∙ ends.0.closed in
+    let clash : false ≡ true = sym (unclosed (drop 1 end_without_close) B ends.0.peer_side (refl, (refl, tt))) ∙ ends.0.closed in
     cc
 
 -- closed where nothing was written
 pub closed_end : EndsWereTrue (end_after_close In.Established)
 closed_end = (
   record {
-    partner = 0;
-    partners = record {
+    peer_side = 0;
+    peer_sides = record {
       one = record { local = 49_500; remote = Some 80 };
       another = record { local = 80; remote = None };
       opened = refl;
-      partner_opened =
+      peer_side_opened =
           refl;
       paired = refl;
     };

@@ -1,18 +1,18 @@
 -- A step of one host keeps what is kept of both hosts' streams, where it keeps it of each socket.
 use Rattle.std.proofs.Common.{◌≡◌, ◌⊎◌, inl, inr, ℕ, ◌||◌, Bool, true, false, List, [], ◌∷◌, ◌++◌, Option, Some, None, refl, sym, ap, ◌∙◌, subst}
 use Rattle.std.proofs.Common.{append-nil}
-use Rattle.tcp_tie.specs.Side as Law
-use Rattle.tcp_tie.specs.Host.{Made, destination_port, past_at}
-use Rattle.tcp_tie.specs.Promises.{KeepsAlone}
-use Rattle.tcp_tie.specs.Tie.{Past, Keeps}
-use Rattle.tcp_tie.proofs.AloneLaws.{stays_alone}
-use Rattle.tcp_model.specs.Value.{TcpValue}
+use Rattle.tcp_refinement.specs.Side as Law
+use Rattle.tcp_refinement.specs.Host.{Made, destination_port, past_at}
+use Rattle.tcp_refinement.specs.Promises.{KeepsAlone}
+use Rattle.tcp_refinement.specs.Tie.{Past, Keeps}
+use Rattle.tcp_refinement.proofs.AloneLaws.{stays_alone}
+use Rattle.tcp_block.specs.Value.{TcpValue}
 use Rattle.lan.specs.declared.at_link.history.event.Side.{Side}
 use Rattle.lan.specs.declared.at_link.history.record.Opening.{Opening}
 use Rattle.lan.specs.Worlds.AtLink.Kinds.{other}
 use Rattle.lan.specs.Worlds.AtLink.Call.{SocketCall}
 use Rattle.lan.specs.Worlds.AtLink.History.{Entry, call_of, first_of, opening_by, bytes_written, bytes_read, closes, opening, written, read, is_closed_by}
-use Rattle.lan.specs.Worlds.AtLink.Partners.{ArePartners}
+use Rattle.lan.specs.Worlds.AtLink.PeerSides.{ArePartners}
 use Rattle.lan.proofs.Worlds.AtLink.TableLemmas.{first_of-none}
 use Rattle.lan.specs.Worlds.AtLink.Parties.{Party, socket_at}
 use Rattle.lan.specs.Worlds.AtLink.Parties.Socket.{Tcp}
@@ -48,7 +48,7 @@ abbrev pub Stay : List Entry → List Entry → Type 0
 Stay h h' = (s : Side) (i : ℕ) (o : Opening) → opening h s i ≡ Some o → opening h' s i ≡ Some o
 
 calls_stay : (h h' : List Entry) (side : Side) (port target : ℕ) → Stay h h' → ConnectsTo h side port target → ConnectsTo h' side port target
-calls_stay h h' side port target stay c = record { place = c.place; by = c.by; opened = stay side c.place c.by c.opened; from = c.from; to = c.to }
+calls_stay h h' side port target stay c = record { slot = c.slot; by = c.by; opened = stay side c.slot c.by c.opened; from = c.from; to = c.to }
 
 pub speaks_stay : (h h' : List Entry) (side : Side) (o : Opening) (port : ℕ) → Stay h h' → SpeaksWith h side o port → SpeaksWith h' side o port
 speaks_stay h h' side o port stay (inl to) = inl to
@@ -58,9 +58,9 @@ pub segment_stays : (h h' : List Entry) (side : Side) → Stay h h' → (x : Mad
 segment_stays h h' side stay x (inl rst) = inl rst
 segment_stays h h' side stay x (inr s) =
     inr (record {
-      place = s.place;
+      slot = s.slot;
       by = s.by;
-      opened = stay side s.place s.by s.opened;
+      opened = stay side s.slot s.by s.opened;
       from = s.from;
       to =
           speaks_stay h h' side s.by (destination_port x) stay s.to;
@@ -69,12 +69,12 @@ segment_stays h h' side stay x (inr s) =
 pub segments_stay : (h h' : List Entry) (side : Side) (xs : List Made) → Stay h h' → Each (SegmentOk h side) xs → Each (SegmentOk h' side) xs
 segments_stay h h' side xs stay all = each_of (SegmentOk h side) (SegmentOk h' side) xs (segment_stays h h' side stay) all
 
-pub partners_stay : (h h' : List Entry) (side : Side) (i j : ℕ) → Stay h h' → ArePartners h side i j → ArePartners h' side i j
-partners_stay h h' side i j stay a = record {
+pub peer_sides_stay : (h h' : List Entry) (side : Side) (i j : ℕ) → Stay h h' → ArePartners h side i j → ArePartners h' side i j
+peer_sides_stay h h' side i j stay a = record {
   one = a.one;
   another = a.another;
   opened = stay side i a.one a.opened;
-  partner_opened = stay (other side) j a.another a.partner_opened;
+  peer_side_opened = stay (other side) j a.another a.peer_side_opened;
   paired = a.paired;
 }
 
@@ -110,12 +110,12 @@ module _ (h h' : List Entry) (side : Side) (p p' q : Party) (steps : HostSteps h
   kept_ok i v kept k = record {
     untouched = λ none.
         let u = k.untouched (sym kept.same ∙ none) in
-        record { fresh = u.fresh; nameless = u.nameless; nothing = kept.told_same ∙ u.nothing };
+        record { initial = u.initial; nameless = u.nameless; nothing = kept.told_same ∙ u.nothing };
     ports = λ o opened. k.ports o (sym kept.same ∙ opened);
     heard = λ o opened pair named. speaks_stay h h' side o pair.remote_port steps.stay (k.heard o (sym kept.same ∙ opened) pair named);
     alone = λ o opened lone.
         let before = sym kept.same ∙ opened in
-        let was = k.alone o before (λ j a. lone j (partners_stay h h' side i j steps.stay a)) in
+        let was = k.alone o before (λ j a. lone j (peer_sides_stay h h' side i j steps.stay a)) in
         subst (λ (past : Past). KeepsAlone v (past_at o.local p'.segments past)) (sym kept.told_same)
         (stays_alone v v (past_at o.local p.segments (told h side i)) (past_at o.local p'.segments (told h side i)) was
         (λ w q keeps. kept.keeps o before v w (told h side i) q keeps));
@@ -134,12 +134,12 @@ module _ (h h' : List Entry) (side : Side) (p p' q : Party) (steps : HostSteps h
     by j w k = record {
       untouched = λ none.
           let u = k.untouched (sym (steps.far j) ∙ none) in
-          record { fresh = u.fresh; nameless = u.nameless; nothing = steps.told_far j ∙ u.nothing };
+          record { initial = u.initial; nameless = u.nameless; nothing = steps.told_far j ∙ u.nothing };
       ports = λ o opened. k.ports o (sym (steps.far j) ∙ opened);
       heard = λ o opened pair named. speaks_stay h h' (other side) o pair.remote_port steps.stay (k.heard o (sym (steps.far j) ∙ opened) pair named);
       alone = λ o opened lone.
           subst (λ (past : Past). KeepsAlone w (past_at o.local q.segments past)) (sym (steps.told_far j))
-          (k.alone o (sym (steps.far j) ∙ opened) (λ i a. lone i (partners_stay h h' (other side) j i steps.stay a)));
+          (k.alone o (sym (steps.far j) ∙ opened) (λ i a. lone i (peer_sides_stay h h' (other side) j i steps.stay a)));
     }
 
   pub pairs_step : PairsOk h side p q → PairsOk h' side p' q
@@ -153,7 +153,7 @@ module _ (h h' : List Entry) (side : Side) (p p' q : Party) (steps : HostSteps h
       by i j v w a is_w (inr kept) =
           let opened : opening h side i ≡ Some a.one = sym kept.same ∙ a.opened in
           let b : ArePartners h side i j =
-          record { one = a.one; another = a.another; opened = opened; partner_opened = sym (steps.far j) ∙ a.partner_opened; paired = a.paired } in
+          record { one = a.one; another = a.another; opened = opened; peer_side_opened = sym (steps.far j) ∙ a.peer_side_opened; paired = a.paired } in
           subst (λ (past : Past). Keeps v (past_at a.one.local p'.segments past) w (past_at a.another.local q.segments (told h (other side) j)))
           (sym kept.told_same)
           (kept.keeps a.one opened v w (told h side i) (past_at a.another.local q.segments (told h (other side) j)) (k i j v w b kept.was is_w))

@@ -3,7 +3,7 @@ use Rattle.std.proofs.Common.{◌≡◌, ◌⊎◌, inl, inr, ℕ, ◌+◌, ◌%
 use Rattle.std.proofs.Common.{sym, ap, ◌∙◌, subst}
 use Rattle.net_base.specs.Packets.{QueuedPacket, Packets, contents, packet, packets_in, unpadded, unpadded_by, first, first_by, without_first, without_first_by}
 use Rattle.net_base.specs.Packets.{appended, is_full_for, padding_for, start_of}
-use Rattle.sockets.specs.SocketValue.{taken_in}
+use Rattle.socket_datagram.specs.SocketValue.{taken_in}
 use Rattle.lan.proofs.Worlds.AtLink.Lists.{Each, each_append, each_dropped}
 
 -- the same, or without the first
@@ -26,7 +26,7 @@ module _ {H : Type 0} where
   contents_unpadded_by : (ps : List (QueuedPacket H)) (q : Packets H) → q.packets ≡ ps → contents (unpadded_by ps q) ≡ contents q
   contents_unpadded_by [] q e = refl
   contents_unpadded_by (p ∷ ps) q e = by (p.padding == 0) where
-    by : (t : Bool) → contents (if t then q else packets_in (packet 0 p.header p.bytes ∷ ps) ((q.start + p.padding) % q.room) q.places q.room) ≡ contents q
+    by : (t : Bool) → contents (if t then q else packets_in (packet 0 p.header p.bytes ∷ ps) ((q.start + p.padding) % q.room) q.positions q.room) ≡ contents q
     by true = refl
     by false = sym (ap (λ (ps : List (QueuedPacket H)). map told ps) e)
 

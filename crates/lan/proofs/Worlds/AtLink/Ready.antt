@@ -8,35 +8,35 @@ use Rattle.sockets.specs.Offer as Answer
 use Rattle.sockets.specs.Offer.TheVariants as Offer
 use Rattle.sockets.specs.Socket.{offered_by}
 use Rattle.sockets.specs.declared.socket.Socket.{Socket}
-use Rattle.interface_egress.specs.Inner.{InnerValue, at_moment}
-use Rattle.interface_egress.specs.declared.socket_set.Item.{Item}
-use Rattle.interface_egress.specs.declared.socket_set.SocketStorage.{SocketStorage}
-use Rattle.interface_egress.specs.Departing.{SendsOnce, HasSettingsOf, departure_by, was_taken, link_room}
-use Rattle.interface_egress.specs.Departure as Departures
+use Rattle.iface_egress.specs.Inner.{InnerValue, at_instant}
+use Rattle.iface_egress.specs.declared.socket_set.Item.{Item}
+use Rattle.iface_egress.specs.declared.socket_set.SocketStorage.{SocketStorage}
+use Rattle.iface_egress.specs.Departing.{SendsOnce, HasSettingsOf, departure_by, was_taken, link_room}
+use Rattle.iface_egress.specs.Departure as Departures
 use Rattle.ip_wire.specs.IpAddress.{IpAddress}
-use Rattle.interface_egress.specs.Departure.{Departure}
-use Rattle.interface_egress.specs.declared.socket_meta.Meta.{Meta}
-use Rattle.interface_egress.specs.Fragments.{LeftValue, departure_from}
-use Rattle.interface_egress.specs.GoesOut.{GoesOut, PieceGoesOut, Departs, frame_of, frame_len_of}
-use Rattle.interface_egress.specs.Plan.{plan_of}
-use Rattle.interface_egress.specs.declared.way_out.Sent.{Sent}
-use Rattle.interface_egress.proofs.Changes.{changes, piece_sends, same_settings}
-use Rattle.interface_egress.proofs.Short.{planned_short, piece_short}
-use Rattle.interface_ingress.specs.Arrives as Replies
-use Rattle.interface_ingress.specs.Arrives.{ReplyValue, whole_after}
-use Rattle.interface_ingress.specs.Kept.{HasSameSettings}
-use Rattle.interface_ingress.specs.Reassembled.{taken_in}
+use Rattle.iface_egress.specs.Departure.{Departure}
+use Rattle.iface_egress.specs.declared.socket_meta.Meta.{Meta}
+use Rattle.iface_egress.specs.Fragments.{LeftValue, departure_from}
+use Rattle.iface_egress.specs.IsTransmitted.{IsTransmitted, FragmentIsTransmitted, Departs, frame_of, frame_len_of}
+use Rattle.iface_egress.specs.Plan.{plan_of}
+use Rattle.iface_egress.specs.declared.egress_path.Sent.{Sent}
+use Rattle.iface_egress.proofs.Changes.{changes, fragment_sends, same_settings}
+use Rattle.iface_egress.proofs.Short.{planned_short, fragment_short}
+use Rattle.iface_ingress.specs.Arrives as Replies
+use Rattle.iface_ingress.specs.Arrives.{ReplyValue, whole_after}
+use Rattle.iface_ingress.specs.FragmentStored.{HasSameSettings}
+use Rattle.iface_ingress.specs.Reassembled.{taken_in}
 use Rattle.interface.specs.Host.{Sender}
 use Rattle.interface.specs.Ingress.{Takes, Replied, is_awaited}
 use Rattle.interface.specs.Polls.{Polls}
 use Rattle.interface.specs.State.{State}
-use Rattle.interface.specs.Turn.{Leaves, SendsBy, Answers, TurnsIf, ItemTurns, PlaceTurns, is_waiting, let_through}
-use Rattle.interface.specs.WayOut.{PieceLeaves}
-use Rattle.interface.specs.declared.turn.Turned.{Turned}
+use Rattle.interface.specs.Serve.{Leaves, SendsBy, Answers, TurnsIf, ItemTurns, ServesSlot, is_waiting, let_through}
+use Rattle.interface.specs.EgressPath.{FragmentLeaves}
+use Rattle.interface.specs.declared.serve.Served.{Served}
 use Rattle.interface.proofs.Kept.{IsCounted}
 use Rattle.interface.proofs.Count.{polls_count}
 use Rattle.interface.proofs.Runs.{receives_same}
-use Rattle.lan_base.specs.Port.{PortValue, PortMove}
+use Rattle.sim_link.specs.Port.{PortValue, PortMove}
 use Rattle.lan.proofs.Worlds.AtLink.Replies.{IsMeasured, IfReplyMeasured, brings_so}
 
 -- THE PORT
@@ -80,7 +80,7 @@ module _ (most refusals : ℕ) where
     none_refused = so.none_refused;
   }
 
-  so_took : (n : ℕ) (d d' : PortValue) (i : InnerValue) (frame : List ℕ) → PortMove d (Took i.moment frame) d' → So n d i → So n d' i
+  so_took : (n : ℕ) (d d' : PortValue) (i : InnerValue) (frame : List ℕ) → PortMove d (Took i.instant frame) d' → So n d i → So n d' i
   so_took n d d' i frame took so =
       so_port n d d' i (ap (λ (x : PortValue). x.size) (sym took.1)) (ap (λ (x : PortValue). x.ready) (sym took.1))
       (ap (λ (x : PortValue). x.link.refusals) (sym took.1)) so
@@ -118,17 +118,17 @@ module _ (most refusals : ℕ) where
   so_once n (Some x) taken d d' i within short goes so = so_sends n x taken d d' i within (short x refl) goes so
 
   so_out : (n : ℕ) (d d' : PortValue) (i i' : InnerValue) (l l' : Option LeftValue) (p : PacketValue) (busy : Bool) (sent : Sent) → n + 1 ≤ most → IsMeasured p
-      → GoesOut PortMove d i l p (plan_of i busy p.header) sent d' i' l' → So n d i → So (n + 1) d' i'
+      → IsTransmitted PortMove d i l p (plan_of i busy p.header) sent d' i' l' → So n d i → So (n + 1) d' i'
   so_out n d d' i i' l l' p busy sent within len goes so =
       let all = changes PortMove d d' i i' l l' p busy sent goes in
       let settings : HasSettingsOf i i' = same_settings i i' (plan_of i busy p.header) sent p.header all.1 in
       so_host (n + 1) d' i i' settings.hardware settings.mtu
       (so_once n (departure_by i p (plan_of i busy p.header)) (was_taken sent) d d' i within (λ x is. planned_short i busy p x so.low len is) all.0 so)
 
-  so_piece : (n : ℕ) (l : LeftValue) (gone : Bool) (d d' : PortValue) (i : InnerValue) (l' : Option LeftValue) → n + 1 ≤ most →
-      PieceGoesOut PortMove d i l gone d' l' → So n d i → So (n + 1) d' i
-  so_piece n l gone d d' i l' within goes so =
-      so_sends n (departure_from i l) gone d d' i within (piece_short i l so.low) (piece_sends PortMove d d' i l l' gone goes) so
+  so_fragment : (n : ℕ) (l : LeftValue) (gone : Bool) (d d' : PortValue) (i : InnerValue) (l' : Option LeftValue) → n + 1 ≤ most →
+      FragmentIsTransmitted PortMove d i l gone d' l' → So n d i → So (n + 1) d' i
+  so_fragment n l gone d d' i l' within goes so =
+      so_sends n (departure_from i l) gone d d' i within (fragment_short i l so.low) (fragment_sends PortMove d d' i l l' gone goes) so
 
   -- ARRIVALS
 
@@ -165,19 +165,19 @@ module _ (most refusals : ℕ) where
       let took : So n takes.1 i = so_took n s.device takes.1 i takes.0 takes.2 so in
       so_replied n (is_awaited reads.2.0) reads.2.0.reply (record { device = takes.1; inner = j; left = s.host.left })
       (record { device = s'.device; inner = s'.host.inner; left = s'.host.left }) within
-      (brings_so i s.places (whole_after i s.host.timeout s.host.slots (taken_in i reads.0)) reads.2.0 reads.2.1.1) reads.2.3
+      (brings_so i s.slots (whole_after i s.host.timeout s.host.assemblers (taken_in i reads.0)) reads.2.0 reads.2.1.1) reads.2.3
       (so_host n takes.1 i j same.hardware same.mtu took)
 
   -- PIECES AND TURNS
 
-  so_piece_leaves : (n : ℕ) (l : LeftValue) (x x' : Sender PortValue) (gone : Bool) → n + 1 ≤ most → PieceLeaves PortMove l x gone x' → x'.inner ≡ x.inner →
+  so_fragment_leaves : (n : ℕ) (l : LeftValue) (x x' : Sender PortValue) (gone : Bool) → n + 1 ≤ most → FragmentLeaves PortMove l x gone x' → x'.inner ≡ x.inner →
       So n x.device x.inner → So (n + 1) x'.device x'.inner
-  so_piece_leaves n l x x' gone within (inl stays) is so =
+  so_fragment_leaves n l x x' gone within (inl stays) is so =
       subst (λ (i : InnerValue). So (n + 1) x'.device i) (sym is)
       (so_more n (n + 1) x'.device x.inner (omega arith) (so_same n x.device x'.device x.inner stays.0.0 so))
-  so_piece_leaves n l x x' gone within (inr goes) is so =
+  so_fragment_leaves n l x x' gone within (inr goes) is so =
       subst (λ (i : InnerValue). So (n + 1) x'.device i) (sym is)
-      (so_piece n l gone goes.0 x'.device x.inner x'.left within goes.2 (so_same n x.device goes.0 x.inner goes.1.0 so))
+      (so_fragment n l gone goes.0 x'.device x.inner x'.left within goes.2 (so_same n x.device goes.0 x.inner goes.1.0 so))
 
   module _ (turn : Option IpAddress) (n : ℕ) (within : n + 1 ≤ most) (x x' : Sender PortValue) (so : So n x.device x.inner) where
     abbrev Next : Type 0
@@ -193,27 +193,27 @@ module _ (most refusals : ℕ) where
     so_leaves m p sent len (inr goes) =
         so_out n goes.0 x'.device x.inner x'.inner x.left x'.left p (is_some x.left) sent within len goes.2 (so_same n x.device goes.0 x.inner goes.1.0 so)
 
-    so_sent : (o : Option PacketValue) (item item' : Item Socket) (changed : Bool) (turned : Turned) →
+    so_sent : (o : Option PacketValue) (item item' : Item Socket) (changed : Bool) (turned : Served) →
         SendsBy PortMove turn o x item changed turned x' item' → Next
     so_sent None item item' changed turned sends = absurd sends
     so_sent (Some p) item item' changed turned sends = so_leaves item.meta sends.0 sends.3.0 sends.3.4.sendable.len sends.3.1
 
-    so_answers : (answer : Answer.Offer) (item item' : Item Socket) (turned : Turned) → Answers PortMove turn answer x item turned x' item' → Next
+    so_answers : (answer : Answer.Offer) (item item' : Item Socket) (turned : Served) → Answers PortMove turn answer x item turned x' item' → Next
     so_answers (Offer.Silent changed) item item' turned answers = so_stays answers.1
     so_answers (Offer.Packet changed) item item' turned answers = so_sent (offered_by item.socket) item item' changed turned answers
 
-    so_turns : (waits : Bool) (item item' : Item Socket) (turned : Turned) → TurnsIf PortMove turn waits x item turned x' item' → Next
+    so_turns : (waits : Bool) (item item' : Item Socket) (turned : Served) → TurnsIf PortMove turn waits x item turned x' item' → Next
     so_turns true item item' turned turns = so_stays turns.1
     so_turns false item item' turned turns = so_answers turns.0 (record item { socket = turns.1 }) item' turned turns.3
 
-    so_item : (o o' : Option (Item Socket)) (turned : Turned) → ItemTurns PortMove turn o x turned x' o' → Next
+    so_item : (o o' : Option (Item Socket)) (turned : Served) → ItemTurns PortMove turn o x turned x' o' → Next
     so_item None None turned turns = so_stays turns.1
     so_item (Some item) (Some item') turned turns = so_turns (is_waiting x.inner item.meta) (let_through x.inner item) item' turned turns
     so_item None (Some item') turned turns = absurd turns
     so_item (Some item) None turned turns = absurd turns
 
-    so_place : (p p' : SocketStorage Socket) (turned : Turned) → PlaceTurns PortMove turn x p turned x' p' → Next
-    so_place p p' turned turns = so_item p.inner p'.inner turned turns
+    so_slot : (p p' : SocketStorage Socket) (turned : Served) → ServesSlot PortMove turn x p turned x' p' → Next
+    so_slot p p' turned turns = so_item p.inner p'.inner turned turns
 
 module _ (t : ℤ) (most refusals : ℕ) where
   -- within the count that was asked for
@@ -226,10 +226,10 @@ module _ (t : ℤ) (most refusals : ℕ) where
   counted : IsCounted PortMove t Within
   counted = record {
     more = λ n m s up so within. so_more most refusals n m s.device s.host.inner up (so (omega (arith, up, within)));
-    maintenance = λ n s so within. so_host most refusals n s.device s.host.inner (at_moment t s.host.inner) refl refl (so within);
+    maintenance = λ n s so within. so_host most refusals n s.device s.host.inner (at_instant t s.host.inner) refl refl (so within);
     arrivals = λ n s s' answer runs so takes within. so_takes most refusals n s s' answer within (so (before n within)) takes;
-    pieces = λ n h ps x x' l gone runs is so leaves same within. so_piece_leaves most refusals n l x x' gone within leaves same (so (before n within));
-    turns = λ turn n h earlier after p p' x x' turned runs so turns within. so_place most refusals turn n within x x' (so (before n within)) p p' turned turns;
+    fragments = λ n h ps x x' l gone runs is so leaves same within. so_fragment_leaves most refusals n l x x' gone within leaves same (so (before n within));
+    turns = λ turn n h earlier after p p' x x' turned runs so turns within. so_slot most refusals turn n within x x' (so (before n within)) p p' turned turns;
   }
 
   start : (d : PortValue) (i : InnerValue) → 576 ≤ i.mtu → link_room i.hardware + i.mtu ≤ d.size → most ≤ d.ready → d.link.refusals ≡ refusals →
@@ -239,9 +239,9 @@ module _ (t : ℤ) (most refusals : ℕ) where
 -- a poll at a port with so many buffers that fit
 pub none_refused : (t : ℤ) (budget : ℕ) (s s' : State PortValue) (changed : Bool) → 576 ≤ s.host.inner.mtu →
     link_room s.host.inner.hardware + s.host.inner.mtu ≤ s.device.size
-    → budget * (length s.places + 2) ≤ s.device.ready → Polls PortMove t budget s changed s' → s'.device.link.refusals ≡ s.device.link.refusals
+    → budget * (length s.slots + 2) ≤ s.device.ready → Polls PortMove t budget s changed s' → s'.device.link.refusals ≡ s.device.link.refusals
 none_refused t budget s s' changed low fits ready polls =
-    let most : ℕ = budget * (length s.places + 2) in
+    let most : ℕ = budget * (length s.slots + 2) in
     let first : Within t most s.device.link.refusals 0 s =
     λ within. start t most s.device.link.refusals s.device s.host.inner low fits ready refl in
     let last : Stocked most s.device.link.refusals (0 + most) s'.device s'.host.inner =

@@ -5,8 +5,8 @@ use Rattle.interface.specs.Made.{with_inner}
 use Rattle.interface.specs.Host.{HostValue}
 use Rattle.interface.specs.Settings.{routes_of, with_route_table}
 use Rattle.interface.specs.Route.{Route}
-use Rattle.interface_tables.specs.Route.{RoutesValue}
-use Rattle.interface_tables.proofs.RouteTable.{same_room}
+use Rattle.iface_tables.specs.Route.{RoutesValue}
+use Rattle.iface_tables.proofs.RouteTable.{same_room}
 use Rattle.lan.specs.Worlds.AtLink.Kinds as Sets
 use Rattle.lan.specs.Worlds.AtLink.Sets.{SetsTo, RoutedIf, has_route_room}
 

@@ -1,12 +1,12 @@
 -- A send queue holds the rest of what was written.
 use Rattle.std.proofs.Common.{◌≡◌, ℕ, zero, suc, ◌+◌, ◌-◌, ◌≤◌, List, [], ◌∷◌, ◌++◌, length, take, drop, refl, sym, ◌∙◌, ap, subst, length-append, arith}
 use Rattle.std.proofs.lemmas.List.{take-append-drop}
-use Rattle.tcp_tie.specs.Safe.{IsPrefixOf}
-use Rattle.tcp_tie.specs.Side.{Side, fresh, send_queue}
-use Rattle.tcp_model.specs.Value.{TcpValue}
-use Rattle.tcp_tie.specs.Promises.{KeepsAlone, read_or_waiting}
-use Rattle.tcp_tie.specs.Tie.{Past, past_of, Keeps, core_of}
-use Rattle.tcp_tie.proofs.PromiseLemmas.{Shows, shows, safe_sockets, alone_nothing}
+use Rattle.tcp_refinement.specs.Safe.{IsPrefixOf}
+use Rattle.tcp_refinement.specs.Side.{Side, initial, send_queue}
+use Rattle.tcp_block.specs.Value.{TcpValue}
+use Rattle.tcp_refinement.specs.Promises.{KeepsAlone, read_or_waiting}
+use Rattle.tcp_refinement.specs.Tie.{Past, past_of, Keeps, core_of}
+use Rattle.tcp_refinement.proofs.PromiseLemmas.{Shows, shows, safe_sockets, alone_nothing}
 use Rattle.lan.specs.declared.at_link.history.event.Side as Sides
 use Rattle.lan.specs.Worlds.AtLink.History.{written}
 use Rattle.lan.specs.Worlds.AtLink.Parties.{Net}
@@ -44,7 +44,7 @@ queue_by v s p is shown = (s.una - suc s.iss, shown.queue ∙ ap (λ (t : Past).
 
 pub alone_queue : (v : TcpValue) (p : Past) → KeepsAlone v p → v.queued.queue ≡ p.written
 alone_queue v p k =
-    let q = queue_by v k.side p k.past (shows (core_of v) k.side (fresh 0) k.holds k.fits) in
+    let q = queue_by v k.side p k.past (shows (core_of v) k.side (initial 0) k.holds k.fits) in
     let none : length p.written - length (drop q.0 p.written) ≡ 0 = ap (λ (xs : List ℕ). length p.written - length xs) (sym q.1) ∙
     (alone_nothing v p k).freed in
     q.1 ∙ whole_left q.0 p.written none
@@ -64,7 +64,7 @@ rest_by written taken more k begins few =
 pub pair_rest : (v w : TcpValue) (p q : Past) → Keeps v p w q → HoldsRest p.written v.queued.queue (read_or_waiting q w)
 pair_rest v w p q k =
     let safe = safe_sockets v w p q k in
-    let queue = queue_by v k.side p k.past (shows (core_of v) k.side k.partner k.holds k.fits) in
+    let queue = queue_by v k.side p k.past (shows (core_of v) k.side k.peer_side k.holds k.fits) in
     let few : length p.written - length (drop queue.0 p.written) ≤ length (read_or_waiting q w) =
     subst (λ (xs : List ℕ). length p.written - length xs ≤ length (read_or_waiting q w)) queue.1 safe.freed in
     subst (λ (xs : List ℕ). HoldsRest p.written xs (read_or_waiting q w)) (sym queue.1)

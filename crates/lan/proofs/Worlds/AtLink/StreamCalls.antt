@@ -7,30 +7,30 @@ use Rattle.net_base.specs.Ring.{anchored, enqueued}
 use Rattle.ip_wire.specs.IpEndpoint.{IpEndpoint}
 use Rattle.ip_wire.specs.AddressTests.{is_unspecified}
 use Rattle.sockets.specs.Context.{ContextValue}
-use Rattle.tcp_tie.specs.Endpoints.{HasPorts}
-use Rattle.tcp_tie.specs.Host.{past_at}
-use Rattle.tcp_tie.specs.History.{closes_in, closed_by, bytes_taken, with_written, with_read}
-use Rattle.tcp_tie.specs.Tie.{Core, core_of, Past, Keeps, no_past}
-use Rattle.tcp_tie.proofs.AnsweredLaws.{keeps_send}
-use Rattle.tcp_tie.proofs.CallLaws.{keeps_listening, keeps_connecting, keeps_read, keeps_close, keeps_abort, keeps_same}
-use Rattle.tcp_tie.proofs.NameLaws.{close_names, abort_names}
-use Rattle.tcp_tie.proofs.PortLaws.{ports_listening, ports_connecting, ports_same, ports_close, ports_abort}
-use Rattle.tcp_model.specs.declared.block.Block.{Block}
-use Rattle.tcp_model.specs.AddressPair.{AddressPair}
-use Rattle.tcp_model.specs.EndpointPair.{EndpointPair}
-use Rattle.tcp_model.specs.ConnectError.TheVariants as Connect
-use Rattle.tcp_model.specs.ListenError.TheVariants as Listen
-use Rattle.tcp_model.specs.RecvError.{RecvError}
-use Rattle.tcp_model.specs.RecvError.TheVariants as Recv
-use Rattle.tcp_model.specs.SendError as Writes
-use Rattle.tcp_model.specs.SendError.TheVariants as Send
-use Rattle.tcp_model.specs.State.{State}
-use Rattle.tcp_model.specs.State.TheVariants as In
-use Rattle.tcp_model.specs.Calls.{listening, listens_on, listen_answer, listen_after, connecting, connected_by, connect_answer, connect_after, found_answer}
-use Rattle.tcp_model.specs.Calls.{pair_for, pair_by, addresses_by, source_by, send_answer, sent_more, send_after, recv_answer, or_count}
-use Rattle.tcp_model.specs.Calls.{nothing_left, recv_after, close_after, abort_after}
-use Rattle.tcp_model.specs.States.{is_closed, is_time_wait, is_opening, takes_writes, takes_text, after_close}
-use Rattle.tcp_model.specs.Value.{TcpValue, unoffered, ended, with_block}
+use Rattle.tcp_refinement.specs.Endpoints.{HasPorts}
+use Rattle.tcp_refinement.specs.Host.{past_at}
+use Rattle.tcp_refinement.specs.History.{closes_in, closed_by, bytes_taken, with_written, with_read}
+use Rattle.tcp_refinement.specs.Tie.{Core, core_of, Past, Keeps, no_past}
+use Rattle.tcp_refinement.proofs.AnsweredLaws.{keeps_send}
+use Rattle.tcp_refinement.proofs.CallLaws.{keeps_listening, keeps_connecting, keeps_read, keeps_close, keeps_abort, keeps_same}
+use Rattle.tcp_refinement.proofs.NameLaws.{close_names, abort_names}
+use Rattle.tcp_refinement.proofs.PortLaws.{ports_listening, ports_connecting, ports_same, ports_close, ports_abort}
+use Rattle.tcp_block.specs.declared.tcb.Tcb.{Tcb}
+use Rattle.tcp_block.specs.AddressPair.{AddressPair}
+use Rattle.tcp_block.specs.FourTuple.{FourTuple}
+use Rattle.tcp_block.specs.ConnectError.TheVariants as Connect
+use Rattle.tcp_block.specs.ListenError.TheVariants as Listen
+use Rattle.tcp_block.specs.RecvError.{RecvError}
+use Rattle.tcp_block.specs.RecvError.TheVariants as Recv
+use Rattle.tcp_block.specs.SendError as Writes
+use Rattle.tcp_block.specs.SendError.TheVariants as Send
+use Rattle.tcp_block.specs.State.{State}
+use Rattle.tcp_block.specs.State.TheVariants as In
+use Rattle.tcp_block.specs.Calls.{listening, listens_on, listen_answer, listen_after, connecting, connected_by, connect_answer, connect_after, found_answer}
+use Rattle.tcp_block.specs.Calls.{four_tuple_for, pair_by, addresses_by, source_by, send_answer, sent_more, send_after, recv_answer, or_count}
+use Rattle.tcp_block.specs.Calls.{nothing_left, recv_after, close_after, abort_after}
+use Rattle.tcp_block.specs.States.{is_closed, is_time_wait, is_opening, takes_writes, accepts_data, after_close}
+use Rattle.tcp_block.specs.Value.{TcpValue, unoffered, ended, with_tcb}
 use Rattle.lan.specs.declared.at_link.history.answer.Answer.{Answer}
 use Rattle.lan.specs.declared.at_link.history.answer.Answer.TheVariants as To
 use Rattle.lan.specs.declared.at_link.history.answer.Refused.TheVariants as For
@@ -43,8 +43,8 @@ use Rattle.lan.specs.Worlds.AtLink.Call as Call
 use Rattle.lan.specs.Worlds.AtLink.Call.{SocketCall}
 use Rattle.lan.specs.Worlds.AtLink.Kinds.{other, Kind, kind_of, calls}
 use Rattle.lan.specs.Worlds.AtLink.History.{Entry, first_of, opening_by, bytes_written, bytes_read, closes, opening, written, read, is_closed_by}
-use Rattle.lan.specs.Worlds.AtLink.Tables.{Places, kinds, table_of, record_at, IsAllowed, AreAllowed}
-use Rattle.lan.proofs.Worlds.AtLink.PartnerLemmas.{WasTaken, was_taken, MayOpen, may_open, test_passed}
+use Rattle.lan.specs.Worlds.AtLink.Tables.{Slots, kinds, table_of, record_at, IsAllowed, AreAllowed}
+use Rattle.lan.proofs.Worlds.AtLink.PeerSideLemmas.{WasTaken, was_taken, MayOpen, may_open, test_passed}
 use Rattle.lan.proofs.Worlds.AtLink.TableLemmas.{first_of-none, table_says}
 use Rattle.lan.specs.Worlds.AtLink.Calls.{at_port, done_or, count_or, listen_fault, connect_fault, write_fault, recv_fault, bytes_or, read_by}
 use Rattle.lan.specs.Worlds.AtLink.Calls.{setting_after, tcp_does}
@@ -56,8 +56,8 @@ use Rattle.lan.proofs.Worlds.AtLink.StreamInvariant.{ports_of, IsUntouched, TcpO
 use Rattle.lan.proofs.Worlds.AtLink.HostSteps.{past, or_false, HostSteps}
 use Rattle.lan.proofs.Worlds.AtLink.WireMoves.{untouched_same, pair_kept}
 use Rattle.lan.proofs.Worlds.AtLink.CallSteps.{or_true, told_parts, told_plain, told_after, called_opened, called_untouched, called_opens}
-use Rattle.tcp_model.specs.FirstNumbers.{first_number, number_for}
-use Rattle.tcp_model.proofs.Numbers.{number_small}
+use Rattle.tcp_block.specs.Isn.{isn, number_for}
+use Rattle.tcp_block.proofs.Numbers.{number_small}
 
 -- no setting changes what the tie reads
 setting_same : (v : TcpValue) (setting : TcpSetting) → core_of (setting_after v setting) ≡ core_of v
@@ -65,7 +65,7 @@ setting_same v (Changed.Timeout duration) = refl
 setting_same v (Changed.AckDelay duration) = refl
 setting_same v (Changed.KeepAlive interval) = refl
 setting_same v (Changed.NagleEnabled enabled) = refl
-setting_same v (Changed.HopLimit hops) = refl
+setting_same v (Changed.HopLimit hop_limit) = refl
 setting_same v (Changed.CongestionControl control) = refl
 setting_same v (Changed.TsvalGenerator generator) = refl
 setting_same v (Changed.PauseSynack paused) = refl
@@ -81,30 +81,30 @@ abbrev connects_to : ℕ → ℕ → Opening
 connects_to port remote = record { local = port; remote = Some remote }
 
 -- the endpoints of a connect have the ports that were asked for
-record HasPair (remote : IpEndpoint) (port : ℕ) (pair : EndpointPair) : Type 0 where
+record HasPair (remote : IpEndpoint) (port : ℕ) (pair : FourTuple) : Type 0 where
   pub local : pair.local_port ≡ port
   pub remote_port : pair.remote_port ≡ remote.port
 
-pair_ports : (cx : ContextValue) (remote : IpEndpoint) (port : ℕ) (pair : EndpointPair) → pair_for cx remote (at_port port) ≡ Some pair →
+pair_ports : (cx : ContextValue) (remote : IpEndpoint) (port : ℕ) (pair : FourTuple) → four_tuple_for cx remote (at_port port) ≡ Some pair →
     HasPair remote port pair
 pair_ports cx remote port pair e =
     by (remote.port == 0) (is_unspecified remote.addr) (port == 0) (addresses_by (source_by cx None remote.addr) remote.addr) e where
       by : (a b c : Bool) (addresses : Option AddressPair) →
-          (let r : Option EndpointPair = if a || (b || c) then None else pair_by addresses port remote.port in r) ≡ Some pair → HasPair remote port pair
+          (let r : Option FourTuple = if a || (b || c) then None else pair_by addresses port remote.port in r) ≡ Some pair → HasPair remote port pair
       by true b c addresses e = absurd (cc)
       by false true c addresses e = absurd (cc)
       by false false true addresses e = absurd (cc)
       by false false false None e = absurd (cc)
       by false false false (Some addresses) e =
           let same : record { addresses = addresses; local_port = port; remote_port = remote.port } ≡ pair = cc in
-          record { local = sym (ap (λ (x : EndpointPair). x.local_port) same); remote_port = sym (ap (λ (x : EndpointPair). x.remote_port) same) }
+          record { local = sym (ap (λ (x : FourTuple). x.local_port) same); remote_port = sym (ap (λ (x : FourTuple). x.remote_port) same) }
 
 -- a socket that wasn't opened has nothing to read, nor an end
 pub nothing_to_read : (h : List Entry) (side : Side) (i : ℕ) (v : TcpValue) (limit : ℕ) → IsUntouched h side i v → recv_answer v limit ≡ Err Recv.InvalidState
 nothing_to_read h side i v limit u =
-    let closed = closed_is v.block.state u.nameless.state in
-    by (takes_text v.block.state) (length v.received.waiting == 0) v.block.receiver.took_fin (ap takes_text closed)
-    (ap (λ (b : List ℕ). length b == 0) u.fresh.waiting) u.fresh.unfinished
+    let closed = closed_is v.tcb.state u.nameless.state in
+    by (accepts_data v.tcb.state) (length v.received.waiting == 0) v.tcb.receiver.took_fin (ap accepts_data closed)
+    (ap (λ (b : List ℕ). length b == 0) u.initial.waiting) u.initial.unfinished
   where
     by :
         (t z f : Bool) → t ≡ false → z ≡ true → f ≡ false
@@ -114,9 +114,9 @@ nothing_to_read h side i v limit u =
     by false false f a b c = absurd (cc)
     by false true true a b c = absurd (cc)
 
--- without the partner's FIN there is no end
-pub not_finished : (v : TcpValue) (limit : ℕ) → v.block.receiver.took_fin ≡ false → recv_answer v limit ≢ Err Recv.Finished
-not_finished v limit unfinished = by (takes_text v.block.state) (length v.received.waiting == 0) v.block.receiver.took_fin unfinished where
+-- without the peer's FIN there is no end
+pub not_finished : (v : TcpValue) (limit : ℕ) → v.tcb.receiver.took_fin ≡ false → recv_answer v limit ≢ Err Recv.Finished
+not_finished v limit unfinished = by (accepts_data v.tcb.state) (length v.received.waiting == 0) v.tcb.receiver.took_fin unfinished where
   by : (t z f : Bool) → f ≡ false → or_count (if t || not z then None else Some (nothing_left f)) (min limit (length v.received.waiting)) ≢ Err Recv.Finished
   by true z f none e = absurd (cc)
   by false false f none e = absurd (cc)
@@ -124,13 +124,13 @@ not_finished v limit unfinished = by (takes_text v.block.state) (length v.receiv
   by false true true none e = absurd (cc)
 
 module _
-    (places : Places) (h : List Entry) (e : Entry) (side : Side) (p q : Party) (at : ℕ) (v new : TcpValue) (allowed : AreAllowed places (e ∷ h))
+    (slots : Slots) (h : List Entry) (e : Entry) (side : Side) (p q : Party) (at : ℕ) (v new : TcpValue) (allowed : AreAllowed slots (e ∷ h))
     (is : socket_at p at ≡ Some (Tcp v)) (k : StreamsOk h side p) (far : StreamsOk h (other side) q) (pairs : PairsOk h side p q) where
   abbrev ok : TcpOk h side p.segments at v
   ok = k.sockets at v is
 
-  taken : (call : SocketCall) → kind_of e.event ≡ calls side at call → WasTaken places h side at call
-  taken call kind = was_taken places h side at call (subst (λ (kind : Kind). IsAllowed places h kind) kind allowed.0)
+  taken : (call : SocketCall) → kind_of e.event ≡ calls side at call → WasTaken slots h side at call
+  taken call kind = was_taken slots h side at call (subst (λ (kind : Kind). IsAllowed slots h kind) kind allowed.0)
 
   abbrev Steps : Type 0
   Steps = HostSteps h (e ∷ h) side p (with_socket p at (Tcp new)) q
@@ -143,16 +143,16 @@ module _
   same_call call answer kind answered found same opens w r c = by (opening h side at) refl where
     plain : told (e ∷ h) side at ≡ told h side at
     plain =
-        told_after places h e side p q at v call kind allowed is k far pairs answer None answered found
+        told_after slots h e side p q at v call kind allowed is k far pairs answer None answered found
         ∙ told_plain h side at call answer None (ap (λ (o : Option Opening). first_of (opening h side at) o) opens ∙ first_of-none (opening h side at)) w r c
 
     by : (o : Option Opening) → opening h side at ≡ o → Steps
     by None none =
         let u = untouched_same h side at v new same (ok.untouched none) in
-        called_untouched places h e side p q at v call kind allowed is k far pairs new none (ap (opening_by (Some call)) answered ∙ opens)
-        (record { fresh = u.fresh; nameless = u.nameless; nothing = plain ∙ u.nothing })
+        called_untouched slots h e side p q at v call kind allowed is k far pairs new none (ap (opening_by (Some call)) answered ∙ opens)
+        (record { initial = u.initial; nameless = u.nameless; nothing = plain ∙ u.nothing })
     by (Some o) opened =
-        called_opened places h e side p q at v call kind allowed is k far pairs o new opened (ports_same v new (ports_of o) same (ok.ports o opened))
+        called_opened slots h e side p q at v call kind allowed is k far pairs o new opened (ports_same v new (ports_of o) same (ok.ports o opened))
         (λ pair named. sym (ap (λ (c : Core). c.pair) same) ∙ named)
         (λ w b keeps.
         subst (λ (t : Past). Keeps new (past_at o.local p.segments t) w b) (sym plain)
@@ -163,37 +163,37 @@ module _
   listens : (port : ℕ) → kind_of e.event ≡ calls side at (Call.Listen port) → e.answer ≡ done_or listen_fault (listen_answer v (at_port port)) →
       e.found ≡ None → new ≡ listen_after v (at_port port) → Steps
   listens port kind answered found becomes = by (port == 0) refl where
-    w : WasTaken places h side at (Call.Listen port)
+    w : WasTaken slots h side at (Call.Listen port)
     w = taken (Call.Listen port) kind
 
-    may : MayOpen places h side at (listens_at port)
-    may = may_open places h side at (listens_at port) w.place w.own
+    may : MayOpen slots h side at (listens_at port)
+    may = may_open slots h side at (listens_at port) w.slot w.own
 
-    state : is_closed v.block.state ≡ true
+    state : is_closed v.tcb.state ≡ true
     state = (ok.untouched may.first).nameless.state
 
     by : (zero : Bool) → (port == 0) ≡ zero → Steps
     by true e0 =
         same_call (Call.Listen port) (To.Error (listen_fault Listen.Unaddressable)) kind
         (answered ∙ ap (λ (t : Bool).
-        done_or listen_fault (if t then Err Listen.Unaddressable else if is_closed v.block.state || listens_on v.block (at_port port) then Ok tt else Err
+        done_or listen_fault (if t then Err Listen.Unaddressable else if is_closed v.tcb.state || listens_on v.tcb (at_port port) then Ok tt else Err
         Listen.InvalidState)) e0)
         found
-        (ap core_of (becomes ∙ ap (λ (t : Bool). if is_closed v.block.state && not t then listening v (at_port port) else unoffered v) e0 ∙
+        (ap core_of (becomes ∙ ap (λ (t : Bool). if is_closed v.tcb.state && not t then listening v (at_port port) else unoffered v) e0 ∙
         ap (λ (t : Bool). if t && false then listening v (at_port port) else unoffered v) state))
         refl refl refl refl
     by false e0 =
         let done : e.answer ≡ To.Done =
         answered
         ∙ ap (λ (t : Bool). done_or listen_fault
-        (if t then Err Listen.Unaddressable else if is_closed v.block.state || listens_on v.block (at_port port) then Ok tt else Err
+        (if t then Err Listen.Unaddressable else if is_closed v.tcb.state || listens_on v.tcb (at_port port) then Ok tt else Err
         Listen.InvalidState)) e0
-        ∙ ap (λ (t : Bool). done_or listen_fault (if t || listens_on v.block (at_port port) then Ok tt else Err Listen.InvalidState)) state in
+        ∙ ap (λ (t : Bool). done_or listen_fault (if t || listens_on v.tcb (at_port port) then Ok tt else Err Listen.InvalidState)) state in
         let opened : new ≡ listening v (at_port port) =
-        becomes ∙ ap (λ (t : Bool). if is_closed v.block.state && not t then listening v (at_port port) else unoffered v) e0 ∙
+        becomes ∙ ap (λ (t : Bool). if is_closed v.tcb.state && not t then listening v (at_port port) else unoffered v) e0 ∙
         ap (λ (t : Bool). if t && true then listening v (at_port port) else unoffered v) state in
         subst (λ (new : TcpValue). HostSteps h (e ∷ h) side p (with_socket p at (Tcp new)) q) (sym opened)
-        (called_opens places h e side p q at v (Call.Listen port) kind allowed is k far pairs (listens_at port) (listening v (at_port port)) may
+        (called_opens slots h e side p q at v (Call.Listen port) kind allowed is k far pairs (listens_at port) (listening v (at_port port)) may
         (ap (opening_by (Some (Call.Listen port))) done) refl refl
         refl
         (ports_listening v (at_port port)) (λ pair named. absurd (cc))
@@ -202,44 +202,44 @@ module _
   connects : (remote : IpEndpoint) (port : ℕ) (cx : ContextValue) → kind_of e.event ≡ calls side at (Call.Connect remote port) →
       e.answer ≡ done_or connect_fault (connect_answer cx v remote (at_port port)) → e.found ≡ None
       → new ≡ connect_after cx v remote (at_port port) → Steps
-  connects remote port cx kind answered found becomes = by (pair_for cx remote (at_port port)) refl where
-    w : WasTaken places h side at (Call.Connect remote port)
+  connects remote port cx kind answered found becomes = by (four_tuple_for cx remote (at_port port)) refl where
+    w : WasTaken slots h side at (Call.Connect remote port)
     w = taken (Call.Connect remote port) kind
 
-    may : MayOpen places h side at (connects_to port remote.port)
-    may = may_open places h side at (connects_to port remote.port) w.place w.own
+    may : MayOpen slots h side at (connects_to port remote.port)
+    may = may_open slots h side at (connects_to port remote.port) w.slot w.own
 
-    state : is_closed v.block.state ≡ true
+    state : is_closed v.tcb.state ≡ true
     state = (ok.untouched may.first).nameless.state
 
-    answer_is : e.answer ≡ done_or connect_fault (found_answer (pair_for cx remote (at_port port)))
+    answer_is : e.answer ≡ done_or connect_fault (found_answer (four_tuple_for cx remote (at_port port)))
     answer_is = answered ∙ ap
-        (λ (t : Bool). done_or connect_fault (if t then found_answer (pair_for cx remote (at_port port)) else Err Connect.InvalidState)) state
+        (λ (t : Bool). done_or connect_fault (if t then found_answer (four_tuple_for cx remote (at_port port)) else Err Connect.InvalidState)) state
 
-    opens_to : Option EndpointPair → TcpValue
+    opens_to : Option FourTuple → TcpValue
     opens_to pair = connected_by v pair (number_for cx pair)
 
-    new_is : new ≡ opens_to (pair_for cx remote (at_port port))
-    new_is = becomes ∙ ap (λ (t : Bool). if t then opens_to (pair_for cx remote (at_port port)) else unoffered v) state
+    new_is : new ≡ opens_to (four_tuple_for cx remote (at_port port))
+    new_is = becomes ∙ ap (λ (t : Bool). if t then opens_to (four_tuple_for cx remote (at_port port)) else unoffered v) state
 
-    by : (pair : Option EndpointPair) → pair_for cx remote (at_port port) ≡ pair → Steps
+    by : (pair : Option FourTuple) → four_tuple_for cx remote (at_port port) ≡ pair → Steps
     by None none =
         same_call (Call.Connect remote port) (To.Error (connect_fault Connect.Unaddressable)) kind
-        (answer_is ∙ ap (λ (x : Option EndpointPair). done_or connect_fault (found_answer x)) none) found
+        (answer_is ∙ ap (λ (x : Option FourTuple). done_or connect_fault (found_answer x)) none) found
         (ap core_of (new_is ∙ ap opens_to none)) refl refl refl refl
     by (Some pair) found_pair =
         let ports = pair_ports cx remote port pair found_pair in
-        let done : e.answer ≡ To.Done = answer_is ∙ ap (λ (x : Option EndpointPair). done_or connect_fault (found_answer x)) found_pair in
-        let opened : new ≡ connecting v pair (first_number cx pair) = new_is ∙ ap opens_to found_pair in
+        let done : e.answer ≡ To.Done = answer_is ∙ ap (λ (x : Option FourTuple). done_or connect_fault (found_answer x)) found_pair in
+        let opened : new ≡ connecting v pair (isn cx pair) = new_is ∙ ap opens_to found_pair in
         subst (λ (new : TcpValue). HostSteps h (e ∷ h) side p (with_socket p at (Tcp new)) q) (sym opened)
-        (called_opens places h e side p q at v (Call.Connect remote port) kind allowed is k far pairs (connects_to port remote.port)
-        (connecting v pair (first_number cx pair)) may (ap (opening_by (Some (Call.Connect remote port))) done) refl refl refl
-        (subst (λ (local : ℕ). HasPorts (record { local = local; remote = Some remote.port }) (connecting v pair (first_number cx pair)).block) ports.local
-        (subst (λ (far : ℕ). HasPorts (record { local = pair.local_port; remote = Some far }) (connecting v pair (first_number cx pair)).block)
-        ports.remote_port (ports_connecting v pair (first_number cx pair))))
+        (called_opens slots h e side p q at v (Call.Connect remote port) kind allowed is k far pairs (connects_to port remote.port)
+        (connecting v pair (isn cx pair)) may (ap (opening_by (Some (Call.Connect remote port))) done) refl refl refl
+        (subst (λ (local : ℕ). HasPorts (record { local = local; remote = Some remote.port }) (connecting v pair (isn cx pair)).tcb) ports.local
+        (subst (λ (far : ℕ). HasPorts (record { local = pair.local_port; remote = Some far }) (connecting v pair (isn cx pair)).tcb)
+        ports.remote_port (ports_connecting v pair (isn cx pair))))
         (λ other_pair named. let same : pair ≡ other_pair =
-        cc in inl (ap (λ (n : ℕ). Some n) (sym ports.remote_port ∙ ap (λ (x : EndpointPair). x.remote_port) same)))
-        (λ rs w b keeps. keeps_connecting v w (no_past rs) b pair (first_number cx pair) keeps state refl (number_small cx pair)))
+        cc in inl (ap (λ (n : ℕ). Some n) (sym ports.remote_port ∙ ap (λ (x : FourTuple). x.remote_port) same)))
+        (λ rs w b keeps. keeps_connecting v w (no_past rs) b pair (isn cx pair) keeps state refl (number_small cx pair)))
 
   -- SEND
 
@@ -251,15 +251,15 @@ module _
   sends : (bytes : List ℕ) → kind_of e.event ≡ calls side at (Call.Send bytes) → e.answer ≡ count_or write_fault (send_answer v (length bytes)) →
       e.found ≡ None → new ≡ send_after v bytes → Steps
   sends bytes kind answered found becomes = by (opening h side at) refl where
-    w : WasTaken places h side at (Call.Send bytes)
+    w : WasTaken slots h side at (Call.Send bytes)
     w = taken (Call.Send bytes) kind
 
     -- fewer than 2^29 bytes in all
     few : length (written h side at) + length bytes < 2 ^ 29
     few =
-        let passed = (test_passed (nat_le (2 ^ 29) ((record_at (table_of h side (length (kinds places side))) at).accepted + length bytes)) For.TooManyBytes
+        let passed = (test_passed (nat_le (2 ^ 29) ((record_at (table_of h side (length (kinds slots side))) at).accepted + length bytes)) For.TooManyBytes
         [] w.own).0 in
-        let says = ap (λ (r : SocketRecord). r.accepted) (table_says h side (length (kinds places side)) at w.place) in
+        let says = ap (λ (r : SocketRecord). r.accepted) (table_says h side (length (kinds slots side)) at w.slot) in
         not_many (ap (λ (n : ℕ). nat_le (2 ^ 29) (n + length bytes)) (sym says) ∙ passed)
       where
         not_many : nat_le (2 ^ 29) (length (written h side at) + length bytes) ≡ false → length (written h side at) + length bytes < 2 ^ 29
@@ -276,16 +276,16 @@ module _
         let all = few in
         omega arith
 
-    same_block : (send_after v bytes).block ≡ v.block
-    same_block = by_test (takes_writes v.block.state) where
+    same_tcb : (send_after v bytes).tcb ≡ v.tcb
+    same_tcb = by_test (takes_writes v.tcb.state) where
       by_test : (t : Bool) → (if t then sent_more v (enqueued (anchored v.queued) (take (min (length bytes) (length v.queued.free)) bytes)) else unoffered
-          v).block ≡ v.block
+          v).tcb ≡ v.tcb
       by_test true = refl
       by_test false = refl
 
     told_sent : told (e ∷ h) side at ≡ with_written (told h side at) (bytes_taken (send_answer v (length bytes)) bytes)
     told_sent =
-        told_after places h e side p q at v (Call.Send bytes) kind allowed is k far pairs (count_or write_fault (send_answer v (length bytes))) None
+        told_after slots h e side p q at v (Call.Send bytes) kind allowed is k far pairs (count_or write_fault (send_answer v (length bytes))) None
         answered found
         ∙ told_parts h side at (Call.Send bytes) (count_or write_fault (send_answer v (length bytes))) None
         (bytes_taken (send_answer v (length bytes)) bytes) [] false
@@ -297,18 +297,18 @@ module _
 
     by : (o : Option Opening) → opening h side at ≡ o → Steps
     by None none =
-        let closed = closed_is v.block.state (ok.untouched none).nameless.state in
-        let refused : takes_writes v.block.state ≡ false = ap takes_writes closed in
+        let closed = closed_is v.tcb.state (ok.untouched none).nameless.state in
+        let refused : takes_writes v.tcb.state ≡ false = ap takes_writes closed in
         same_call (Call.Send bytes) (To.Error (write_fault Send.InvalidState)) kind
         (answered ∙ ap (λ (t : Bool). count_or write_fault (if t then Ok (min (length bytes) (length v.queued.free)) else Err Send.InvalidState)) refused) found
         (ap core_of (becomes ∙ unsent refused)) refl refl refl refl
       where
-        unsent : takes_writes v.block.state ≡ false → send_after v bytes ≡ unoffered v
+        unsent : takes_writes v.tcb.state ≡ false → send_after v bytes ≡ unoffered v
         unsent refused = rw refused refl
     by (Some o) opened =
         subst (λ (new : TcpValue). HostSteps h (e ∷ h) side p (with_socket p at (Tcp new)) q) (sym becomes)
-        (called_opened places h e side p q at v (Call.Send bytes) kind allowed is k far pairs o (send_after v bytes) opened
-        (subst (HasPorts (ports_of o)) (sym same_block) (ok.ports o opened)) (λ pair named. sym (ap (λ (b : Block). b.names.pair) same_block) ∙ named)
+        (called_opened slots h e side p q at v (Call.Send bytes) kind allowed is k far pairs o (send_after v bytes) opened
+        (subst (HasPorts (ports_of o)) (sym same_tcb) (ok.ports o opened)) (λ pair named. sym (ap (λ (b : Tcb). b.names.pair) same_tcb) ∙ named)
         (λ w b keeps.
         subst (λ (t : Past). Keeps (send_after v bytes) (past_at o.local p.segments t) w b) (sym told_sent)
         (keeps_send v w (past_at o.local p.segments (told h side at)) b bytes keeps fits)))
@@ -325,7 +325,7 @@ module _
     by (Ok count) is_r = at_opening (opening h side at) refl where
       told_read : told (e ∷ h) side at ≡ with_read (told h side at) (take count v.received.waiting)
       told_read =
-          told_after places h e side p q at v (Call.Recv limit) kind allowed is k far pairs (To.Bytes (take count v.received.waiting)) None (answered ∙
+          told_after slots h e side p q at v (Call.Recv limit) kind allowed is k far pairs (To.Bytes (take count v.received.waiting)) None (answered ∙
           ap (bytes_or v) is_r) found
           ∙ told_parts h side at (Call.Recv limit) (To.Bytes (take count v.received.waiting)) None [] (take count v.received.waiting) false
           (first_of-none (opening h side at)) refl refl refl
@@ -338,7 +338,7 @@ module _
       at_opening None none = absurd (let clash : Ok count ≡ Err Recv.InvalidState = sym is_r ∙ nothing_to_read h side at v limit (ok.untouched none) in cc)
       at_opening (Some o) opened =
           subst (λ (new : TcpValue). HostSteps h (e ∷ h) side p (with_socket p at (Tcp new)) q) (sym (becomes ∙ ap (read_by v) is_r))
-          (called_opened places h e side p q at v (Call.Recv limit) kind allowed is k far pairs o (recv_after v count) opened
+          (called_opened slots h e side p q at v (Call.Recv limit) kind allowed is k far pairs o (recv_after v count) opened
           (ok.ports o opened) (λ pair named. named)
           (λ w b keeps.
           subst (λ (t : Past). Keeps (recv_after v count) (past_at o.local p.segments t) w b) (sym told_read)
@@ -346,19 +346,19 @@ module _
 
   -- CLOSE and ABORT
 
-  closes_step : kind_of e.event ≡ calls side at Call.Close → e.answer ≡ To.Done → e.found ≡ Some v.block.state → new ≡ close_after v → Steps
+  closes_step : kind_of e.event ≡ calls side at Call.Close → e.answer ≡ To.Done → e.found ≡ Some v.tcb.state → new ≡ close_after v → Steps
   closes_step kind answered found becomes =
       subst (λ (new : TcpValue). HostSteps h (e ∷ h) side p (with_socket p at (Tcp new)) q) (sym becomes) (by (opening h side at) refl)
     where
-      told_closed : told (e ∷ h) side at ≡ closed_by (closes_in v.block.state) (told h side at)
+      told_closed : told (e ∷ h) side at ≡ closed_by (closes_in v.tcb.state) (told h side at)
       told_closed =
-          told_after places h e side p q at v Call.Close kind allowed is k far pairs To.Done (Some v.block.state) answered found
-          ∙ told_parts h side at Call.Close To.Done (Some v.block.state) [] [] (closes_in v.block.state) (first_of-none (opening h side at)) refl refl refl
-          ∙ ap (λ (w : List ℕ). past (way_by (opening h side at)) w (read h side at ++ []) (is_closed_by h side at || closes_in v.block.state))
+          told_after slots h e side p q at v Call.Close kind allowed is k far pairs To.Done (Some v.tcb.state) answered found
+          ∙ told_parts h side at Call.Close To.Done (Some v.tcb.state) [] [] (closes_in v.tcb.state) (first_of-none (opening h side at)) refl refl refl
+          ∙ ap (λ (w : List ℕ). past (way_by (opening h side at)) w (read h side at ++ []) (is_closed_by h side at || closes_in v.tcb.state))
           (append-nil (written h side at))
-          ∙ ap (λ (r : List ℕ). past (way_by (opening h side at)) (written h side at) r (is_closed_by h side at || closes_in v.block.state))
+          ∙ ap (λ (r : List ℕ). past (way_by (opening h side at)) (written h side at) r (is_closed_by h side at || closes_in v.tcb.state))
           (append-nil (read h side at))
-          ∙ closed_past (closes_in v.block.state)
+          ∙ closed_past (closes_in v.tcb.state)
         where
           closed_past : (t : Bool) → past (way_by (opening h side at)) (written h side at) (read h side at) (is_closed_by h side at || t) ≡
               closed_by t (told h side at)
@@ -370,31 +370,31 @@ module _
       at_port_closed o true new w b keeps = keeps
       at_port_closed o false new w b keeps = keeps
 
-      close_same : v.block.state ≡ In.Closed → core_of (close_after v) ≡ core_of v
+      close_same : v.tcb.state ≡ In.Closed → core_of (close_after v) ≡ core_of v
       close_same closed =
-          ap (λ (t : Bool). core_of (if t then ended (unoffered v) else with_block (unoffered v) (record v.block { state = after_close v.block.state })))
+          ap (λ (t : Bool). core_of (if t then ended (unoffered v) else with_tcb (unoffered v) (record v.tcb { state = after_close v.tcb.state })))
           (ap is_opening closed)
           ∙ ap (λ (state : State). record (core_of v) { state = state }) (ap after_close closed ∙ sym closed)
 
       by : (o : Option Opening) → opening h side at ≡ o → HostSteps h (e ∷ h) side p (with_socket p at (Tcp (close_after v))) q
       by None none =
           let u = ok.untouched none in
-          let closed = closed_is v.block.state u.nameless.state in
+          let closed = closed_is v.tcb.state u.nameless.state in
           let same : core_of (close_after v) ≡ core_of v = close_same closed in
           let u' = untouched_same h side at v (close_after v) same u in
-          called_untouched places h e side p q at v Call.Close kind allowed is k far pairs (close_after v) none refl
+          called_untouched slots h e side p q at v Call.Close kind allowed is k far pairs (close_after v) none refl
           (record {
-            fresh = u'.fresh;
+            initial = u'.initial;
             nameless = u'.nameless;
             nothing =
                 told_closed ∙ ap (λ (state : State). closed_by (closes_in state) (told h side at)) closed ∙ u.nothing;
           })
       by (Some o) opened =
-          called_opened places h e side p q at v Call.Close kind allowed is k far pairs o (close_after v) opened
-          (ports_close v (ports_of o) (ok.ports o opened)) (λ pair named. pair_kept v.block (close_after v).block pair (close_names v) named)
+          called_opened slots h e side p q at v Call.Close kind allowed is k far pairs o (close_after v) opened
+          (ports_close v (ports_of o) (ok.ports o opened)) (λ pair named. pair_kept v.tcb (close_after v).tcb pair (close_names v) named)
           (λ w b keeps.
           subst (λ (t : Past). Keeps (close_after v) (past_at o.local p.segments t) w b) (sym told_closed)
-          (at_port_closed o (closes_in v.block.state) (close_after v) w b (keeps_close v w (past_at o.local p.segments (told h side at)) b keeps)))
+          (at_port_closed o (closes_in v.tcb.state) (close_after v) w b (keeps_close v w (past_at o.local p.segments (told h side at)) b keeps)))
 
   aborts : kind_of e.event ≡ calls side at Call.Abort → e.answer ≡ To.Done → e.found ≡ None → new ≡ abort_after v → Steps
   aborts kind answered found becomes =
@@ -402,27 +402,27 @@ module _
     where
       plain : told (e ∷ h) side at ≡ told h side at
       plain =
-          told_after places h e side p q at v Call.Abort kind allowed is k far pairs To.Done None answered found
+          told_after slots h e side p q at v Call.Abort kind allowed is k far pairs To.Done None answered found
           ∙ told_plain h side at Call.Abort To.Done None (first_of-none (opening h side at)) refl refl refl
 
-      abort_same : v.block.state ≡ In.Closed → core_of (abort_after v) ≡ core_of v
+      abort_same : v.tcb.state ≡ In.Closed → core_of (abort_after v) ≡ core_of v
       abort_same closed =
-          ap (λ (t : Bool). core_of (if t then ended (unoffered v) else with_block (unoffered v) (aborted v.block))) (ap is_time_wait closed)
+          ap (λ (t : Bool). core_of (if t then ended (unoffered v) else with_tcb (unoffered v) (aborted v.tcb))) (ap is_time_wait closed)
           ∙ ap (λ (state : State). record (core_of v) { state = state }) (sym closed)
         where
-          aborted : Block → Block
+          aborted : Tcb → Tcb
           aborted b = record b { state = In.Closed; sender = record b.sender { reset_due = is_some b.names.pair } }
 
       by : (o : Option Opening) → opening h side at ≡ o → HostSteps h (e ∷ h) side p (with_socket p at (Tcp (abort_after v))) q
       by None none =
           let u = ok.untouched none in
-          let closed = closed_is v.block.state u.nameless.state in
+          let closed = closed_is v.tcb.state u.nameless.state in
           let u' = untouched_same h side at v (abort_after v) (abort_same closed) u in
-          called_untouched places h e side p q at v Call.Abort kind allowed is k far pairs (abort_after v) none refl
-          (record { fresh = u'.fresh; nameless = u'.nameless; nothing = plain ∙ u.nothing })
+          called_untouched slots h e side p q at v Call.Abort kind allowed is k far pairs (abort_after v) none refl
+          (record { initial = u'.initial; nameless = u'.nameless; nothing = plain ∙ u.nothing })
       by (Some o) opened =
-          called_opened places h e side p q at v Call.Abort kind allowed is k far pairs o (abort_after v) opened
-          (ports_abort v (ports_of o) (ok.ports o opened)) (λ pair named. pair_kept v.block (abort_after v).block pair (abort_names v) named)
+          called_opened slots h e side p q at v Call.Abort kind allowed is k far pairs o (abort_after v) opened
+          (ports_abort v (ports_of o) (ok.ports o opened)) (λ pair named. pair_kept v.tcb (abort_after v).tcb pair (abort_names v) named)
           (λ w b keeps.
           subst (λ (t : Past). Keeps (abort_after v) (past_at o.local p.segments t) w b) (sym plain)
           (keeps_abort v w (past_at o.local p.segments (told h side at)) b keeps))
@@ -436,7 +436,7 @@ module _
   tcp_called cx (Call.Recv limit) kind done = receives limit kind done.0 done.1 done.2
   tcp_called cx Call.Close kind done = closes_step kind done.0 done.1 done.2
   tcp_called cx Call.Abort kind done = aborts kind done.0 done.1 done.2
-  tcp_called cx Call.State kind done = same_call Call.State (To.State v.block.state) kind done.0 done.1 (ap core_of done.2) refl refl refl refl
+  tcp_called cx Call.State kind done = same_call Call.State (To.State v.tcb.state) kind done.0 done.1 (ap core_of done.2) refl refl refl refl
   tcp_called cx (Call.Set setting) kind done =
       same_call (Call.Set setting) To.Done kind done.0 done.1 (ap core_of done.2 ∙ setting_same v setting) refl refl refl refl
   tcp_called cx call kind done = absurd (done)

@@ -1,18 +1,18 @@
 -- What is kept of TCP sockets and of the segments that were made.
 use Rattle.std.proofs.Common.{◌≡◌, ◌⊎◌, ℕ, List, [], Some, None}
-use Rattle.tcp_tie.specs.Segment.Control.{Rst}
-use Rattle.tcp_tie.specs.Endpoints.{Ports, HasPorts, IsNameless}
-use Rattle.tcp_tie.specs.Host.{Made, source_port, destination_port, seen_of, past_at}
-use Rattle.tcp_tie.specs.Promises.{IsFresh, KeepsAlone}
-use Rattle.tcp_tie.specs.Tie.{Keeps, no_past}
-use Rattle.tcp_model.specs.EndpointPair.{EndpointPair}
-use Rattle.tcp_model.specs.Value.{TcpValue}
+use Rattle.tcp_refinement.specs.Segment.Control.{Rst}
+use Rattle.tcp_refinement.specs.Endpoints.{Ports, HasPorts, IsNameless}
+use Rattle.tcp_refinement.specs.Host.{Made, source_port, destination_port, seen_of, past_at}
+use Rattle.tcp_refinement.specs.Promises.{IsInitial, KeepsAlone}
+use Rattle.tcp_refinement.specs.Tie.{Keeps, no_past}
+use Rattle.tcp_block.specs.FourTuple.{FourTuple}
+use Rattle.tcp_block.specs.Value.{TcpValue}
 use Rattle.lan.specs.declared.at_link.history.event.Side.{Side}
 use Rattle.lan.specs.declared.at_link.history.record.Opening.{Opening}
 use Rattle.lan.specs.Worlds.AtLink.Kinds.{other}
 use Rattle.lan.specs.Worlds.AtLink.History.{Entry, opening}
 use Rattle.lan.specs.Worlds.AtLink.Paired.{told}
-use Rattle.lan.specs.Worlds.AtLink.Partners.{ArePartners}
+use Rattle.lan.specs.Worlds.AtLink.PeerSides.{ArePartners}
 use Rattle.lan.specs.Worlds.AtLink.Parties.{Party, socket_at}
 use Rattle.lan.specs.Worlds.AtLink.Parties.Socket.{Tcp}
 use Rattle.lan.proofs.Worlds.AtLink.Lists.{Each}
@@ -24,15 +24,15 @@ ports_of o = record { local = o.local; remote = o.remote }
 
 -- never opened: nothing was seen of it
 pub record IsUntouched (h : List Entry) (side : Side) (i : ℕ) (v : TcpValue) : Type 0 where
-  pub fresh : IsFresh v
-  pub nameless : IsNameless v.block
+  pub initial : IsInitial v
+  pub nameless : IsNameless v.tcb
   pub nothing : told h side i ≡ no_past []
 
 -- a socket of this host connects from a port to another
 pub record ConnectsTo (h : List Entry) (side : Side) (port target : ℕ) : Type 0 where
-  pub place : ℕ
+  pub slot : ℕ
   pub by : Opening
-  pub opened : opening h side place ≡ Some by
+  pub opened : opening h side slot ≡ Some by
   pub from : by.local ≡ port
   pub to : by.remote ≡ Some target
 
@@ -42,8 +42,8 @@ SpeaksWith h side o port = (o.remote ≡ Some port) ⊎ ((o.remote ≡ None) × 
 
 pub record TcpOk (h : List Entry) (side : Side) (made : List Made) (i : ℕ) (v : TcpValue) : Type 0 where
   pub untouched : opening h side i ≡ None → IsUntouched h side i v
-  pub ports : (o : Opening) → opening h side i ≡ Some o → HasPorts (ports_of o) v.block
-  pub heard : (o : Opening) → opening h side i ≡ Some o → (pair : EndpointPair) → v.block.names.pair ≡ Some pair → SpeaksWith h side o pair.remote_port
+  pub ports : (o : Opening) → opening h side i ≡ Some o → HasPorts (ports_of o) v.tcb
+  pub heard : (o : Opening) → opening h side i ≡ Some o → (pair : FourTuple) → v.tcb.names.pair ≡ Some pair → SpeaksWith h side o pair.remote_port
   pub alone :
       (o : Opening) → opening h side i ≡ Some o → ((j : ℕ) → ¬ (ArePartners h side i j))
       → KeepsAlone v (past_at o.local made (told h side i))
@@ -52,9 +52,9 @@ pub record TcpOk (h : List Entry) (side : Side) (made : List Made) (i : ℕ) (v 
 
 -- it went from an opened socket's port to one that the socket speaks with
 pub record WasSent (h : List Entry) (side : Side) (x : Made) : Type 0 where
-  pub place : ℕ
+  pub slot : ℕ
   pub by : Opening
-  pub opened : opening h side place ≡ Some by
+  pub opened : opening h side slot ≡ Some by
   pub from : by.local ≡ source_port x
   pub to : SpeaksWith h side by (destination_port x)
 
@@ -68,7 +68,7 @@ pub record StreamsOk (h : List Entry) (side : Side) (p : Party) : Type 0 where
   pub sockets : (i : ℕ) (v : TcpValue) → socket_at p i ≡ Some (Tcp v) → TcpOk h side p.segments i v
   pub made : Each (SegmentOk h side) p.segments
 
--- partners keep the invariant between two sockets
+-- peers keep the invariant between two sockets
 abbrev pub PairsOk : List Entry → Side → Party → Party → Type 0
 PairsOk h side p q =
     (i j : ℕ) (v w : TcpValue) (a : ArePartners h side i j) → socket_at p i ≡ Some (Tcp v) → socket_at q j ≡ Some (Tcp w)

@@ -26,9 +26,9 @@ length_after (OfHost s (Calls i call)) answer side table = by (same_side s side)
   by false = refl
 length_after kind answer side table = refl
 
-pub length_table : (history : List Entry) (side : Side) (places : ℕ) → length (table_of history side places) ≡ places
-length_table [] side places = length-replicate places no_record
-length_table (e ∷ past) side places = length_after (kind_of e.event) e.answer side (table_of past side places) ∙ length_table past side places
+pub length_table : (history : List Entry) (side : Side) (slots : ℕ) → length (table_of history side slots) ≡ slots
+length_table [] side slots = length-replicate slots no_record
+length_table (e ∷ past) side slots = length_after (kind_of e.event) e.answer side (table_of past side slots) ∙ length_table past side slots
 
 -- a record after an entry, which may be no call of its socket
 abbrev recorded : SocketRecord → Option SocketCall → Answer → SocketRecord
@@ -59,11 +59,11 @@ record_after_is (OfHost s (Calls j call)) answer side table i below = by (same_s
 record_after_is kind answer side table i below = recorded_none (record_at table i) answer
 
 -- each record says what the history says of its socket
-pub table_says : (history : List Entry) (side : Side) (places i : ℕ) → i < places → record_at (table_of history side places) i ≡ record_of history side i
-table_says [] side places i below = get_or-replicate places i no_record no_record below
-table_says (e ∷ past) side places i below =
-    let size = length_table past side places in
-    record_after_is (kind_of e.event) e.answer side (table_of past side places) i (omega arith)
-    ∙ ap (λ (r : SocketRecord). recorded r (call_of e side i) e.answer) (table_says past side places i below)
+pub table_says : (history : List Entry) (side : Side) (slots i : ℕ) → i < slots → record_at (table_of history side slots) i ≡ record_of history side i
+table_says [] side slots i below = get_or-replicate slots i no_record no_record below
+table_says (e ∷ past) side slots i below =
+    let size = length_table past side slots in
+    record_after_is (kind_of e.event) e.answer side (table_of past side slots) i (omega arith)
+    ∙ ap (λ (r : SocketRecord). recorded r (call_of e side i) e.answer) (table_says past side slots i below)
     ∙ ap (λ (n : ℕ). record { opened = opening (e ∷ past) side i; accepted = n })
     (sym (length-append (written past side i) (bytes_written (call_of e side i) e.answer)))

@@ -7,67 +7,67 @@ use Rattle.ip_wire.specs.IpRepr.{IpRepr}
 use Rattle.ip_wire.specs.TcpHeader.{TcpHeader}
 use Rattle.sockets.specs.Context.{ContextValue}
 use Rattle.sockets.specs.Polling.{Offered}
-use Rattle.tcp_tie.specs.Endpoints.{HasPorts, KeepsOrForgets, IsLeftBy, IsRenamed}
-use Rattle.tcp_tie.specs.Segment.{Segment}
-use Rattle.tcp_tie.specs.Host.{Made, made_of, made_by, past_at, IsSeenAmong, and_answer, and_offer}
-use Rattle.tcp_tie.specs.Promises.{KeepsAlone}
-use Rattle.tcp_tie.specs.Tie.{Core, core_of, Past, Keeps}
-use Rattle.tcp_tie.proofs.AloneLaws.{stays_alone, reset_comes}
-use Rattle.tcp_tie.proofs.CallLaws.{keeps_same}
-use Rattle.tcp_tie.proofs.HostLaws.{keeps_hosted_arrival, keeps_hosted_offer, past_of_answer}
-use Rattle.tcp_tie.proofs.NameLaws.{arrival_names, answer_back, offer_between_ends, sent_names, withheld_names}
-use Rattle.tcp_tie.proofs.NameLaws.{accepted as accepted_for}
-use Rattle.tcp_tie.proofs.PortLaws.{ports_same, ports_sent, ports_withheld, ports_arrival, nameless_refuses, nameless_silent}
-use Rattle.tcp_tie.proofs.OfferLaws.{keeps_unsent_offer}
-use Rattle.tcp_model.specs.declared.block.Block.{Block}
-use Rattle.tcp_model.specs.EndpointPair.{EndpointPair}
-use Rattle.tcp_model.specs.declared.block.Names.{Names}
-use Rattle.tcp_model.specs.OpenOffer.{OpenOffer}
-use Rattle.tcp_model.specs.Reply.{Reply}
-use Rattle.tcp_model.specs.Arrival.{arrives}
-use Rattle.tcp_model.specs.Endpoints.{pair_in}
-use Rattle.tcp_model.specs.Names.{accepts}
-use Rattle.tcp_model.specs.Offers.{offer_of, payload_of}
-use Rattle.tcp_model.specs.Settled.{settled}
-use Rattle.tcp_model.specs.States.{is_closed}
-use Rattle.tcp_model.specs.Value.{TcpValue, unoffered}
+use Rattle.tcp_refinement.specs.Endpoints.{HasPorts, KeepsOrForgets, IsLeftBy, IsRenamed}
+use Rattle.tcp_refinement.specs.Segment.{Segment}
+use Rattle.tcp_refinement.specs.Host.{Made, made_of, made_by, past_at, IsSeenAmong, and_answer, and_offer}
+use Rattle.tcp_refinement.specs.Promises.{KeepsAlone}
+use Rattle.tcp_refinement.specs.Tie.{Core, core_of, Past, Keeps}
+use Rattle.tcp_refinement.proofs.AloneLaws.{stays_alone, reset_arrives}
+use Rattle.tcp_refinement.proofs.CallLaws.{keeps_same}
+use Rattle.tcp_refinement.proofs.HostLaws.{keeps_hosted_arrival, keeps_hosted_offer, past_of_answer}
+use Rattle.tcp_refinement.proofs.NameLaws.{arrival_names, answer_back, offer_between_ends, sent_names, withheld_names}
+use Rattle.tcp_refinement.proofs.NameLaws.{accepted as accepted_for}
+use Rattle.tcp_refinement.proofs.PortLaws.{ports_same, ports_sent, ports_withheld, ports_arrival, nameless_refuses, nameless_silent}
+use Rattle.tcp_refinement.proofs.OfferLaws.{keeps_unsent_offer}
+use Rattle.tcp_block.specs.declared.tcb.Tcb.{Tcb}
+use Rattle.tcp_block.specs.FourTuple.{FourTuple}
+use Rattle.tcp_block.specs.declared.tcb.Names.{Names}
+use Rattle.tcp_block.specs.OpenOffer.{OpenOffer}
+use Rattle.tcp_block.specs.Reply.{Reply}
+use Rattle.tcp_block.specs.Arrival.{arrives}
+use Rattle.tcp_block.specs.Endpoints.{pair_in}
+use Rattle.tcp_block.specs.Names.{accepts}
+use Rattle.tcp_block.specs.Offers.{offer_of, payload_of}
+use Rattle.tcp_block.specs.Settled.{settled}
+use Rattle.tcp_block.specs.States.{is_closed}
+use Rattle.tcp_block.specs.Value.{TcpValue, unoffered}
 use Rattle.lan.specs.declared.at_link.history.event.Side.{Side}
 use Rattle.lan.specs.declared.at_link.history.record.Opening.{Opening}
 use Rattle.lan.specs.Worlds.AtLink.Kinds.{other}
 use Rattle.lan.specs.Worlds.AtLink.History.{Entry, opening}
-use Rattle.lan.specs.Worlds.AtLink.Partners.{ArePartners}
-use Rattle.lan.specs.Worlds.AtLink.Tables.{Places, AreAllowed}
-use Rattle.lan.proofs.Worlds.AtLink.PartnerLemmas.{opened_apart, AreApart}
+use Rattle.lan.specs.Worlds.AtLink.PeerSides.{ArePartners}
+use Rattle.lan.specs.Worlds.AtLink.Tables.{Slots, AreAllowed}
+use Rattle.lan.proofs.Worlds.AtLink.PeerSideLemmas.{opened_apart, AreApart}
 use Rattle.lan.specs.Worlds.AtLink.Parties.{Party, socket_at}
 use Rattle.lan.specs.Worlds.AtLink.Parties.Socket.{Tcp}
 use Rattle.lan.specs.Worlds.AtLink.Moves.{with_socket, offered_segments}
 use Rattle.lan.proofs.Worlds.AtLink.Lists.{Each, each_get}
-use Rattle.lan.proofs.Worlds.AtLink.Speaking.{come, partner_port, sender_is_partner, accepted_speaks}
+use Rattle.lan.proofs.Worlds.AtLink.Speaking.{come, peer_side_port, sender_is_peer_side, accepted_speaks}
 use Rattle.lan.specs.Worlds.AtLink.Paired.{told}
 use Rattle.lan.proofs.Worlds.AtLink.StreamInvariant.{ports_of, IsUntouched, SpeaksWith, TcpOk, SegmentOk, StreamsOk, PairsOk}
 use Rattle.lan.proofs.Worlds.AtLink.HostSteps.{HostSteps}
 use Rattle.lan.proofs.Worlds.AtLink.Exchange.{IsMore, leaves_all, exchange_opened, exchange_untouched}
 
--- a fresh socket without endpoints, seen by what the tie reads
+-- a new socket without endpoints, seen by what the tie reads
 pub untouched_same : (h : List Entry) (side : Side) (i : ℕ) (v new : TcpValue) → core_of new ≡ core_of v → IsUntouched h side i v → IsUntouched h side i new
 untouched_same h side i v new same u = record {
-  fresh = record {
-    state = ap (λ (c : Core). c.state) same ∙ u.fresh.state;
-    waiting = ap (λ (c : Core). c.waiting) same ∙ u.fresh.waiting;
-    queue = ap (λ (c : Core). c.queue) same ∙ u.fresh.queue;
-    unfinished = ap (λ (c : Core). c.took_fin) same ∙ u.fresh.unfinished;
+  initial = record {
+    state = ap (λ (c : Core). c.state) same ∙ u.initial.state;
+    waiting = ap (λ (c : Core). c.waiting) same ∙ u.initial.waiting;
+    queue = ap (λ (c : Core). c.queue) same ∙ u.initial.queue;
+    unfinished = ap (λ (c : Core). c.took_fin) same ∙ u.initial.unfinished;
   };
   nameless = record { state = ap (λ (c : Core). is_closed c.state) same ∙ u.nameless.state; pair = ap (λ (c : Core). c.pair) same ∙ u.nameless.pair };
   nothing = u.nothing;
 }
 
 -- the pair stays, or is forgotten
-pub pair_kept : (old new : Block) (pair : EndpointPair) → KeepsOrForgets old new → new.names.pair ≡ Some pair → old.names.pair ≡ Some pair
+pub pair_kept : (old new : Tcb) (pair : FourTuple) → KeepsOrForgets old new → new.names.pair ≡ Some pair → old.names.pair ≡ Some pair
 pair_kept old new pair (inl kept) e = sym (ap (λ (n : Names). n.pair) kept.names) ∙ e
 pair_kept old new pair (inr forgot) e = absurd (let none : None ≡ Some pair = sym (ap (λ (n : Names). n.pair) forgot.names) ∙ e in cc)
 
 -- where it is asked for a segment it may also give up, which takes a listener back
-pub pair_left : (old new : Block) (pair : EndpointPair) → IsLeftBy old new → new.names.pair ≡ Some pair → old.names.pair ≡ Some pair
+pub pair_left : (old new : Tcb) (pair : FourTuple) → IsLeftBy old new → new.names.pair ≡ Some pair → old.names.pair ≡ Some pair
 pair_left old new pair (inl falls) e = absurd (let none : None ≡ Some pair = sym (ap (λ (n : Names). n.pair) falls.names) ∙ e in cc)
 pair_left old new pair (inr kept) e = pair_kept old new pair kept e
 
@@ -81,7 +81,7 @@ seen_ok h side made from to header bytes came all =
     by (inl rst) = inl (ap (λ (s : Segment). s.control) (sym came.seen) ∙ rst)
     by (inr s) =
         inr (record {
-          place = s.place;
+          slot = s.slot;
           by = s.by;
           opened = s.opened;
           from = s.from ∙ came.source;
@@ -89,13 +89,13 @@ seen_ok h side made from to header bytes came all =
         })
 
 module _
-    (places : Places) (h : List Entry) (side : Side) (p q : Party) (at : ℕ) (v : TcpValue) (allowed : AreAllowed places h)
+    (slots : Slots) (h : List Entry) (side : Side) (p q : Party) (at : ℕ) (v : TcpValue) (allowed : AreAllowed slots h)
     (is : socket_at p at ≡ Some (Tcp v)) (k : StreamsOk h side p) (pairs : PairsOk h side p q) where
   abbrev ok : TcpOk h side p.segments at v
   ok = k.sockets at v is
 
   apart : (o : Opening) → opening h side at ≡ Some o → (i : ℕ) (one : Opening) → i ≢ at → opening h side i ≡ Some one → one.local ≢ o.local
-  apart o opened i one differs is_one = by (opened_apart places h side i at one o allowed is_one opened) where
+  apart o opened i one differs is_one = by (opened_apart slots h side i at one o allowed is_one opened) where
     by : (i ≡ at) ⊎ AreApart one o → one.local ≢ o.local
     by (inl same) = absurd (differs same)
     by (inr a) = a.local
@@ -103,7 +103,7 @@ module _
   same_one : (o one : Opening) → opening h side at ≡ Some o → opening h side at ≡ Some one → o ≡ one
   same_one o one e f = let both : Some o ≡ Some one = sym e ∙ f in cc
 
-  -- of the partner: the invariant before
+  -- of the peer: the invariant before
   before :
       (o : Opening) → opening h side at ≡ Some o → (j : ℕ) (w : TcpValue) (a : ArePartners h side at j) → socket_at q j ≡ Some (Tcp w)
       → Keeps v (past_at o.local p.segments (told h side at)) w (past_at a.another.local q.segments (told h (other side) j))
@@ -111,14 +111,14 @@ module _
       subst (λ (o : Opening). Keeps v (past_at o.local p.segments (told h side at)) w (past_at a.another.local q.segments (told h (other side) j)))
       (same_one a.one o a.opened opened) (pairs at j v w a is is_w)
 
-  -- a step of an opened socket that keeps the invariant beside any partner
+  -- a step of an opened socket that keeps the invariant alongside any peer
   abbrev KeepsAny : Opening → List Made → TcpValue → Type 0
   KeepsAny o made' new = (w : TcpValue) (b : Past) → Keeps v (past_at o.local p.segments (told h side at)) w b →
       Keeps new (past_at o.local made' (told h side at)) w b
 
   opened_step :
-      (o : Opening) (made' : List Made) (new : TcpValue) → opening h side at ≡ Some o → IsMore h side o p.segments made' → HasPorts (ports_of o) new.block
-      → ((pair : EndpointPair) → new.block.names.pair ≡ Some pair → v.block.names.pair ≡ Some pair) → KeepsAny o made' new
+      (o : Opening) (made' : List Made) (new : TcpValue) → opening h side at ≡ Some o → IsMore h side o p.segments made' → HasPorts (ports_of o) new.tcb
+      → ((pair : FourTuple) → new.tcb.names.pair ≡ Some pair → v.tcb.names.pair ≡ Some pair) → KeepsAny o made' new
       → HostSteps h h side p (record (with_socket p at (Tcp new)) { segments = made' }) q
   opened_step o made' new opened more ports named keeps =
       exchange_opened h h side p q at (leaves_all h side at) k.made o made' new opened more (apart o opened) (record {
@@ -153,12 +153,12 @@ module _
       }) q
   offers_opened cx from true o opened =
       opened_step o (offered_segments true p from (offer_of cx v).socket) (settled true (offer_of cx v).socket) opened (offer_more cx from o opened)
-      (ports_sent cx v (ports_of o) (ok.ports o opened)) (λ pair e. pair_left v.block (settled true (offer_of cx v).socket).block pair (sent_names cx v) e)
+      (ports_sent cx v (ports_of o) (ok.ports o opened)) (λ pair e. pair_left v.tcb (settled true (offer_of cx v).socket).tcb pair (sent_names cx v) e)
       (λ w b keeps. keeps_hosted_offer cx v w (told h side at) b (ports_of o) p.segments from keeps (ok.ports o opened))
   offers_opened cx from false o opened =
       opened_step o p.segments (settled false (offer_of cx v).socket) opened (inl refl)
       (ports_withheld cx v (ports_of o) (ok.ports o opened))
-      (λ pair e. pair_left v.block (settled false (offer_of cx v).socket).block pair (withheld_names cx v) e)
+      (λ pair e. pair_left v.tcb (settled false (offer_of cx v).socket).tcb pair (withheld_names cx v) e)
       (λ w b keeps. keeps_unsent_offer cx v w (past_at o.local p.segments (told h side at)) b keeps)
 
   offers_untouched : (cx : ContextValue) (from : IpAddress) (sent : Bool) → opening h side at ≡ None
@@ -205,7 +205,7 @@ module _
   -- ARRIVALS
 
   module _
-      (cx : ContextValue) (ip : IpRepr) (header : TcpHeader) (bytes : List ℕ) (accepted : accepts v.block ip header ≡ true)
+      (cx : ContextValue) (ip : IpRepr) (header : TcpHeader) (bytes : List ℕ) (accepted : accepts v.tcb ip header ≡ true)
       (among : IsSeenAmong q.segments header bytes) (theirs : Each (SegmentOk h (other side)) q.segments) where
     abbrev new : TcpValue
     new = (arrives cx v ip header bytes).socket
@@ -218,7 +218,7 @@ module _
 
     module _ (o : Opening) (opened : opening h side at ≡ Some o) where
       speaks : (header.dst_port ≡ o.local) × SpeaksWith h side o header.src_port
-      speaks = accepted_speaks h side at o opened places allowed p.segments v ip header bytes ok (accepted_for v.block ip header accepted) sent_ok
+      speaks = accepted_speaks h side at o opened slots allowed p.segments v ip header bytes ok (accepted_for v.tcb ip header accepted) sent_ok
 
       answer_more : IsMore h side o p.segments made_after
       answer_more = by (arrives cx v ip header bytes).answer refl where
@@ -228,18 +228,18 @@ module _
             let back = answer_back cx v ip header bytes reply e in
             inr (made_by reply, refl, back.source_port ∙ speaks.0, subst (SpeaksWith h side o) (sym back.destination_port) speaks.1)
 
-      named_after : (pair : EndpointPair) → new.block.names.pair ≡ Some pair → SpeaksWith h side o pair.remote_port
+      named_after : (pair : FourTuple) → new.tcb.names.pair ≡ Some pair → SpeaksWith h side o pair.remote_port
       named_after pair e = by (arrival_names cx v ip header bytes) where
-        port_of : (pair : EndpointPair) → Some (pair_in ip header) ≡ Some pair → header.src_port ≡ pair.remote_port
-        port_of pair same = let is : pair_in ip header ≡ pair = cc in ap (λ (x : EndpointPair). x.remote_port) is
+        port_of : (pair : FourTuple) → Some (pair_in ip header) ≡ Some pair → header.src_port ≡ pair.remote_port
+        port_of pair same = let is : pair_in ip header ≡ pair = cc in ap (λ (x : FourTuple). x.remote_port) is
 
-        by : IsRenamed ip header v.block new.block → SpeaksWith h side o pair.remote_port
+        by : IsRenamed ip header v.tcb new.tcb → SpeaksWith h side o pair.remote_port
         by (inl opens) =
             let same : Some (pair_in ip header) ≡ Some pair = sym (ap (λ (n : Names). n.pair) opens.names) ∙ e in
             let remote : header.src_port ≡ pair.remote_port = port_of pair same in
             subst (SpeaksWith h side o) remote speaks.1
         by (inr (inl falls)) = absurd (let none : None ≡ Some pair = sym (ap (λ (n : Names). n.pair) falls.names) ∙ e in cc)
-        by (inr (inr kept)) = ok.heard o opened pair (pair_kept v.block new.block pair kept e)
+        by (inr (inr kept)) = ok.heard o opened pair (pair_kept v.tcb new.tcb pair kept e)
 
       lone_after : ((j : ℕ) → ¬ (ArePartners h side at j)) → KeepsAlone new (past_at o.local made_after (told h side at))
       lone_after lone = by sent_ok where
@@ -248,14 +248,14 @@ module _
             subst (KeepsAlone new)
             (past_of_answer o.local p.segments (told h side at) (arrives cx v ip header bytes).answer
             (λ reply e. (answer_back cx v ip header bytes reply e).source_port ∙ speaks.0))
-            (reset_comes cx v (past_at o.local p.segments (told h side at)) ip header bytes (ok.alone o opened lone) rst)
-        by (inr s) = let partner = sender_is_partner h side at o opened (come ip header bytes) speaks.0 speaks.1 s in absurd (lone partner.0 partner.1)
+            (reset_arrives cx v (past_at o.local p.segments (told h side at)) ip header bytes (ok.alone o opened lone) rst)
+        by (inr s) = let peer_side = sender_is_peer_side h side at o opened (come ip header bytes) speaks.0 speaks.1 s in absurd (lone peer_side.0 peer_side.1)
 
       pair_after :
           (j : ℕ) (w : TcpValue) (a : ArePartners h side at j) → socket_at q j ≡ Some (Tcp w)
           → Keeps new (past_at o.local made_after (told h side at)) w (past_at a.another.local q.segments (told h (other side) j))
       pair_after j w a is_w =
-          let theirs_is = partner_port h side at o opened places allowed j header.src_port a speaks.1 in
+          let theirs_is = peer_side_port h side at o opened slots allowed j header.src_port a speaks.1 in
           let at_ports : Keeps v (past_at header.dst_port p.segments (told h side at)) w (past_at header.src_port q.segments (told h (other side) j)) =
           subst (λ (port : ℕ). Keeps v (past_at port p.segments (told h side at)) w (past_at header.src_port q.segments (told h (other side) j))) (sym speaks.0)
           (subst (λ (port : ℕ). Keeps v (past_at o.local p.segments (told h side at)) w (past_at port q.segments (told h (other side) j))) theirs_is
@@ -269,7 +269,7 @@ module _
     takes = by (opening h side at) refl where
       by : (o : Option Opening) → opening h side at ≡ o → HostSteps h h side p (record (with_socket p at (Tcp new)) { segments = made_after }) q
       by None e =
-          let refused = nameless_refuses v.block ip header (ok.untouched e).nameless in
+          let refused = nameless_refuses v.tcb ip header (ok.untouched e).nameless in
           absurd (let clash : false ≡ true = sym refused ∙ accepted in cc)
       by (Some o) e =
           exchange_opened h h side p q at (leaves_all h side at) k.made o made_after new e (answer_more o e) (apart o e) (record {

@@ -1,9 +1,9 @@
 -- What a host does is a turn of its machine, and goes on from what it was.
 use Rattle.std.proofs.Common.{◌≡◌, ◌≤ℤ◌, ℕ, ◌-◌, ℤ, pos, Bool, true, false, not, ◌||◌, ◌&&◌, int_lt, List, [], ◌∷◌, ◌++◌, length, Option, Some, None, refl, sym}
 use Rattle.std.proofs.Common.{ap, ◌∙◌, subst, append-nil, arith}
-use Rattle.interface_egress.specs.Departure.{Departure}
+use Rattle.iface_egress.specs.Departure.{Departure}
 use Rattle.interface.specs.Touches.{departed, Silences}
-use Rattle.interface_tables.specs.Settings.{is_moment}
+use Rattle.iface_tables.specs.Settings.{is_moment}
 use Rattle.lan.specs.Worlds.AtLink.Kinds.{Act}
 use Rattle.lan.specs.Worlds.AtLink.Kinds.Act.{Calls, Sets, Opens, Asks, Polls}
 use Rattle.lan.specs.Worlds.AtLink.Kinds.Kind.{OfHost}
@@ -13,30 +13,30 @@ use Rattle.lan.specs.Worlds.AtLink.Refused.{Refused}
 use Rattle.lan.specs.Worlds.AtLink.Side.{Side}
 use Rattle.lan.specs.Worlds.AtLink.Port.{LinkEnd}
 use Rattle.lan.specs.Worlds.AtLink.Refusals.{Table, Tables, act_tests, is_too_early, may_run_out, refusal}
-use Rattle.lan.specs.Worlds.AtLink.Station.{StationValue, Stations, station}
+use Rattle.lan.specs.Worlds.AtLink.Node.{NodeValue, Nodes, node}
 use Rattle.lan.specs.Worlds.AtLink.Steps.{Acts}
-use Rattle.tcp_model.specs.State.{State}
-use Rattle.lan.specs.Worlds.Hosts.GoesOn.{GoesOn, has_addresses}
-use Rattle.lan.specs.Worlds.Hosts.Machine.{Turn, HostStep, machine_of, frames_of, moment_of, room_behind}
+use Rattle.tcp_block.specs.State.{State}
+use Rattle.lan.specs.Worlds.Hosts.Proceeds.{Proceeds, has_addresses}
+use Rattle.lan.specs.Worlds.Hosts.Machine.{Turn, HostStep, machine_of, frames_of, instant_of, room_following}
 use Rattle.lan.proofs.Worlds.Hosts.Calling.{IsQuietAct, call_quiet, setting_quiet}
 use Rattle.lan.proofs.Worlds.Hosts.Paths.{looked}
 use Rattle.lan.proofs.Worlds.Hosts.Polling.{IsPolled, polled}
 
 -- TURNS
 
-pub record IsTurn (s : StationValue) (act : Act) (s' : StationValue) : Type 0 where
+pub record IsTurn (s : NodeValue) (act : Act) (s' : NodeValue) : Type 0 where
   pub taken : List (List ℕ)
   pub departures : List Departure
   pub waiting : s.link.waiting ≡ taken ++ s'.link.waiting
   pub sent : s'.link.sent ≡ s.link.sent ++ frames_of s.host.inner departures
-  pub room : s'.link.room ≡ room_behind act s.link.room (length departures)
-  pub silent : Silences (moment_of act) departures s.host.inner.neighbors.silent s'.host.inner.neighbors.silent
+  pub room : s'.link.room ≡ room_following act s.link.room (length departures)
+  pub silent : Silences (instant_of act) departures s.host.inner.neighbors.silent s'.host.inner.neighbors.silent
   pub device : s'.link.capabilities ≡ s.link.capabilities
 
 no_less : (a : ℕ) → a ≡ a - 0
 no_less a = omega arith
 
-quiet_turn : (s s' : StationValue) (act : Act) → ((n : ℕ) → room_behind act n 0 ≡ n - 0) → IsQuietAct s s' → IsTurn s act s'
+quiet_turn : (s s' : NodeValue) (act : Act) → ((n : ℕ) → room_following act n 0 ≡ n - 0) → IsQuietAct s s' → IsTurn s act s'
 quiet_turn s s' act room quiet = record {
   taken = [];
   departures = [];
@@ -47,8 +47,8 @@ quiet_turn s s' act room quiet = record {
   device = ap (λ (x : LinkEnd). x.capabilities) quiet.link;
 }
 
-polled_turn : (s s' : StationValue) (moment : ℤ) (budget : ℕ) → IsPolled s moment s' → IsTurn s (Polls moment budget) s'
-polled_turn s s' moment budget p =
+polled_turn : (s s' : NodeValue) (instant : ℤ) (budget : ℕ) → IsPolled s instant s' → IsTurn s (Polls instant budget) s'
+polled_turn s s' instant budget p =
     record {
       taken = looked p.touches;
       departures = departed p.touches;
@@ -60,7 +60,7 @@ polled_turn s s' moment budget p =
           p.capabilities;
     }
 
-pub is_turn : (s s' : StationValue) (act : Act) (answer : Answer) (found : Option State) → Acts s act answer found s' → IsTurn s act s'
+pub is_turn : (s s' : NodeValue) (act : Act) (answer : Answer) (found : Option State) → Acts s act answer found s' → IsTurn s act s'
 is_turn s s' (Calls i call) answer found acts = quiet_turn s s' (Calls i call) (λ n. refl) (call_quiet s s' i call answer found acts)
 is_turn s s' (Sets setting) answer found acts = quiet_turn s s' (Sets setting) (λ n. refl) (setting_quiet s s' setting answer acts.0)
 is_turn s s' (Opens n) answer found acts =
@@ -68,26 +68,26 @@ is_turn s s' (Opens n) answer found acts =
     record {
       taken = [];
       departures = [];
-      waiting = sym (ap (λ (x : StationValue). x.link.waiting) is);
-      sent = ap (λ (x : StationValue). x.link.sent) is ∙ sym (append-nil s.link.sent);
-      room = ap (λ (x : StationValue). x.link.room) is;
-      silent = ap (λ (x : StationValue). x.host.inner.neighbors.silent) is;
-      device = ap (λ (x : StationValue). x.link.capabilities) is;
+      waiting = sym (ap (λ (x : NodeValue). x.link.waiting) is);
+      sent = ap (λ (x : NodeValue). x.link.sent) is ∙ sym (append-nil s.link.sent);
+      room = ap (λ (x : NodeValue). x.link.room) is;
+      silent = ap (λ (x : NodeValue). x.host.inner.neighbors.silent) is;
+      device = ap (λ (x : NodeValue). x.link.capabilities) is;
     }
-is_turn s s' (Asks moment) answer found acts =
+is_turn s s' (Asks instant) answer found acts =
     let is = acts.2 in
     record {
       taken = [];
       departures = [];
-      waiting = sym (ap (λ (x : StationValue). x.link.waiting) is);
-      sent = ap (λ (x : StationValue). x.link.sent) is ∙ sym (append-nil s.link.sent);
-      room = ap (λ (x : StationValue). x.link.room) is ∙ no_less s.link.room;
-      silent = ap (λ (x : StationValue). x.host.inner.neighbors.silent) is;
-      device = ap (λ (x : StationValue). x.link.capabilities) is;
+      waiting = sym (ap (λ (x : NodeValue). x.link.waiting) is);
+      sent = ap (λ (x : NodeValue). x.link.sent) is ∙ sym (append-nil s.link.sent);
+      room = ap (λ (x : NodeValue). x.link.room) is ∙ no_less s.link.room;
+      silent = ap (λ (x : NodeValue). x.host.inner.neighbors.silent) is;
+      device = ap (λ (x : NodeValue). x.link.capabilities) is;
     }
-is_turn s s' (Polls moment budget) answer found acts = polled_turn s s' moment budget (polled s s' moment budget acts.0 acts.1)
+is_turn s s' (Polls instant budget) answer found acts = polled_turn s s' instant budget (polled s s' instant budget acts.0 acts.1)
 
-abbrev pub turn_of : (s s' : StationValue) (act : Act) (answer : Answer) (found : Option State) → IsTurn s act s' → Turn
+abbrev pub turn_of : (s s' : NodeValue) (act : Act) (answer : Answer) (found : Option State) → IsTurn s act s' → Turn
 turn_of s s' act answer found t = record {
   act = act;
   room = s.link.room;
@@ -98,7 +98,7 @@ turn_of s s' act answer found t = record {
   sent = frames_of s.host.inner t.departures;
 }
 
-pub step_of : (s s' : StationValue) (act : Act) (answer : Answer) (found : Option State) (t : IsTurn s act s') → Acts s act answer found s'
+pub step_of : (s s' : NodeValue) (act : Act) (answer : Answer) (found : Option State) (t : IsTurn s act s') → Acts s act answer found s'
     → HostStep (machine_of s) (turn_of s s' act answer found t) (machine_of s')
 step_of s s' act answer found t acts = record {
   link = s.link;
@@ -117,12 +117,12 @@ step_of s s' act answer found t acts = record {
 -- TIME
 
 -- a question and a poll come no earlier than the host's last
-abbrev pub IsInTime : StationValue → Act → Type 0
+abbrev pub IsInTime : NodeValue → Act → Type 0
 IsInTime s (Calls i call) = Unit {0}
 IsInTime s (Sets setting) = Unit {0}
 IsInTime s (Opens n) = Unit {0}
-IsInTime s (Asks moment) = (s.host.inner.moment ≤ℤ moment) × (pos 0 ≤ℤ moment)
-IsInTime s (Polls moment budget) = (s.host.inner.moment ≤ℤ moment) × (pos 0 ≤ℤ moment)
+IsInTime s (Asks instant) = (s.host.inner.instant ≤ℤ instant) × (pos 0 ≤ℤ instant)
+IsInTime s (Polls instant budget) = (s.host.inner.instant ≤ℤ instant) × (pos 0 ≤ℤ instant)
 
 pub not_refused : (b : Bool) (r : Refused) (rest : List (Bool × Refused)) → first_refusal ((b, r) ∷ rest) ≡ None → (b ≡ false) × (first_refusal rest ≡ None)
 not_refused true r rest is = absurd (let no : Some r ≡ None = is in cc)
@@ -147,75 +147,75 @@ not_on false is = refl
 pub not_less : (a b : ℤ) → int_lt a b ≡ false → b ≤ℤ a
 not_less a b is = grind (arith)
 
-not_early : (s : StationValue) (moment : ℤ) → is_too_early s moment ≡ false → (s.host.inner.moment ≤ℤ moment) × (pos 0 ≤ℤ moment)
-not_early s moment is =
-    let two = neither (not (is_moment moment)) (int_lt moment s.host.inner.moment) is in
-    let low = both_on (not (int_lt moment (pos 0))) (not (int_lt (pos Rattle.ip_tcp.specs.Time.last_moment) moment)) (not_off (is_moment moment) two.0) in
-    (not_less moment s.host.inner.moment two.1, not_less moment (pos 0) (not_on (int_lt moment (pos 0)) low.0))
+not_early : (s : NodeValue) (instant : ℤ) → is_too_early s instant ≡ false → (s.host.inner.instant ≤ℤ instant) × (pos 0 ≤ℤ instant)
+not_early s instant is =
+    let two = neither (not (is_moment instant)) (int_lt instant s.host.inner.instant) is in
+    let low = both_on (not (int_lt instant (pos 0))) (not (int_lt (pos Rattle.wire_tcp.specs.Time.last_instant) instant)) (not_off (is_moment instant) two.0) in
+    (not_less instant s.host.inner.instant two.1, not_less instant (pos 0) (not_on (int_lt instant (pos 0)) low.0))
 
-act_in_time : (s : StationValue) (t : Table) (act : Act) → first_refusal (act_tests s t act) ≡ None → IsInTime s act
+act_in_time : (s : NodeValue) (t : Table) (act : Act) → first_refusal (act_tests s t act) ≡ None → IsInTime s act
 act_in_time s t (Calls i call) is = tt
 act_in_time s t (Sets setting) is = tt
 act_in_time s t (Opens n) is = tt
-act_in_time s t (Asks moment) is =
-    not_early s moment (not_refused (is_too_early s moment) Rattle.lan.specs.Worlds.AtLink.Refused.TheVariants.Moment [] is).0
-act_in_time s t (Polls moment budget) is =
+act_in_time s t (Asks instant) is =
+    not_early s instant (not_refused (is_too_early s instant) Rattle.lan.specs.Worlds.AtLink.Refused.TheVariants.Moment [] is).0
+act_in_time s t (Polls instant budget) is =
     let first = not_refused (may_run_out s t budget) Rattle.lan.specs.Worlds.AtLink.Refused.TheVariants.TooManyCut
-    ((is_too_early s moment, Rattle.lan.specs.Worlds.AtLink.Refused.TheVariants.Moment) ∷ []) is in
-    not_early s moment (not_refused (is_too_early s moment) Rattle.lan.specs.Worlds.AtLink.Refused.TheVariants.Moment [] first.1).0
+    ((is_too_early s instant, Rattle.lan.specs.Worlds.AtLink.Refused.TheVariants.Moment) ∷ []) is in
+    not_early s instant (not_refused (is_too_early s instant) Rattle.lan.specs.Worlds.AtLink.Refused.TheVariants.Moment [] first.1).0
 
-pub in_time : (hosts : Stations) (tables : Tables) (side : Side) (act : Act) → refusal hosts tables (OfHost side act) ≡ None → IsInTime (station hosts side) act
-in_time hosts tables side act is = act_in_time (station hosts side) (Rattle.lan.specs.Worlds.AtLink.Refusals.table tables side) act is
+pub in_time : (hosts : Nodes) (tables : Tables) (side : Side) (act : Act) → refusal hosts tables (OfHost side act) ≡ None → IsInTime (node hosts side) act
+in_time hosts tables side act is = act_in_time (node hosts side) (Rattle.lan.specs.Worlds.AtLink.Refusals.table tables side) act is
 
 -- GOING ON
 
-same_moment : (a b : ℤ) → b ≡ a → a ≤ℤ b
-same_moment a b is = subst (λ (x : ℤ). a ≤ℤ x) (sym is) (grind (arith))
+same_instant : (a b : ℤ) → b ≡ a → a ≤ℤ b
+same_instant a b is = subst (λ (x : ℤ). a ≤ℤ x) (sym is) (grind (arith))
 
-later_moment : (a t b : ℤ) → b ≡ t → a ≤ℤ t → a ≤ℤ b
-later_moment a t b is up = subst (λ (x : ℤ). a ≤ℤ x) (sym is) up
+later_instant : (a t b : ℤ) → b ≡ t → a ≤ℤ t → a ≤ℤ b
+later_instant a t b is up = subst (λ (x : ℤ). a ≤ℤ x) (sym is) up
 
-quiet_goes_on : (s s' : StationValue) → IsQuietAct s s' → GoesOn s s'
-quiet_goes_on s s' quiet = record {
+quiet_proceeds : (s s' : NodeValue) → IsQuietAct s s' → Proceeds s s'
+quiet_proceeds s s' quiet = record {
   more = [];
   sent = ap (λ (x : LinkEnd). x.sent) quiet.link ∙ sym (append-nil s.link.sent);
   capabilities = ap (λ (x : LinkEnd). x.capabilities) quiet.link;
   mtu = quiet.clock.mtu;
   checksums = quiet.clock.checksums;
   medium = quiet.clock.medium;
-  moment = same_moment s.host.inner.moment s'.host.inner.moment quiet.clock.moment;
-  places = quiet.places;
+  instant = same_instant s.host.inner.instant s'.host.inner.instant quiet.clock.instant;
+  slots = quiet.slots;
 }
 
-pub acts_go_on : (s s' : StationValue) (act : Act) (answer : Answer) (found : Option State) → Acts s act answer found s' → IsInTime s act → GoesOn s s'
-acts_go_on s s' (Calls i call) answer found acts time = quiet_goes_on s s' (call_quiet s s' i call answer found acts)
-acts_go_on s s' (Sets setting) answer found acts time = quiet_goes_on s s' (setting_quiet s s' setting answer acts.0)
-acts_go_on s s' (Opens n) answer found acts time =
+pub acts_proceed : (s s' : NodeValue) (act : Act) (answer : Answer) (found : Option State) → Acts s act answer found s' → IsInTime s act → Proceeds s s'
+acts_proceed s s' (Calls i call) answer found acts time = quiet_proceeds s s' (call_quiet s s' i call answer found acts)
+acts_proceed s s' (Sets setting) answer found acts time = quiet_proceeds s s' (setting_quiet s s' setting answer acts.0)
+acts_proceed s s' (Opens n) answer found acts time =
     let is = acts.2 in
     record {
       more = [];
-      sent = ap (λ (x : StationValue). x.link.sent) is ∙ sym (append-nil s.link.sent);
-      capabilities = ap (λ (x : StationValue). x.link.capabilities) is;
-      mtu = ap (λ (x : StationValue). x.host.inner.mtu) is;
-      checksums = ap (λ (x : StationValue). x.host.inner.checksums) is;
-      medium = ap (λ (x : StationValue). has_addresses x.host.inner.hardware) is;
-      moment = same_moment s.host.inner.moment s'.host.inner.moment (ap (λ (x : StationValue). x.host.inner.moment) is);
-      places = ap (λ (x : StationValue). length x.places) is;
+      sent = ap (λ (x : NodeValue). x.link.sent) is ∙ sym (append-nil s.link.sent);
+      capabilities = ap (λ (x : NodeValue). x.link.capabilities) is;
+      mtu = ap (λ (x : NodeValue). x.host.inner.mtu) is;
+      checksums = ap (λ (x : NodeValue). x.host.inner.checksums) is;
+      medium = ap (λ (x : NodeValue). has_addresses x.host.inner.hardware) is;
+      instant = same_instant s.host.inner.instant s'.host.inner.instant (ap (λ (x : NodeValue). x.host.inner.instant) is);
+      slots = ap (λ (x : NodeValue). length x.slots) is;
     }
-acts_go_on s s' (Asks moment) answer found acts time =
+acts_proceed s s' (Asks instant) answer found acts time =
     let is = acts.2 in
     record {
       more = [];
-      sent = ap (λ (x : StationValue). x.link.sent) is ∙ sym (append-nil s.link.sent);
-      capabilities = ap (λ (x : StationValue). x.link.capabilities) is;
-      mtu = ap (λ (x : StationValue). x.host.inner.mtu) is;
-      checksums = ap (λ (x : StationValue). x.host.inner.checksums) is;
-      medium = ap (λ (x : StationValue). has_addresses x.host.inner.hardware) is;
-      moment = later_moment s.host.inner.moment moment s'.host.inner.moment (ap (λ (x : StationValue). x.host.inner.moment) is) time.0;
-      places = ap (λ (x : StationValue). length x.places) is;
+      sent = ap (λ (x : NodeValue). x.link.sent) is ∙ sym (append-nil s.link.sent);
+      capabilities = ap (λ (x : NodeValue). x.link.capabilities) is;
+      mtu = ap (λ (x : NodeValue). x.host.inner.mtu) is;
+      checksums = ap (λ (x : NodeValue). x.host.inner.checksums) is;
+      medium = ap (λ (x : NodeValue). has_addresses x.host.inner.hardware) is;
+      instant = later_instant s.host.inner.instant instant s'.host.inner.instant (ap (λ (x : NodeValue). x.host.inner.instant) is) time.0;
+      slots = ap (λ (x : NodeValue). length x.slots) is;
     }
-acts_go_on s s' (Polls moment budget) answer found acts time =
-    let p = polled s s' moment budget acts.0 acts.1 in
+acts_proceed s s' (Polls instant budget) answer found acts time =
+    let p = polled s s' instant budget acts.0 acts.1 in
     record {
       more = frames_of s.host.inner (departed p.touches);
       sent = p.sent;
@@ -223,6 +223,6 @@ acts_go_on s s' (Polls moment budget) answer found acts time =
       mtu = p.settings.mtu;
       checksums = p.settings.checksums;
       medium = ap has_addresses p.settings.hardware;
-      moment = later_moment s.host.inner.moment moment s'.host.inner.moment p.now time.0;
-      places = p.places;
+      instant = later_instant s.host.inner.instant instant s'.host.inner.instant p.now time.0;
+      slots = p.slots;
     }

@@ -1,12 +1,12 @@
 -- A host's own requests are a second apart: each one before, and its second, were over when the silence was.
 use Rattle.std.proofs.Common.{◌≡◌, ◌≤ℤ◌, ℕ, ℤ, false, int_lt, List, [], ◌∷◌, ◌++◌, sym, subst, arith}
 use Rattle.std.specs.List.{AllByRecursion}
-use Rattle.interface_egress.specs.Departure.{Departure, Asks, Tells, Whole, Part}
+use Rattle.iface_egress.specs.Departure.{Departure, Asks, Tells, Whole, Part}
 use Rattle.interface.specs.Touches.{second_after, Silences}
-use Rattle.lan.specs.Worlds.Hosts.Asked.{requests_in, requests, AreApart}
-use Rattle.lan.specs.Worlds.Hosts.Machine.{Turn, Machine, HostRun, moment_of}
+use Rattle.lan.specs.Worlds.Hosts.RequestSilence.{requests_in, requests, AreApart}
+use Rattle.lan.specs.Worlds.Hosts.Machine.{Turn, Machine, HostRun, instant_of}
 
--- each of these moments, and a second, is no later than this
+-- each of these instants, and a second, is no later than this
 abbrev pub AreOver : List ℤ → ℤ → Type 0
 AreOver ts until = AllByRecursion (λ s. second_after s ≤ℤ until) ts
 
@@ -43,13 +43,13 @@ asked_apart t (Asks question ∷ ds) rest before after silent is =
     })
 asked_apart t (Tells packet ∷ ds) rest before after silent is = asked_apart t ds rest before after silent is
 asked_apart t (Whole to p ∷ ds) rest before after silent is = asked_apart t ds rest before after silent is
-asked_apart t (Part to header piece ∷ ds) rest before after silent is = asked_apart t ds rest before after silent is
+asked_apart t (Part to header fragment ∷ ds) rest before after silent is = asked_apart t ds rest before after silent is
 
 run_silent : (start : Machine) (room : ℕ) (turns : List Turn) (now : Machine) → HostRun start room turns now →
     AreSilent (requests turns) now.host.inner.neighbors.silent
 run_silent start room [] now run = record { apart = tt; over = tt }
 run_silent start room (turn ∷ past) now run =
-    asked_apart (moment_of turn.act) turn.departures (requests past) run.0.host.inner.neighbors.silent now.host.inner.neighbors.silent
+    asked_apart (instant_of turn.act) turn.departures (requests past) run.0.host.inner.neighbors.silent now.host.inner.neighbors.silent
     (run_silent start room past run.0 run.1) run.3.asks
 
 pub run_apart : (start : Machine) (room : ℕ) (turns : List Turn) (now : Machine) → HostRun start room turns now → AreApart (requests turns)

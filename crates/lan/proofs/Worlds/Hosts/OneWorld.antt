@@ -2,12 +2,12 @@
 use Rattle.std.proofs.Common.{◌≡◌, ℕ, Bool, List, [], ◌∷◌, Option, None, Some, sym, ap, ◌∙◌, subst}
 use Rattle.std.specs.Prelude.{slice_get}
 use Rattle.interface.specs.Host.{HostValue}
-use Rattle.interface_egress.specs.declared.socket_set.Item.{Item}
-use Rattle.interface_egress.specs.declared.socket_set.SocketStorage.{SocketStorage}
+use Rattle.iface_egress.specs.declared.socket_set.Item.{Item}
+use Rattle.iface_egress.specs.declared.socket_set.SocketStorage.{SocketStorage}
 use Rattle.interface.specs.Made.{with_inner}
-use Rattle.interface_tables.specs.Inner.{context_of}
-use Rattle.interface_tables.specs.Settings.{routes_of, with_routes}
-use Rattle.interface_tables.specs.declared.route.Route.{Route}
+use Rattle.iface_tables.specs.Inner.{context_of}
+use Rattle.iface_tables.specs.Settings.{routes_of, with_routes}
+use Rattle.iface_tables.specs.declared.route.Route.{Route}
 use Rattle.interface.proofs.OneEnd.{OneOffer}
 use Rattle.lan.specs.Worlds.AtLink.Call.{SocketCall}
 use Rattle.lan.specs.Worlds.AtLink.History.{Entry}
@@ -21,13 +21,13 @@ use Rattle.lan.specs.Worlds.AtLink.Event.{Event}
 use Rattle.lan.specs.Worlds.AtLink.Side.{Side}
 use Rattle.lan.specs.Worlds.AtLink.Side.TheVariants.{A, B}
 use Rattle.lan.specs.Worlds.AtLink.Calls.{Did}
-use Rattle.lan.specs.Worlds.AtLink.Does.{does, DidAt, ItemDoes, PlaceDoes, Does}
+use Rattle.lan.specs.Worlds.AtLink.Does.{does, DidAt, ItemDoes, SlotDoes, Does}
 use Rattle.lan.specs.Worlds.AtLink.Runs.{WorldValue, Step, Steps}
 use Rattle.lan.specs.Worlds.AtLink.Sets.{SetsTo, Configures, has_route_room}
-use Rattle.lan.specs.Worlds.AtLink.Station.{StationValue, Stations}
+use Rattle.lan.specs.Worlds.AtLink.Node.{NodeValue, Nodes}
 use Rattle.lan.specs.Worlds.AtLink.Steps.{Acts, ActsAt, Happens}
 use Rattle.sockets.specs.declared.socket.Socket.{Socket}
-use Rattle.tcp_model.specs.State.{State}
+use Rattle.tcp_block.specs.State.{State}
 use Rattle.lan.proofs.Worlds.Hosts.OneRoute.{routed_once}
 use Rattle.lan.proofs.Worlds.Hosts.Outcomes.{polls_once}
 
@@ -36,7 +36,7 @@ Same a f one b g other = (a ≡ b) × (f ≡ g) × (one ≡ other)
 
 -- CALLS
 
-module _ (s one other : StationValue) (i : ℕ) (call : SocketCall) (a b : Answer) (f g : Option State) where
+module _ (s one other : NodeValue) (i : ℕ) (call : SocketCall) (a b : Answer) (f g : Option State) where
   did_once : (item : Item Socket) (d : Option (Did Socket)) → DidAt s i item call d a f one → DidAt s i item call d b g other → Same a f one b g other
   did_once item None first second = absurd first
   did_once item (Some d) first second = (first.0 ∙ sym second.0, first.1 ∙ sym second.1, first.2 ∙ sym second.2)
@@ -45,12 +45,12 @@ module _ (s one other : StationValue) (i : ℕ) (call : SocketCall) (a b : Answe
   item_once None first second = absurd first
   item_once (Some item) first second = did_once item (does (context_of s.host.inner) item.socket call) first second
 
-  place_once : (o : Option (SocketStorage Socket)) → PlaceDoes s i o call a f one → PlaceDoes s i o call b g other → Same a f one b g other
-  place_once None first second = absurd first
-  place_once (Some place) first second = item_once place.inner first second
+  slot_once : (o : Option (SocketStorage Socket)) → SlotDoes s i o call a f one → SlotDoes s i o call b g other → Same a f one b g other
+  slot_once None first second = absurd first
+  slot_once (Some slot) first second = item_once slot.inner first second
 
   call_once : Does s i call a f one → Does s i call b g other → Same a f one b g other
-  call_once first second = place_once (slice_get s.places i) first second
+  call_once first second = slot_once (slice_get s.slots i) first second
 
 -- SETTINGS
 
@@ -63,7 +63,7 @@ setting_once h one other (Set.Route router) first second =
 setting_once h one other (Set.AnyIp any) first second = first ∙ sym second
 setting_once h one other (Set.ReassemblyTimeout timeout) first second = first ∙ sym second
 
-configured_once : (s one other : StationValue) (setting : Setting) (a b : Answer) → Configures s setting a one → Configures s setting b other →
+configured_once : (s one other : NodeValue) (setting : Setting) (a b : Answer) → Configures s setting a one → Configures s setting b other →
     (a ≡ b) × (one ≡ other)
 configured_once s one other setting a b first second =
     let hosts = setting_once s.host first.0 second.0 setting first.1 second.1 in
@@ -72,32 +72,32 @@ configured_once s one other setting a b first second =
 -- ACTS
 
 module _ (one_offer : OneOffer) where
-  acts_once : (s one other : StationValue) (act : Act) (a b : Answer) (f g : Option State) → Acts s act a f one → Acts s act b g other
+  acts_once : (s one other : NodeValue) (act : Act) (a b : Answer) (f g : Option State) → Acts s act a f one → Acts s act b g other
       → Same a f one b g other
   acts_once s one other (Calls i call) a b f g first second = call_once s one other i call a b f g first second
   acts_once s one other (Sets setting) a b f g first second =
       let same = configured_once s one other setting a b first.0 second.0 in
       (same.0, first.1 ∙ sym second.1, same.1)
   acts_once s one other (Opens n) a b f g first second = (first.0 ∙ sym second.0, first.1 ∙ sym second.1, first.2 ∙ sym second.2)
-  acts_once s one other (Asks moment) a b f g first second = (first.0 ∙ sym second.0, first.1 ∙ sym second.1, first.2 ∙ sym second.2)
-  acts_once s one other (Polls moment budget) a b f g first second =
-      let same = polls_once one_offer s one other moment budget first.0 second.0 first.1 second.1 in
+  acts_once s one other (Asks instant) a b f g first second = (first.0 ∙ sym second.0, first.1 ∙ sym second.1, first.2 ∙ sym second.2)
+  acts_once s one other (Polls instant budget) a b f g first second =
+      let same = polls_once one_offer s one other instant budget first.0 second.0 first.1 second.1 in
       (first.2 ∙ ap (λ (c : Bool). To.Poll c) same.0 ∙ sym second.2, first.3 ∙ sym second.3, same.1)
 
-  same_stations : (one other : Stations) → one.a ≡ other.a → one.b ≡ other.b → one ≡ other
-  same_stations one other first second = λ k. record { a = first k; b = second k }
+  same_nodes : (one other : Nodes) → one.a ≡ other.a → one.b ≡ other.b → one ≡ other
+  same_nodes one other first second = λ k. record { a = first k; b = second k }
 
-  acts_at_once : (old one other : Stations) (act : Act) (side : Side) (a b : Answer) (f g : Option State) → ActsAt old side act a f one →
+  acts_at_once : (old one other : Nodes) (act : Act) (side : Side) (a b : Answer) (f g : Option State) → ActsAt old side act a f one →
       ActsAt old side act b g other
       → Same a f one b g other
   acts_at_once old one other act A a b f g first second =
       let same = acts_once old.a one.a other.a act a b f g first.acts second.acts in
-      (same.0, same.1, same_stations one other same.2 (first.rests ∙ sym second.rests))
+      (same.0, same.1, same_nodes one other same.2 (first.rests ∙ sym second.rests))
   acts_at_once old one other act B a b f g first second =
       let same = acts_once old.b one.b other.b act a b f g first.acts second.acts in
-      (same.0, same.1, same_stations one other (first.rests ∙ sym second.rests) same.2)
+      (same.0, same.1, same_nodes one other (first.rests ∙ sym second.rests) same.2)
 
-  happens_once : (old one other : Stations) (k : Kind) (a b : Answer) (f g : Option State) → Happens old k a f one → Happens old k b g other →
+  happens_once : (old one other : Nodes) (k : Kind) (a b : Answer) (f g : Option State) → Happens old k a f one → Happens old k b g other →
       Same a f one b g other
   happens_once old one other (OfHost side act) a b f g first second = acts_at_once old one other act side a b f g first second
   happens_once old one other (OfLink act) a b f g first second = (first.0 ∙ sym second.0, first.1 ∙ sym second.1, first.2 ∙ sym second.2)

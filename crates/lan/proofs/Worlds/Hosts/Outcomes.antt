@@ -1,14 +1,14 @@
--- Polls of one station have one end, whatever buffers lie ready.
+-- Polls of one host have one end, whatever buffers lie ready.
 use Rattle.std.proofs.Common.{◌≡◌, ◌≤◌, ◌+◌, ◌-◌, ℕ, ℤ, Bool, true, false, List, [], ◌∷◌, ◌++◌, length, refl, sym, ap, ◌∙◌, subst, arith}
 use Rattle.std.specs.Prelude.{IsTrue, drop}
-use Rattle.lan_base.specs.Device.{Move, Took, Empty, Allowed, Emitted, Denied}
+use Rattle.sim_link.specs.Device.{Move, Took, Empty, Allowed, Emitted, Denied}
 use Rattle.interface.specs.Polls.{Polls}
 use Rattle.interface.specs.State.{State, state}
-use Rattle.interface_egress.specs.Determined.{IsDetermined}
+use Rattle.iface_egress.specs.Determined.{IsDetermined}
 use Rattle.interface.specs.Steady.{IsSteady}
 use Rattle.interface.proofs.OneEnd.{OneOffer, one_poll}
-use Rattle.lan.specs.Worlds.AtLink.Port.{LinkEnd, PortValue, PortMove, has_leave}
-use Rattle.lan.specs.Worlds.AtLink.Station.{StationValue, at_port}
+use Rattle.lan.specs.Worlds.AtLink.Port.{LinkEnd, PortValue, PortMove, has_tx_token}
+use Rattle.lan.specs.Worlds.AtLink.Node.{NodeValue, at_port}
 use Rattle.lan.specs.Worlds.AtLink.Steps.{PollsAt}
 use Rattle.interface.proofs.Mapping.{IsMapped, polls_there}
 
@@ -16,9 +16,9 @@ use Rattle.interface.proofs.Mapping.{IsMapped, polls_there}
 
 -- the moves of a port that denies nothing, and takes frames of at most this length
 abbrev pub LinkMove : ℕ → LinkEnd → Move → LinkEnd → Type 0
-LinkMove longest old (Took t frame) new = IsTrue (has_leave old) × (old ≡ record new { waiting = frame ∷ new.waiting })
-LinkMove longest old (Empty t) new = (new ≡ old) × (IsTrue (has_leave old) → old.waiting ≡ [])
-LinkMove longest old (Allowed t leave) new = (new ≡ old) × (leave ≡ has_leave old)
+LinkMove longest old (Took t frame) new = IsTrue (has_tx_token old) × (old ≡ record new { waiting = frame ∷ new.waiting })
+LinkMove longest old (Empty t) new = (new ≡ old) × (IsTrue (has_tx_token old) → old.waiting ≡ [])
+LinkMove longest old (Allowed t leave) new = (new ≡ old) × (leave ≡ has_tx_token old)
 LinkMove longest old (Emitted frame) new = (new ≡ record old { sent = old.sent ++ frame ∷ []; room = old.room - 1 }) × (length frame ≤ longest)
 LinkMove longest old (Denied len) new = ⊥
 
@@ -44,7 +44,7 @@ module _ (longest : ℕ) where
     one_end = link_end here;
     one_frame = λ t one other frame again a b. head_is frame again one.waiting other.waiting (ap (λ (l : LinkEnd). l.waiting) (sym a.1 ∙ b.1));
     looks = λ t one other frame a b. some_none frame one.waiting (ap (λ (l : LinkEnd). l.waiting) (sym a.1) ∙ b.1 a.0);
-    gives = λ t one other a b. on_off (has_leave here) a.1 b.1;
+    gives = λ t one other a b. on_off (has_tx_token here) a.1 b.1;
     takes = λ one other frame short a b. b;
   }
 
@@ -63,7 +63,7 @@ total_more [] f = omega arith
 total_more (g ∷ fs) f = let more = total_more fs f in omega (arith, more)
 
 module _ (refusals longest : ℕ) where
-  -- so many were refused before, and no more behind, where all frames together aren't longer than this
+  -- so many were refused before, and no more after, where all frames together aren't longer than this
   abbrev Before : PortValue → Type 0
   Before p = refusals ≤ p.link.refusals
 
@@ -115,9 +115,9 @@ module _ (refusals longest : ℕ) where
   mapped : IsMapped (λ (p : PortValue). p.link) PortMove (LinkMove longest) Before After
   mapped = record { up = up; down = down; there = there }
 
-  link_polls : (s s' : StationValue) (t : ℤ) (budget : ℕ) (changed : Bool) → refusals ≡ s.link.refusals → total s'.link.sent ≤ longest →
+  link_polls : (s s' : NodeValue) (t : ℤ) (budget : ℕ) (changed : Bool) → refusals ≡ s.link.refusals → total s'.link.sent ≤ longest →
       PollsAt s t budget changed s'
-      → Polls (LinkMove longest) t budget (state s.link s.host s.places) changed (state s'.link s'.host s'.places)
+      → Polls (LinkMove longest) t budget (state s.link s.host s.slots) changed (state s'.link s'.host s'.slots)
   link_polls s s' t budget changed is short at =
       let before : Before at.port = subst (λ (l : LinkEnd). refusals ≤ l.refusals) (sym at.before) (omega (arith, is)) in
       let none = at.none_denied in
@@ -125,20 +125,20 @@ module _ (refusals longest : ℕ) where
         subst (λ (l : LinkEnd). l.refusals ≤ refusals) (sym at.after) (omega (arith, is, none)),
         subst (λ (l : LinkEnd). total l.sent ≤ longest) (sym at.after) short,
       ) in
-      subst (λ (l : LinkEnd). Polls (LinkMove longest) t budget (state l s.host s.places) changed (state s'.link s'.host s'.places)) at.before
-      (subst (λ (l : LinkEnd). Polls (LinkMove longest) t budget (state at.port.link s.host s.places) changed (state l s'.host s'.places)) at.after
+      subst (λ (l : LinkEnd). Polls (LinkMove longest) t budget (state l s.host s.slots) changed (state s'.link s'.host s'.slots)) at.before
+      (subst (λ (l : LinkEnd). Polls (LinkMove longest) t budget (state at.port.link s.host s.slots) changed (state l s'.host s'.slots)) at.after
       (polls_there (λ (p : PortValue). p.link) PortMove (LinkMove longest) Before After mapped t budget (at_port at.port s) (at_port at.port_after s') changed
       at.polls before after))
 
-abbrev station_of : State LinkEnd → StationValue
-station_of s = record { host = s.host; places = s.places; link = s.device }
+abbrev node_of : State LinkEnd → NodeValue
+node_of s = record { host = s.host; slots = s.slots; link = s.device }
 
-pub polls_once : OneOffer → (s one other : StationValue) (t : ℤ) (budget : ℕ) (a b : Bool) → PollsAt s t budget a one → PollsAt s t budget b other →
+pub polls_once : OneOffer → (s one other : NodeValue) (t : ℤ) (budget : ℕ) (a b : Bool) → PollsAt s t budget a one → PollsAt s t budget b other →
     (a ≡ b) × (one ≡ other)
 polls_once one_offer s one other t budget a b first second =
     let longest : ℕ = total one.link.sent + total other.link.sent in
     let left = link_polls s.link.refusals longest s one t budget a refl (omega arith) first in
     let right = link_polls s.link.refusals longest s other t budget b refl (omega arith) second in
-    let same = one_poll one_offer (LinkMove longest) longest (link_steady longest) t budget (state s.link s.host s.places) (state one.link one.host one.places)
-    (state other.link other.host other.places) a b (link_determined longest s.link) left right in
-    (same.1, ap station_of same.0)
+    let same = one_poll one_offer (LinkMove longest) longest (link_steady longest) t budget (state s.link s.host s.slots) (state one.link one.host one.slots)
+    (state other.link other.host other.slots) a b (link_determined longest s.link) left right in
+    (same.1, ap node_of same.0)

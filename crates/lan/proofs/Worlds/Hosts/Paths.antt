@@ -1,9 +1,9 @@
 -- What a list of touches makes of a port.
 use Rattle.std.proofs.Common.{◌≡◌, ℕ, ◌+◌, ◌-◌, ℤ, true, false, List, [], ◌∷◌, ◌++◌, length, Some, None, refl, sym, ap, ◌∙◌, append_assoc, append-nil, arith}
-use Rattle.interface_egress.specs.Departure.{Departure}
-use Rattle.interface_egress.specs.GoesOut.{frame_of}
+use Rattle.iface_egress.specs.Departure.{Departure}
+use Rattle.iface_egress.specs.IsTransmitted.{frame_of}
 use Rattle.interface.specs.Touches.{Touch, Looks, Leave, Sends, departed, Does, DoesAll}
-use Rattle.interface_tables.specs.Inner.{InnerValue}
+use Rattle.iface_tables.specs.Inner.{InnerValue}
 use Rattle.lan.specs.Worlds.AtLink.Port.{PortValue, PortMove}
 use Rattle.lan.specs.Worlds.Hosts.Machine.{frames_of}
 

@@ -4,13 +4,13 @@ use Rattle.std.proofs.Common.{length, reverse, Option, None, Some, refl, sym, ap
 use Rattle.std.specs.List.{AllByRecursion, filter_map, prefix_len, cons_option}
 use Rattle.std.proofs.lemmas.Bool.Decides.{nat_tests}
 use Rattle.std.proofs.lemmas.List.{reverse-append}
-use Rattle.interface_ingress.specs.AddressTests.{is_in_block, is_unicast, are_of_one_family}
-use Rattle.interface_ingress.specs.IpAddress.{IpAddress}
+use Rattle.iface_ingress.specs.AddressTests.{is_in_cidr, is_unicast, are_of_one_family}
+use Rattle.iface_ingress.specs.IpAddress.{IpAddress}
 use Rattle.interface.specs.QuietStep.{RoutesStay}
-use Rattle.interface_tables.specs.Best.{first_best}
-use Rattle.interface_tables.specs.Inner.{InnerValue, is_on_link}
-use Rattle.interface_tables.specs.Route.{is_expired, serving, is_longer, router_of, without, without_at}
-use Rattle.interface_tables.specs.declared.route.Route.{Route}
+use Rattle.iface_tables.specs.Best.{first_best}
+use Rattle.iface_tables.specs.Inner.{InnerValue, is_on_link}
+use Rattle.iface_tables.specs.Route.{is_expired, serving, is_longer, router_of, without, without_at}
+use Rattle.iface_tables.specs.declared.route.Route.{Route}
 use Rattle.lan.specs.Worlds.Hosts.Quiet.{IsOutside, NoneExpires}
 
 -- LISTS
@@ -45,7 +45,7 @@ same_expiry from until (Some end) up (inr after) =
 same_serving : (address : IpAddress) (from until : ℤ) (r : Route) → from ≤ℤ until → IsOutside from until r.expires_at →
     serving address until r ≡ serving address from r
 same_serving address from until r up out =
-    ap (λ (b : Bool). if is_in_block r.cidr address && not b && is_unicast r.via_router && are_of_one_family r.via_router address then Some r else None)
+    ap (λ (b : Bool). if is_in_cidr r.cidr address && not b && is_unicast r.via_router && are_of_one_family r.via_router address then Some r else None)
     (same_expiry from until r.expires_at up out)
 
 all_serve : (address : IpAddress) (from until : ℤ) (rs : List Route) → from ≤ℤ until → NoneExpires from until rs →
@@ -53,11 +53,11 @@ all_serve : (address : IpAddress) (from until : ℤ) (rs : List Route) → from 
 all_serve address from until [] up out = tt
 all_serve address from until (r ∷ rs) up out = (same_serving address from until r up out.0, all_serve address from until rs up out.1)
 
-pub routes_stay : (asked : InnerValue) (t : ℤ) → asked.moment ≤ℤ t → NoneExpires asked.moment t asked.routes → RoutesStay asked t
+pub routes_stay : (asked : InnerValue) (t : ℤ) → asked.instant ≤ℤ t → NoneExpires asked.instant t asked.routes → RoutesStay asked t
 routes_stay asked t up out address =
     ap (λ (rs : List Route). if is_on_link asked address then Some address else router_of (first_best is_longer rs))
-    (filter_same (serving address t) (serving address asked.moment) (reverse asked.routes)
-    (all_reverse (λ r. serving address t r ≡ serving address asked.moment r) asked.routes (all_serve address asked.moment t asked.routes up out)))
+    (filter_same (serving address t) (serving address asked.instant) (reverse asked.routes)
+    (all_reverse (λ r. serving address t r ≡ serving address asked.instant r) asked.routes (all_serve address asked.instant t asked.routes up out)))
 
 -- DEFAULT ROUTES
 

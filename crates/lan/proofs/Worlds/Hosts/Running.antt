@@ -9,29 +9,29 @@ use Rattle.lan.specs.Worlds.AtLink.Side.{Side}
 use Rattle.lan.specs.Worlds.AtLink.Side.TheVariants.{A, B}
 use Rattle.lan.specs.Worlds.AtLink.Origins.{frame_of_origin, origins_of, origins, sent_before, is_cut_of, own_frames}
 use Rattle.lan.specs.Worlds.AtLink.Runs.{Starts, start, unused, unused_both, WorldValue, Leads, WorldRun, counts_of, tables_in}
-use Rattle.lan.specs.Worlds.AtLink.Station.{StationValue, Stations, station}
-use Rattle.lan.specs.Worlds.Hosts.GoesOn.{GoesOn}
+use Rattle.lan.specs.Worlds.AtLink.Node.{NodeValue, Nodes, node}
+use Rattle.lan.specs.Worlds.Hosts.Proceeds.{Proceeds}
 use Rattle.lan.proofs.Worlds.Hosts.There.{AreThere}
 use Rattle.lan.specs.Worlds.Hosts.HostRuns.{Deed, deed_of, deed_in, deeds, frames_sent, frames_taken, IsHostRun}
-use Rattle.lan.specs.Worlds.Hosts.Machine.{Turn, Machine, machine_of, HostRun, room_after, room_behind}
+use Rattle.lan.specs.Worlds.Hosts.Machine.{Turn, Machine, machine_of, HostRun, room_after, room_following}
 use Rattle.lan.proofs.Worlds.Hosts.Acting.{IsTurn, is_turn, turn_of, step_of}
-use Rattle.lan.proofs.Worlds.Hosts.Moving.{HasActed, HasRested, moved, goes_on}
+use Rattle.lan.proofs.Worlds.Hosts.Moving.{HasActed, HasRested, moved, proceeds}
 use Rattle.lan.proofs.Worlds.Hosts.Staying.{allowed_there, all_same, still_there, origins_stay}
 
-abbrev pub world : Starts → List Entry → Stations → WorldValue
+abbrev pub world : Starts → List Entry → Nodes → WorldValue
 world starts history hosts = record { hosts = hosts; starts = starts; history = history }
 
 -- a host's run so far, which left so much room; and what was handed to it is there
 pub record IsNow (w : WorldValue) (side : Side) : Type 0 where
   pub run : IsHostRun w side
-  pub room : room_after (unused (start w.starts side)).link.room run.turns ≡ (station w.hosts side).link.room
+  pub room : room_after (unused (start w.starts side)).link.room run.turns ≡ (node w.hosts side).link.room
   pub there : AreThere w.hosts side w.history
 
 first : (starts : Starts) (side : Side) → IsNow (world starts [] (unused_both starts)) side
 first starts A = record { run = record { turns = []; run = refl; deeds_are = refl; sent = refl; taken = refl }; room = refl; there = tt }
 first starts B = record { run = record { turns = []; run = refl; deeds_are = refl; sent = refl; taken = refl }; room = refl; there = tt }
 
-sent_count : (hosts : Stations) (side : Side) → sent_before (counts_of hosts) side ≡ length (station hosts side).link.sent
+sent_count : (hosts : Nodes) (side : Side) → sent_before (counts_of hosts) side ≡ length (node hosts side).link.sent
 sent_count hosts A = refl
 sent_count hosts B = refl
 
@@ -40,19 +40,19 @@ acted_deed : (side : Side) (act : Act) (e : Entry) →
 acted_deed A act e = refl
 acted_deed B act e = refl
 
-module _ (starts : Starts) (past : List Entry) (old new : Stations) (e : Entry) (side : Side) (leads : Leads past old e new)
+module _ (starts : Starts) (past : List Entry) (old new : Nodes) (e : Entry) (side : Side) (leads : Leads past old e new)
     (now : IsNow (world starts past old) side) where
-  abbrev s : StationValue
-  s = station old side
+  abbrev s : NodeValue
+  s = node old side
 
-  abbrev s' : StationValue
-  s' = station new side
+  abbrev s' : NodeValue
+  s' = node new side
 
   abbrev k : Kind
   k = kind_of e.event
 
-  on : (side : Side) → GoesOn (station old side) (station new side)
-  on = goes_on past old new e leads
+  on : (side : Side) → Proceeds (node old side) (node new side)
+  on = proceeds past old new e leads
 
   counted : length s.link.sent ≡ sent_before e.before side
   counted = sym (ap (λ (c : Counts). sent_before c side) leads.counted ∙ sent_count old side)
@@ -118,7 +118,7 @@ module _ (starts : Starts) (past : List Entry) (old new : Stations) (e : Entry) 
         sent = acted_sent;
         taken = acted_taken;
       };
-      room = ap (λ (n : ℕ). room_behind acted.act n (length t.departures)) now.room ∙ sym t.room;
+      room = ap (λ (n : ℕ). room_following acted.act n (length t.departures)) now.room ∙ sym t.room;
       there = there_now;
     }
 
@@ -160,11 +160,11 @@ module _ (starts : Starts) (past : List Entry) (old new : Stations) (e : Entry) 
     by (inl acted) = acted_now acted
     by (inr rested) = rested_now rested
 
-pub nows : (starts : Starts) (history : List Entry) (hosts : Stations) → WorldRun history (unused_both starts) hosts → (side : Side) →
+pub nows : (starts : Starts) (history : List Entry) (hosts : Nodes) → WorldRun history (unused_both starts) hosts → (side : Side) →
     IsNow (world starts history hosts) side
-nows starts [] hosts run side = subst (λ (x : Stations). IsNow (world starts [] x) side) (sym run) (first starts side)
+nows starts [] hosts run side = subst (λ (x : Nodes). IsNow (world starts [] x) side) (sym run) (first starts side)
 nows starts (e ∷ past) hosts run side = next starts past run.0 hosts e side run.2 (nows starts past run.0 run.1 side)
 
-pub host_runs : (starts : Starts) (history : List Entry) (hosts : Stations) (side : Side) → WorldRun history (unused_both starts) hosts →
+pub host_runs : (starts : Starts) (history : List Entry) (hosts : Nodes) (side : Side) → WorldRun history (unused_both starts) hosts →
     IsHostRun (world starts history hosts) side
 host_runs starts history hosts side run = (nows starts history hosts run side).run

@@ -5,9 +5,9 @@ use Rattle.std.specs.Prelude.{slice_index_or}
 use Rattle.std.specs.List.{AllByRecursion}
 use Rattle.std.proofs.lemmas.Bool.Decides.{nat_tests}
 use Rattle.std.proofs.lemmas.List.{map-append, get_or_append_left, length-append}
-use Rattle.lan_base.specs.DeviceCapabilities.{DeviceCapabilities}
-use Rattle.lan_base.specs.Medium.{Medium}
-use Rattle.lan_base.specs.Parts.{tcp_part}
+use Rattle.sim_link.specs.DeviceCapabilities.{DeviceCapabilities}
+use Rattle.sim_link.specs.Medium.{Medium}
+use Rattle.sim_link.specs.Parts.{tcp_part}
 use Rattle.lan.specs.Worlds.AtLink.History.{Entry}
 use Rattle.lan.specs.Worlds.AtLink.Kinds.{Kind, Origin, Delivered, Damaged, Noisy, same_side, kind_of}
 use Rattle.lan.specs.Worlds.AtLink.Kinds.Kind.{OfHost, OfLink}
@@ -16,8 +16,8 @@ use Rattle.lan.specs.Worlds.AtLink.Refused.TheVariants as For
 use Rattle.lan.specs.Worlds.AtLink.Side.{Side}
 use Rattle.lan.specs.Worlds.AtLink.Origins.{medium_of, frame_sent, damaged_in, frame_of_origin, goes_to, origins_of, origins}
 use Rattle.lan.specs.Worlds.AtLink.Refusals.{Tables, is_no_frame, segment_tests, refusal}
-use Rattle.lan.specs.Worlds.AtLink.Station.{Stations, station}
-use Rattle.lan.specs.Worlds.Hosts.GoesOn.{GoesOn}
+use Rattle.lan.specs.Worlds.AtLink.Node.{Nodes, node}
+use Rattle.lan.specs.Worlds.Hosts.Proceeds.{Proceeds}
 use Rattle.lan.proofs.Worlds.Hosts.There.{IsThere, AreThere}
 use Rattle.lan.proofs.Worlds.Hosts.Acting.{not_refused}
 
@@ -26,20 +26,20 @@ among k n is = grind (arith, nat_tests)
 
 -- WHAT IS ALLOWED IS THERE
 
-pub origin_there : (hosts : Stations) (tables : Tables) (o : Origin) → refusal hosts tables (OfLink (Hands o)) ≡ None → IsThere hosts o
+pub origin_there : (hosts : Nodes) (tables : Tables) (o : Origin) → refusal hosts tables (OfLink (Hands o)) ≡ None → IsThere hosts o
 origin_there hosts tables (Delivered from k padding) is =
-    among k (length (station hosts from).link.sent) (not_refused (is_no_frame (station hosts from) k) For.NoFrame [] is).0
-origin_there hosts tables (Damaged from k place word padding) is =
-    among k (length (station hosts from).link.sent)
-    (not_refused (is_no_frame (station hosts from) k) For.NoFrame
-    (segment_tests (frame_sent hosts from k) (tcp_part (medium_of (station hosts from)) (frame_sent hosts from k)) place word) is).0
+    among k (length (node hosts from).link.sent) (not_refused (is_no_frame (node hosts from) k) For.NoFrame [] is).0
+origin_there hosts tables (Damaged from k slot word padding) is =
+    among k (length (node hosts from).link.sent)
+    (not_refused (is_no_frame (node hosts from) k) For.NoFrame
+    (segment_tests (frame_sent hosts from k) (tcp_part (medium_of (node hosts from)) (frame_sent hosts from k)) slot word) is).0
 origin_there hosts tables (Noisy to bytes) is = tt
 
-if_there : (hosts : Stations) (o : Origin) (b : Bool) → IsThere hosts o → AllByRecursion (IsThere hosts) (if b then o ∷ [] else [])
+if_there : (hosts : Nodes) (o : Origin) (b : Bool) → IsThere hosts o → AllByRecursion (IsThere hosts) (if b then o ∷ [] else [])
 if_there hosts o true there = (there, tt)
 if_there hosts o false there = tt
 
-pub allowed_there : (hosts : Stations) (tables : Tables) (side : Side) (k : Kind) → refusal hosts tables k ≡ None →
+pub allowed_there : (hosts : Nodes) (tables : Tables) (side : Side) (k : Kind) → refusal hosts tables k ≡ None →
     AllByRecursion (IsThere hosts) (origins_of side k)
 allowed_there hosts tables side (OfHost s act) is = tt
 allowed_there hosts tables side (OfLink (Cuts from k at)) is = tt
@@ -47,30 +47,30 @@ allowed_there hosts tables side (OfLink (Hands o)) is = if_there hosts o (same_s
 
 -- WHAT IS THERE STAYS
 
-module _ (old new : Stations) (on : (side : Side) → GoesOn (station old side) (station new side)) where
-  pub sent_stays : (from : Side) (k : ℕ) → k < length (station old from).link.sent → frame_sent new from k ≡ frame_sent old from k
+module _ (old new : Nodes) (on : (side : Side) → Proceeds (node old side) (node new side)) where
+  pub sent_stays : (from : Side) (k : ℕ) → k < length (node old from).link.sent → frame_sent new from k ≡ frame_sent old from k
   sent_stays from k below =
-      ap (λ (xs : List (List ℕ)). slice_index_or xs k []) (on from).sent ∙ get_or_append_left (station old from).link.sent (on from).more [] k below
+      ap (λ (xs : List (List ℕ)). slice_index_or xs k []) (on from).sent ∙ get_or_append_left (node old from).link.sent (on from).more [] k below
 
-  pub medium_stays : (from : Side) → medium_of (station new from) ≡ medium_of (station old from)
+  pub medium_stays : (from : Side) → medium_of (node new from) ≡ medium_of (node old from)
   medium_stays from = ap (λ (c : DeviceCapabilities). c.medium) (on from).capabilities
 
   pub origin_same : (o : Origin) → IsThere old o → frame_of_origin new o ≡ frame_of_origin old o
   origin_same (Delivered from k padding) there = ap (λ (f : List ℕ). f ++ padding) (sent_stays from k there)
-  origin_same (Damaged from k place word padding) there =
-      ap (λ (m : Medium). damaged_in (tcp_part m (frame_sent new from k)) (frame_sent new from k) place word ++ padding) (medium_stays from)
-      ∙ ap (λ (f : List ℕ). damaged_in (tcp_part (medium_of (station old from)) f) f place word ++ padding) (sent_stays from k there)
+  origin_same (Damaged from k slot word padding) there =
+      ap (λ (m : Medium). damaged_in (tcp_part m (frame_sent new from k)) (frame_sent new from k) slot word ++ padding) (medium_stays from)
+      ∙ ap (λ (f : List ℕ). damaged_in (tcp_part (medium_of (node old from)) f) f slot word ++ padding) (sent_stays from k there)
   origin_same (Noisy to bytes) there = refl
 
-  more_sent : (from : Side) (k : ℕ) → k < length (station old from).link.sent → k < length (station new from).link.sent
+  more_sent : (from : Side) (k : ℕ) → k < length (node old from).link.sent → k < length (node new from).link.sent
   more_sent from k below =
-      let longer : length (station new from).link.sent ≡ length (station old from).link.sent + length (on from).more =
-      ap (λ (xs : List (List ℕ)). length xs) (on from).sent ∙ length-append (station old from).link.sent (on from).more in
+      let longer : length (node new from).link.sent ≡ length (node old from).link.sent + length (on from).more =
+      ap (λ (xs : List (List ℕ)). length xs) (on from).sent ∙ length-append (node old from).link.sent (on from).more in
       omega (arith, longer, below)
 
   pub there_still : (o : Origin) → IsThere old o → IsThere new o
   there_still (Delivered from k padding) there = more_sent from k there
-  there_still (Damaged from k place word padding) there = more_sent from k there
+  there_still (Damaged from k slot word padding) there = more_sent from k there
   there_still (Noisy to bytes) there = tt
 
   pub all_same : (os : List Origin) → AllByRecursion (IsThere old) os → map (frame_of_origin new) os ≡ map (frame_of_origin old) os

@@ -1,47 +1,47 @@
 -- What a host answers asks for no neighbour: echoes, errors, advertisements and segments.
 use Rattle.std.specs.Prelude.{◌&&◌, ◌||◌, slice_get}
 use Rattle.std.proofs.Common.{ℕ, Bool, true, false, if◌then◌else◌, List, length, Option, Some, None, IfSome, is_some}
-use Rattle.interface_ingress.specs.Icmpv4Header.{Icmpv4Header}
-use Rattle.interface_ingress.specs.Icmpv4Header.TheVariants as V4
-use Rattle.interface_ingress.specs.Icmpv6 as Icmpv6
-use Rattle.interface_ingress.specs.Icmpv6.{MessageValue}
+use Rattle.iface_ingress.specs.Icmpv4Header.{Icmpv4Header}
+use Rattle.iface_ingress.specs.Icmpv4Header.TheVariants as V4
+use Rattle.iface_ingress.specs.Icmpv6 as Icmpv6
+use Rattle.iface_ingress.specs.Icmpv6.{MessageValue}
 use Rattle.lan.specs.Worlds.AtLink.Icmpv6DstUnreachable.TheVariants as V6Reason
 use Rattle.lan.specs.Worlds.AtLink.Ndisc.{NeighborMessage, Solicitation, Advertisement}
-use Rattle.interface_ingress.specs.Behind.{Behind}
-use Rattle.interface_ingress.specs.Behind.TheVariants as End
-use Rattle.interface_ingress.specs.Delivered.{datagram_place, packet_by, answer_of, answer_in, answer_by, segment_place, segment_answer_at, segment_answer}
-use Rattle.interface_ingress.specs.EthernetAddress.{EthernetAddress}
-use Rattle.interface_ingress.specs.Handed.{control_v4_reply, control_v6_reply, message_reply, handed_reply, is_known_v4, is_unknown, names_nobody, unread_v6}
-use Rattle.interface_ingress.specs.Handed.{unread_reply}
-use Rattle.interface_ingress.specs.HardwareAddress.{HardwareAddress}
-use Rattle.interface_ingress.specs.HardwareAddress.TheVariants as Hardware
-use Rattle.interface_ingress.specs.Headers.{go_through, carries_error}
-use Rattle.interface_ingress.specs.Heard.{neighbor_heard, Heard, heard, heard_on, counts, tells, learned, advertised, answer, advertisement, is_asked}
-use Rattle.interface_ingress.specs.Reassembled.{is_control_v6}
-use Rattle.interface_ingress.specs.Replies.{sent_v4, port_unreachable, protocol_unreachable, parameter_problem, is_told, reason_of, source_of_reply}
-use Rattle.interface_ingress.specs.Replies.{reply_v6, is_between_hosts, quoted_v4}
-use Rattle.interface_ingress.specs.Replies.{quoted_v6}
+use Rattle.iface_ingress.specs.Following.{Following}
+use Rattle.iface_ingress.specs.Following.TheVariants as End
+use Rattle.iface_ingress.specs.Delivered.{datagram_slot, packet_by, answer_of, answer_in, answer_by, segment_slot, segment_answer_at, segment_answer}
+use Rattle.iface_ingress.specs.EthernetAddress.{EthernetAddress}
+use Rattle.iface_ingress.specs.Processed.{control_v4_reply, control_v6_reply, message_reply, handed_reply, is_known_v4, is_unknown, names_no_endpoint, unread_v6}
+use Rattle.iface_ingress.specs.Processed.{unread_reply}
+use Rattle.iface_ingress.specs.HardwareAddress.{HardwareAddress}
+use Rattle.iface_ingress.specs.HardwareAddress.TheVariants as Hardware
+use Rattle.iface_ingress.specs.Headers.{go_through, carries_error}
+use Rattle.iface_ingress.specs.Ndisc.{neighbor_learned, Heard, heard, heard_on, asks_host, tells, learned, advertised, answer, advertisement, is_asked}
+use Rattle.iface_ingress.specs.Reassembled.{is_control_v6}
+use Rattle.iface_ingress.specs.Replies.{sent_v4, port_unreachable, protocol_unreachable, parameter_problem, is_told, reason_of, source_of_reply}
+use Rattle.iface_ingress.specs.Replies.{reply_v6, is_between_hosts, quoted_v4}
+use Rattle.iface_ingress.specs.Replies.{quoted_v6}
 use Rattle.interface.specs.IpRepr.{IpRepr}
 use Rattle.interface.specs.IpRepr.TheVariants as Ip
 use Rattle.interface.specs.Ipv6Repr.{Ipv6Repr}
-use Rattle.interface_ingress.specs.Ipv4Address.{Ipv4Address}
-use Rattle.interface_ingress.specs.Ipv6Address.{Ipv6Address}
-use Rattle.interface_egress.specs.declared.socket_set.Item.{Item}
-use Rattle.interface_egress.specs.declared.socket_set.SocketStorage.{SocketStorage}
-use Rattle.interface_tables.specs.Inner.{InnerValue, context_of}
-use Rattle.ip_tcp.specs.declared.header.TcpHeader.{TcpHeader}
+use Rattle.iface_ingress.specs.Ipv4Address.{Ipv4Address}
+use Rattle.iface_ingress.specs.Ipv6Address.{Ipv6Address}
+use Rattle.iface_egress.specs.declared.socket_set.Item.{Item}
+use Rattle.iface_egress.specs.declared.socket_set.SocketStorage.{SocketStorage}
+use Rattle.iface_tables.specs.Inner.{InnerValue, context_of}
+use Rattle.wire_tcp.specs.declared.header.TcpHeader.{TcpHeader}
 use Rattle.sockets.specs.Context.{ContextValue}
 use Rattle.sockets.specs.Packet.{PacketValue, PayloadValue, ControlV4, ControlV6, Bytes, Datagram, Segment}
 use Rattle.sockets.specs.declared.socket.Socket.{Socket}
 use Rattle.sockets.specs.declared.socket.Socket.TheVariants as Is
-use Rattle.tcp_model.specs.Arrival.{arrives}
-use Rattle.tcp_model.specs.Controls.{is_rst}
-use Rattle.tcp_model.specs.Reply.{Reply}
-use Rattle.tcp_model.specs.Segments.{rst_reply}
-use Rattle.lan.specs.Worlds.Moves.Protocols.{NamesBehind, NamesItsPayload}
+use Rattle.tcp_block.specs.Arrival.{arrives}
+use Rattle.tcp_block.specs.Controls.{is_rst}
+use Rattle.tcp_block.specs.Reply.{Reply}
+use Rattle.tcp_block.specs.Segments.{rst_reply}
+use Rattle.lan.specs.Worlds.Moves.Protocols.{NamesFollowing, NamesItsPayload}
 use Rattle.lan.proofs.Worlds.Hosts.WireReplies.{RepliesMayGo}
 use Rattle.lan.proofs.Worlds.Hosts.WireTests.{AsksNobody, IsNoSolicitation}
-use Rattle.lan.proofs.Worlds.Moves.Places.{Places}
+use Rattle.lan.proofs.Worlds.Moves.Slots.{Slots}
 use Rattle.lan.proofs.Worlds.Moves.Protocols.{replied_names}
 
 -- a segment, or a message that asks for no neighbour
@@ -86,14 +86,14 @@ heard_if false h i free = tt
 heard_free : (hardware : HardwareAddress) (i : InnerValue) (header : Ipv6Repr) (message : NeighborMessage) → Free (heard_on hardware i header message).reply
 heard_free Hardware.Ip i header message = tt
 heard_free (Hardware.Ethernet own) i header (Solicitation target link) =
-    heard_if (counts header target link) (heard (learned i header.src_addr link) (answer own i header target)) i
+    heard_if (asks_host i header target link) (heard (learned i header.src_addr link) (answer own i header target)) i
     (answer_free (is_asked i header target) own target header.src_addr)
 heard_free (Hardware.Ethernet own) i header (Advertisement flags target link) =
     heard_if (tells header flags target link) (heard (advertised i flags target link) None) i tt
 
 message_free : (i : InnerValue) (header : Ipv6Repr) (message : MessageValue) (bytes : List ℕ) → Free (message_reply i header message bytes)
 message_free i header (Icmpv6.Ndisc message) bytes =
-    kept_if (is_control_v6 header.next_header) (neighbor_heard i header message).reply (heard_free i.hardware i header message)
+    kept_if (is_control_v6 header.next_header) (neighbor_learned i header message).reply (heard_free i.hardware i header message)
 message_free i header (Icmpv6.EchoRequest ident seq_no) bytes = tt
 message_free i header message bytes = tt
 
@@ -113,11 +113,11 @@ port_free i (Ip.Ipv4 header) payload = sent_free _ header.src_addr _ (quoted_v4 
 port_free i (Ip.Ipv6 header) payload =
     error_free (is_between_hosts header) i header (Icmpv6.DstUnreachable V6Reason.PortUnreachable header) (quoted_v6 payload) tt
 
-headers_free : (i : InnerValue) (header : Ipv6Repr) (payload : List ℕ) (taken : Bool) (behind : Behind) → Free (unread_v6 i header payload taken behind)
+headers_free : (i : InnerValue) (header : Ipv6Repr) (payload : List ℕ) (taken : Bool) (following : Following) → Free (unread_v6 i header payload taken following)
 headers_free i header payload taken (End.Problem problem pointer) =
     free_if ((is_unknown problem && taken) || carries_error header.next_header payload) (parameter_problem i header payload problem pointer)
     (error_free (is_told problem header) i header (Icmpv6.ParamProblem (reason_of problem) pointer header) (quoted_v6 payload) tt)
-headers_free i header payload taken behind = tt
+headers_free i header payload taken following = tt
 
 unread_free : (i : InnerValue) (ip : IpRepr) (payload : List ℕ) (taken : Bool) → Free (unread_reply i ip payload taken)
 unread_free i (Ip.Ipv4 header) payload taken =
@@ -143,31 +143,31 @@ module _ (cx : ContextValue) (ip : IpRepr) (header : TcpHeader) (bytes : List �
   by_item None = tt
   by_item (Some item) = by_socket item.socket
 
-  by_place : (o : Option (SocketStorage Socket)) → Free (answer_by (answer_of cx ip header bytes) o)
-  by_place None = tt
-  by_place (Some place) = by_item place.inner
+  by_slot : (o : Option (SocketStorage Socket)) → Free (answer_by (answer_of cx ip header bytes) o)
+  by_slot None = tt
+  by_slot (Some slot) = by_item slot.inner
 
-  by_answer : (at : Option ℕ) (taken : Bool) (places : Places) → Free (segment_answer_at at cx ip header bytes taken places)
-  by_answer None taken places =
+  by_answer : (at : Option ℕ) (taken : Bool) (slots : Slots) → Free (segment_answer_at at cx ip header bytes taken slots)
+  by_answer None taken slots =
       let reset : Option Reply = Some (rst_reply ip header (length bytes)) in
       free_if (taken || is_rst header.control) (packet_by reset) (segment_free reset)
-  by_answer (Some at) taken places = by_place (slice_get places at)
+  by_answer (Some at) taken slots = by_slot (slice_get slots at)
 
 -- ALL
 
-replied_free : (i : InnerValue) (places : Places) (ip : IpRepr) (payload : List ℕ) (taken : Bool) (carried : Option PayloadValue) →
-    Free (handed_reply i places ip payload taken carried)
-replied_free i places ip payload taken None = unread_free i ip payload taken
-replied_free i places ip payload taken (Some (ControlV4 message bytes)) = v4_free i ip message bytes
-replied_free i places ip payload taken (Some (ControlV6 message bytes)) = v6_free i ip message bytes
-replied_free i places ip payload taken (Some (Bytes bytes)) = tt
-replied_free i places ip payload taken (Some (Datagram udp bytes)) =
-    free_if (is_some (datagram_place (context_of i) ip udp places) || taken) (port_unreachable i ip payload) (port_free i ip payload)
-replied_free i places ip payload taken (Some (Segment header bytes)) =
-    free_if (names_nobody i ip) (segment_answer (context_of i) ip header bytes taken places)
-    (by_answer (context_of i) ip header bytes (segment_place ip header places) taken places)
+replied_free : (i : InnerValue) (slots : Slots) (ip : IpRepr) (payload : List ℕ) (taken : Bool) (carried : Option PayloadValue) →
+    Free (handed_reply i slots ip payload taken carried)
+replied_free i slots ip payload taken None = unread_free i ip payload taken
+replied_free i slots ip payload taken (Some (ControlV4 message bytes)) = v4_free i ip message bytes
+replied_free i slots ip payload taken (Some (ControlV6 message bytes)) = v6_free i ip message bytes
+replied_free i slots ip payload taken (Some (Bytes bytes)) = tt
+replied_free i slots ip payload taken (Some (Datagram udp bytes)) =
+    free_if (is_some (datagram_slot (context_of i) ip udp slots) || taken) (port_unreachable i ip payload) (port_free i ip payload)
+replied_free i slots ip payload taken (Some (Segment header bytes)) =
+    free_if (names_no_endpoint i ip) (segment_answer (context_of i) ip header bytes taken slots)
+    (by_answer (context_of i) ip header bytes (segment_slot ip header slots) taken slots)
 
-asks_nobody : (h : IpRepr) (x : PayloadValue) → Answering x → NamesBehind h x → AsksNobody h x
+asks_nobody : (h : IpRepr) (x : PayloadValue) → Answering x → NamesFollowing h x → AsksNobody h x
 asks_nobody h (ControlV4 message bytes) free named = named.1
 asks_nobody h (ControlV6 message bytes) free named = free
 asks_nobody h (Bytes bytes) free named = absurd free
@@ -179,5 +179,5 @@ both None free named = tt
 both (Some p) free named = asks_nobody p.header p.payload free named
 
 pub port_replies : RepliesMayGo AsksNobody
-port_replies i places ip payload taken carried =
-    both (handed_reply i places ip payload taken carried) (replied_free i places ip payload taken carried) (replied_names i places ip payload taken carried)
+port_replies i slots ip payload taken carried =
+    both (handed_reply i slots ip payload taken carried) (replied_free i slots ip payload taken carried) (replied_names i slots ip payload taken carried)

@@ -3,24 +3,24 @@ use Rattle.std.proofs.Common.{ℕ, Bool, true, false, cond, List, Option, Some, 
 use Rattle.std.specs.Prelude.{◌||◌}
 use Rattle.interface.specs.IpRepr.{IpRepr}
 use Rattle.interface.specs.IpRepr.TheVariants as Ip
-use Rattle.interface_ingress.specs.Arp as Arps
-use Rattle.interface_ingress.specs.Arp.{answer_at}
-use Rattle.interface_ingress.specs.ArpRepr.{ArpRepr}
-use Rattle.interface_ingress.specs.ArpRepr.TheVariants as ArpIs
-use Rattle.interface_ingress.specs.Arrives.{Arrived, ArrivesV4, ArrivesV6, Brings, Hands, ReplyValue, Tells, Answers, told, answered, renewed}
-use Rattle.interface_ingress.specs.Delivered.{packet_delivered, is_taken_raw}
-use Rattle.interface_ingress.specs.EthernetRepr.{EthernetRepr}
-use Rattle.interface_ingress.specs.Handed.{handed_reply, is_unclaimed, limited_reply}
-use Rattle.interface_ingress.proofs.Limit.{let_go_so}
-use Rattle.interface_ingress.specs.HardwareAddress.{HardwareAddress}
-use Rattle.interface_ingress.specs.HardwareAddress.TheVariants as Hardware
-use Rattle.interface_ingress.specs.Incoming.{IncomingValue, Arp, Ip4, Ip6}
-use Rattle.interface_ingress.specs.IpAddress.TheVariants as Address
-use Rattle.interface_tables.specs.Inner.{InnerValue, is_for_us}
+use Rattle.iface_ingress.specs.Arp as Arps
+use Rattle.iface_ingress.specs.Arp.{answer_at}
+use Rattle.iface_ingress.specs.ArpRepr.{ArpRepr}
+use Rattle.iface_ingress.specs.ArpRepr.TheVariants as ArpIs
+use Rattle.iface_ingress.specs.Arrives.{Arrived, ArrivesV4, ArrivesV6, Brings, Hands, ReplyValue, Tells, Answers, told, answered, renewed}
+use Rattle.iface_ingress.specs.Delivered.{packet_delivered, is_taken_raw}
+use Rattle.iface_ingress.specs.EthernetRepr.{EthernetRepr}
+use Rattle.iface_ingress.specs.Processed.{handed_reply, is_unclaimed, limited_reply}
+use Rattle.iface_ingress.proofs.Limit.{let_go_so}
+use Rattle.iface_ingress.specs.HardwareAddress.{HardwareAddress}
+use Rattle.iface_ingress.specs.HardwareAddress.TheVariants as Hardware
+use Rattle.iface_ingress.specs.Incoming.{IncomingValue, Arp, Ip4, Ip6}
+use Rattle.iface_ingress.specs.IpAddress.TheVariants as Address
+use Rattle.iface_tables.specs.Inner.{InnerValue, is_for_us}
 use Rattle.lan.specs.Worlds.AtLink.ArpOperation.TheVariants as Operation
 use Rattle.sockets.specs.Packet.{PacketValue, PayloadValue}
 use Rattle.lan.proofs.Worlds.Hosts.WireFrames.{IsReply}
-use Rattle.lan.proofs.Worlds.Moves.Places.{Places}
+use Rattle.lan.proofs.Worlds.Moves.Slots.{Slots}
 
 module _ (May : IpRepr → PayloadValue → Type 0) where
   abbrev MayGo : PacketValue → Type 0
@@ -28,8 +28,8 @@ module _ (May : IpRepr → PayloadValue → Type 0) where
 
   -- whatever is handed to a host, its answer may go
   abbrev pub RepliesMayGo : Type 0
-  RepliesMayGo = (i : InnerValue) (places : Places) (ip : IpRepr) (payload : List ℕ) (taken : Bool) (carried : Option PayloadValue)
-      → IfSome (handed_reply i places ip payload taken carried) MayGo
+  RepliesMayGo = (i : InnerValue) (slots : Slots) (ip : IpRepr) (payload : List ℕ) (taken : Bool) (carried : Option PayloadValue)
+      → IfSome (handed_reply i slots ip payload taken carried) MayGo
 
   abbrev pub MayReply : ReplyValue → Type 0
   MayReply (Tells packet) = IsReply packet
@@ -53,28 +53,28 @@ module _ (May : IpRepr → PayloadValue → Type 0) where
   answered_may (Some p) may = may
 
   module _ (replies : RepliesMayGo) where
-    hands_may : (i : InnerValue) (places : Places) (ip : IpRepr) (payload : List ℕ) (taken : Bool) (a : Arrived) → Hands i places ip payload taken a →
+    hands_may : (i : InnerValue) (slots : Slots) (ip : IpRepr) (payload : List ℕ) (taken : Bool) (a : Arrived) → Hands i slots ip payload taken a →
         MayBeReply a.reply
-    hands_may i places ip payload taken a (carried, is, so) =
+    hands_may i slots ip payload taken a (carried, is, so) =
         subst MayBeReply (sym so.reply)
-        (answered_may (limited_reply i places ip payload taken carried)
-        (let_go_so MayGo (is_unclaimed i places ip carried) i (handed_reply i places ip payload taken carried) (replies i places ip payload taken carried)))
+        (answered_may (limited_reply i slots ip payload taken carried)
+        (let_go_so MayGo (is_unclaimed i slots ip carried) i (handed_reply i slots ip payload taken carried) (replies i slots ip payload taken carried)))
 
-    v4_may : (ours : Bool) (i : InnerValue) (places : Places) (link : Option EthernetRepr) (ip : IpRepr) (payload : List ℕ) (a : Arrived) →
-        ArrivesV4 ours i places link ip payload a → MayBeReply a.reply
-    v4_may true i places link ip payload a is = hands_may (renewed i link ip) (packet_delivered ip payload places) ip payload (is_taken_raw ip places) a is
-    v4_may false i places link ip payload a is = subst MayBeReply (sym is.reply) tt
+    v4_may : (ours : Bool) (i : InnerValue) (slots : Slots) (link : Option EthernetRepr) (ip : IpRepr) (payload : List ℕ) (a : Arrived) →
+        ArrivesV4 ours i slots link ip payload a → MayBeReply a.reply
+    v4_may true i slots link ip payload a is = hands_may (renewed i link ip) (packet_delivered ip payload slots) ip payload (is_taken_raw ip slots) a is
+    v4_may false i slots link ip payload a is = subst MayBeReply (sym is.reply) tt
 
-    v6_may : (ours : Bool) (i : InnerValue) (places : Places) (link : Option EthernetRepr) (ip : IpRepr) (payload : List ℕ) (a : Arrived) →
-        ArrivesV6 ours i places link ip payload a → MayBeReply a.reply
-    v6_may true i places link ip payload a is = hands_may (renewed i link ip) (packet_delivered ip payload places) ip payload (is_taken_raw ip places) a is
-    v6_may false i places link ip payload a is = subst MayBeReply (sym is.reply) tt
+    v6_may : (ours : Bool) (i : InnerValue) (slots : Slots) (link : Option EthernetRepr) (ip : IpRepr) (payload : List ℕ) (a : Arrived) →
+        ArrivesV6 ours i slots link ip payload a → MayBeReply a.reply
+    v6_may true i slots link ip payload a is = hands_may (renewed i link ip) (packet_delivered ip payload slots) ip payload (is_taken_raw ip slots) a is
+    v6_may false i slots link ip payload a is = subst MayBeReply (sym is.reply) tt
 
-    pub brings_may : (i : InnerValue) (places : Places) (content : Option IncomingValue) (a : Arrived) → Brings i places content a → MayBeReply a.reply
-    brings_may i places None a is = subst MayBeReply (sym is.reply) tt
-    brings_may i places (Some (Arp link packet)) a is =
+    pub brings_may : (i : InnerValue) (slots : Slots) (content : Option IncomingValue) (a : Arrived) → Brings i slots content a → MayBeReply a.reply
+    brings_may i slots None a is = subst MayBeReply (sym is.reply) tt
+    brings_may i slots (Some (Arp link packet)) a is =
         subst MayBeReply (sym is.reply) (answer_by (Arps.counts i packet || Arps.probes i packet) i.hardware packet)
-    brings_may i places (Some (Ip4 link header piece payload)) a is =
-        v4_may (is_for_us i (Address.Ipv4 header.dst_addr)) i places link (Ip.Ipv4 header) payload a is
-    brings_may i places (Some (Ip6 link header payload)) a is =
-        v6_may (is_for_us i (Address.Ipv6 header.dst_addr)) i places link (Ip.Ipv6 header) payload a is
+    brings_may i slots (Some (Ip4 link header fragment payload)) a is =
+        v4_may (is_for_us i (Address.Ipv4 header.dst_addr)) i slots link (Ip.Ipv4 header) payload a is
+    brings_may i slots (Some (Ip6 link header payload)) a is =
+        v6_may (is_for_us i (Address.Ipv6 header.dst_addr)) i slots link (Ip.Ipv6 header) payload a is

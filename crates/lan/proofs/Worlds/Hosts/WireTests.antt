@@ -3,15 +3,15 @@ use Rattle.std.proofs.Common.{◌≡◌, ℕ, ◌+◌, ◌==◌, ◌&&◌, ◌||
 use Rattle.std.proofs.Common.{refl, sym, ◌∙◌}
 use Rattle.std.proofs.Common.{ap, subst}
 use Rattle.std.proofs.lemmas.List.{drop_at}
-use Rattle.interface_ingress.specs.Fields.{be16}
-use Rattle.interface_ingress.specs.Icmpv4Header.{Icmpv4Header}
-use Rattle.interface_ingress.specs.Icmpv6 as Icmpv6
-use Rattle.interface_ingress.specs.Icmpv6.{MessageValue}
-use Rattle.interface_ingress.specs.IpAddress.{IpAddress}
-use Rattle.interface_ingress.specs.IpProtocol.{IpProtocol}
-use Rattle.interface_ingress.specs.IpProtocol.TheVariants as Protocol
-use Rattle.interface_ingress.specs.Sent.{IsV4}
-use Rattle.interface.specs.Turn.{with_source}
+use Rattle.iface_ingress.specs.Fields.{be16}
+use Rattle.iface_ingress.specs.Icmpv4Header.{Icmpv4Header}
+use Rattle.iface_ingress.specs.Icmpv6 as Icmpv6
+use Rattle.iface_ingress.specs.Icmpv6.{MessageValue}
+use Rattle.iface_ingress.specs.IpAddress.{IpAddress}
+use Rattle.iface_ingress.specs.IpProtocol.{IpProtocol}
+use Rattle.iface_ingress.specs.IpProtocol.TheVariants as Protocol
+use Rattle.iface_ingress.specs.Sent.{IsV4}
+use Rattle.interface.specs.Serve.{with_source}
 use Rattle.interface.specs.Ip.{carried_in}
 use Rattle.interface.specs.IpRepr.{IpRepr}
 use Rattle.interface.specs.IpRepr.TheVariants as Ip
@@ -19,35 +19,35 @@ use Rattle.interface.specs.Ipv4Repr.{Ipv4Repr}
 use Rattle.interface.specs.Ipv6 as Ipv6
 use Rattle.interface.specs.Ipv6Repr.{Ipv6Repr}
 use Rattle.interface.specs.UdpRepr.{UdpRepr}
-use Rattle.ip_address.specs.Protocol.{protocol_number}
-use Rattle.ip_tcp.specs.declared.header.TcpHeader.{TcpHeader}
-use Rattle.lan_base.proofs.Named.{byte_behind}
+use Rattle.wire_address.specs.Protocol.{protocol_number}
+use Rattle.wire_tcp.specs.declared.header.TcpHeader.{TcpHeader}
+use Rattle.sim_link.proofs.Named.{byte_following}
 use Rattle.lan.specs.Worlds.AtLink.Call.{SocketCall}
 use Rattle.lan.specs.Worlds.AtLink.Does.{does}
-use Rattle.interface_ingress.specs.Handed.{handed_reply}
-use Rattle.interface_egress.specs.declared.socket_set.Item.{Item}
+use Rattle.iface_ingress.specs.Processed.{handed_reply}
+use Rattle.iface_egress.specs.declared.socket_set.Item.{Item}
 use Rattle.lan.specs.Worlds.AtLink.Calls.{Did, tcp_does, udp_does}
 use Rattle.lan.specs.Worlds.AtLink.Ndisc.{Solicitation, Advertisement}
-use Rattle.net_containers.specs.Packets.{first}
+use Rattle.base_buffer.specs.Packets.{first}
 use Rattle.sockets.specs.Context.{ContextValue}
 use Rattle.sockets.specs.Offer as Answer
 use Rattle.sockets.specs.Packet.{PacketValue, PayloadValue, ControlV4, ControlV6, Bytes, Datagram, Segment, packet_of, payload_written}
 use Rattle.sockets.specs.Socket.{Offers, offered_by, settled}
-use Rattle.sockets.specs.Udp as Udps
+use Rattle.socket_datagram.specs.Udp as Udps
 use Rattle.sockets.proofs.DhcpDatagrams as Dhcps
 use Rattle.sockets.proofs.DnsDatagrams as Dnss
 use Rattle.sockets.specs.declared.socket.Socket.{Socket}
 use Rattle.sockets.specs.declared.socket.Socket.TheVariants as Is
-use Rattle.tcp_model.specs.OpenOffer.{OpenOffer}
-use Rattle.tcp_model.specs.Offers.{offer_of, payload_of, packet_with, offered_packet}
-use Rattle.tcp_model.specs.Value.{TcpValue}
-use Rattle.interface_ingress.specs.Datagrams.{TakesDatagram}
-use Rattle.interface_ingress.specs.Delivered.{with_packet, with_icmpv4, with_icmpv6, with_segment}
+use Rattle.tcp_block.specs.OpenOffer.{OpenOffer}
+use Rattle.tcp_block.specs.Offers.{offer_of, payload_of, packet_with, offered_packet}
+use Rattle.tcp_block.specs.Value.{TcpValue}
+use Rattle.iface_ingress.specs.Datagrams.{TakesDatagram}
+use Rattle.iface_ingress.specs.Delivered.{with_packet, with_icmpv4, with_icmpv6, with_segment}
 use Rattle.lan.specs.Worlds.Hosts.Wire.{HasPorts, asks, is_request, is_solicitation}
 use Rattle.lan.specs.Worlds.Link.Made.{sealed}
 use Rattle.lan.specs.Worlds.Moves.Fit.{AreNamed}
 use Rattle.lan.specs.Worlds.Moves.Raws.{OfItem, OfEach}
-use Rattle.lan.specs.Worlds.Moves.Protocols.{NamesBehind}
+use Rattle.lan.specs.Worlds.Moves.Protocols.{NamesFollowing}
 use Rattle.lan.proofs.Worlds.Hosts.WireFrames.{IsTest}
 use Rattle.lan.proofs.Worlds.Hosts.WireReplies.{RepliesMayGo}
 use Rattle.lan.proofs.Worlds.Hosts.Wiring.{OffersMayGo}
@@ -55,7 +55,7 @@ use Rattle.lan.proofs.Worlds.Link.Spelled.{length_v6}
 use Rattle.lan.proofs.Worlds.Moves.EachRun.{Keeps, all_as}
 use Rattle.lan.proofs.Worlds.Moves.EachSocket.{IsOfSockets}
 use Rattle.lan.proofs.Worlds.Moves.Offering.{takes_one}
-use Rattle.lan.proofs.Worlds.Moves.Places.{Places}
+use Rattle.lan.proofs.Worlds.Moves.Slots.{Slots}
 use Rattle.lan.proofs.Worlds.Moves.Protocols.{offered_names}
 use Rattle.lan.proofs.Worlds.Moves.Sourced.{sourced_v4, sourced_carries}
 
@@ -65,17 +65,17 @@ use Rattle.lan.proofs.Worlds.Moves.Sourced.{sourced_v4, sourced_carries}
 other_type : (n m k : ℕ) (rest : Bool) → n ≡ k → (let b : Bool = k == m in b) ≡ false → n == m && rest ≡ false
 other_type n m k rest is other = rw (is, other) refl
 
--- and what is behind it another number
-other_behind : (a : Bool) (n m k : ℕ) → n ≡ k → (let b : Bool = k == m in b) ≡ false → a && n == m ≡ false
-other_behind true n m k is other = rw is other
-other_behind false n m k is other = refl
+-- and what is after it another number
+other_following : (a : Bool) (n m k : ℕ) → n ≡ k → (let b : Bool = k == m in b) ≡ false → a && n == m ≡ false
+other_following true n m k is other = rw is other
+other_following false n m k is other = refl
 
 neither : (a b : Bool) → a ≡ false → b ≡ false → a || b ≡ false
 neither a b one two = rw (one, two) refl
 
 -- a byte, and a number, of what follows the link header
 pub byte_of : (link rest : List ℕ) (n : ℕ) → length link ≡ 14 → slice_index (link ++ rest) (14 + n) ≡ slice_index rest n
-byte_of link rest n len = sym (byte_behind (link ++ rest) 14 n) ∙ ap (λ (l : List ℕ). slice_index l n) (drop_at link rest 14 len)
+byte_of link rest n len = sym (byte_following (link ++ rest) 14 n) ∙ ap (λ (l : List ℕ). slice_index l n) (drop_at link rest 14 len)
 
 pub be16_of : (link rest : List ℕ) → length link ≡ 14 → be16 (link ++ rest) 20 ≡ be16 rest 6
 be16_of link rest len =
@@ -91,7 +91,7 @@ Any h x = Unit {0}
 
 told_requests_none : (link rest : List ℕ) → length link ≡ 14 → be16 rest 6 ≡ 2 → is_request (link ++ rest) ≡ false
 told_requests_none link rest len reply =
-    other_behind (be16 (link ++ rest) 12 == 0x0806) (be16 (link ++ rest) 20) 1 2 (be16_of link rest len ∙ reply) refl
+    other_following (be16 (link ++ rest) 12 == 0x0806) (be16 (link ++ rest) 20) 1 2 (be16_of link rest len ∙ reply) refl
 
 pub request_test : IsTest is_request Any
 request_test = record {
@@ -138,11 +138,11 @@ module _ (link : List ℕ) (v : Ipv6Repr) (len : length link ≡ 14) (value : Ip
   pub next : (x : PayloadValue) → slice_index (frame_of x) 20 ≡ protocol_number v.next_header
   next x = byte_of link (Ipv6.written v ++ payload_written sealed (Ip.Ipv6 v) x) 6 len
 
-  pub behind : (x : PayloadValue) → slice_index (frame_of x) 54 ≡ slice_index (payload_written sealed (Ip.Ipv6 v) x) 0
-  behind x =
+  pub following : (x : PayloadValue) → slice_index (frame_of x) 54 ≡ slice_index (payload_written sealed (Ip.Ipv6 v) x) 0
+  following x =
       let packet : List ℕ = Ipv6.written v ++ payload_written sealed (Ip.Ipv6 v) x in
       byte_of link packet 40 len
-      ∙ sym (byte_behind packet 40 0)
+      ∙ sym (byte_following packet 40 0)
       ∙ ap (λ (l : List ℕ). slice_index l 0) (drop_at (Ipv6.written v) (payload_written sealed (Ip.Ipv6 v) x) 40 (length_v6 v value))
 
   other_next : (a : Bool) (n : ℕ) (p : IpProtocol) (rest : Bool) → n ≡ protocol_number v.next_header → v.next_header ≡ p →
@@ -160,7 +160,7 @@ module _ (link : List ℕ) (v : Ipv6Repr) (len : length link ≡ 14) (value : Ip
   solicits_none (ControlV6 message bytes) may =
       let x : PayloadValue = ControlV6 message bytes in
       other_message (be16 (frame_of x) 12 == 0x86dd) (slice_index (frame_of x) 20 == 58) (slice_index (frame_of x) 54)
-      (slice_index (payload_written sealed (Ip.Ipv6 v) x) 0) (behind x) (first_byte v message bytes may)
+      (slice_index (payload_written sealed (Ip.Ipv6 v) x) 0) (following x) (first_byte v message bytes may)
   solicits_none (Bytes bytes) may = absurd may
   solicits_none (Datagram udp bytes) may =
       let x : PayloadValue = Datagram udp bytes in
@@ -227,14 +227,14 @@ any_calls None = tt
 any_calls (Some d) = tt
 
 pub any_replies : RepliesMayGo Any
-any_replies i places ip payload taken carried = by (handed_reply i places ip payload taken carried) where
+any_replies i slots ip payload taken carried = by (handed_reply i slots ip payload taken carried) where
   by : (o : Option PacketValue) → IfSome o (λ p. Any p.header p.payload)
   by None = tt
   by (Some p) = tt
 
-pub every : (places : Places) → OfEach AnyKind places
+pub every : (slots : Slots) → OfEach AnyKind slots
 every [] = tt
-every (place ∷ places) = (by place.inner, every places) where
+every (slot ∷ slots) = (by slot.inner, every slots) where
   by : (o : Option (Item Socket)) → OfItem AnyKind o
   by None = tt
   by (Some item) = tt
@@ -325,7 +325,7 @@ IsOfPorts (Bytes bytes) = ⊥
 IsOfPorts (Datagram udp bytes) = Unit {0}
 IsOfPorts (Segment header bytes) = Unit {0}
 
-named_so : (h : IpRepr) (x : PayloadValue) → IsOfPorts x → NamesBehind h x → AsksNobody h x
+named_so : (h : IpRepr) (x : PayloadValue) → IsOfPorts x → NamesFollowing h x → AsksNobody h x
 named_so h (ControlV4 message bytes) is named = absurd is
 named_so h (ControlV6 message bytes) is named = absurd is
 named_so h (Bytes bytes) is named = absurd is

@@ -3,51 +3,51 @@ use Rattle.std.proofs.Common.{◌≡◌, ◌≤ℤ◌, inl, inr, ℕ, ◌+◌, �
 use Rattle.std.proofs.Common.{None}
 use Rattle.std.proofs.Common.{IfSome, is_some, refl, sym, ◌∙◌, ap, subst, arith, append_assoc}
 use Rattle.std.specs.Prelude.{nat_lt}
-use Rattle.lan_base.specs.ChecksumCapabilities.{ChecksumCapabilities}
-use Rattle.interface_ingress.specs.Address.{IsIpAddress}
-use Rattle.interface_ingress.specs.HardwareAddress.{HardwareAddress}
-use Rattle.interface_ingress.specs.HardwareAddress.TheVariants as Hardware
-use Rattle.interface_ingress.specs.IpAddress.{IpAddress}
+use Rattle.sim_link.specs.ChecksumCapabilities.{ChecksumCapabilities}
+use Rattle.iface_ingress.specs.Address.{IsIpAddress}
+use Rattle.iface_ingress.specs.HardwareAddress.{HardwareAddress}
+use Rattle.iface_ingress.specs.HardwareAddress.TheVariants as Hardware
+use Rattle.iface_ingress.specs.IpAddress.{IpAddress}
 use Rattle.interface.specs.Ip as Ips
 use Rattle.interface.specs.Ip.{destination_of}
 use Rattle.interface.specs.IpRepr.{IpRepr}
 use Rattle.interface.specs.IpRepr.TheVariants as Ip
 use Rattle.interface.specs.Delivered.{IsWritable}
-use Rattle.interface.specs.Taken.{IsOffered, IsHalfSent}
+use Rattle.interface.specs.TransmittedFrame.{IsOffered, IsHalfSent}
 use Rattle.interface.specs.Widths.{IsPayload}
 use Rattle.interface.proofs.Offered.{writes, begun_half, left_half}
-use Rattle.interface_tables.specs.Inner.{InnerValue, with_next_ident, with_request}
-use Rattle.interface_egress.specs.Departure.{Tells, Whole, arp_frame, packet_frame, packet_frame_len, piece_frame, piece_frame_len, question_frame}
-use Rattle.interface_egress.specs.Departure.{target_of}
-use Rattle.interface_egress.specs.Fragments.{LeftValue, piece_room, piece_from, departure_from, cut_mtu, left_after, left_from}
-use Rattle.interface_egress.specs.GoesOut.{GoesOut, Asked, Went, WasCut, PieceGoesOut, Departs, Stays, numbered, after_header, cut_of}
-use Rattle.interface_egress.specs.Plan.{plan_of}
-use Rattle.interface_egress.specs.declared.frame.Question.{Question}
-use Rattle.interface_egress.specs.declared.socket_meta.Meta.{Meta}
-use Rattle.interface_egress.specs.declared.socket_set.Item.{Item}
-use Rattle.interface_egress.specs.declared.way_out.Sent.{Sent}
-use Rattle.interface_egress.specs.declared.way_out.Sent.TheVariants as Outcome
-use Rattle.interface_egress.proofs.Planned.{MayAsk, plan_cases}
-use Rattle.interface_ingress.specs.ArpRepr.{ArpRepr}
-use Rattle.interface_ingress.specs.Arrives as Replies
-use Rattle.interface_ingress.specs.Arrives.{Arrived, Brings, ReplyValue, whole_after}
-use Rattle.interface_ingress.specs.Delivered.{Places}
-use Rattle.interface_ingress.specs.Incoming.{IncomingValue, IsContent}
-use Rattle.interface_ingress.specs.Reassembled.{Slots, taken_in}
-use Rattle.interface_ingress.proofs.Settings.{brings_same}
+use Rattle.iface_tables.specs.Inner.{InnerValue, with_next_ident, with_request}
+use Rattle.iface_egress.specs.Departure.{Tells, Whole, arp_frame, packet_frame, packet_frame_len, fragment_frame, fragment_frame_len, solicitation_frame}
+use Rattle.iface_egress.specs.Departure.{target_of}
+use Rattle.iface_egress.specs.Fragments.{LeftValue, fragment_room, fragment_from, departure_from, cut_mtu, left_after, left_from}
+use Rattle.iface_egress.specs.IsTransmitted.{IsTransmitted, Asked, WasSent, WasCut, FragmentIsTransmitted, Departs, Stays, numbered, after_header, cut_of}
+use Rattle.iface_egress.specs.Plan.{plan_of}
+use Rattle.iface_egress.specs.declared.frame.NeighborQuery.{NeighborQuery}
+use Rattle.iface_egress.specs.declared.socket_meta.Meta.{Meta}
+use Rattle.iface_egress.specs.declared.socket_set.Item.{Item}
+use Rattle.iface_egress.specs.declared.egress_path.Sent.{Sent}
+use Rattle.iface_egress.specs.declared.egress_path.Sent.TheVariants as Outcome
+use Rattle.iface_egress.proofs.Planned.{MayAsk, plan_cases}
+use Rattle.iface_ingress.specs.ArpRepr.{ArpRepr}
+use Rattle.iface_ingress.specs.Arrives as Replies
+use Rattle.iface_ingress.specs.Arrives.{Arrived, Brings, ReplyValue, whole_after}
+use Rattle.iface_ingress.specs.Delivered.{Slots}
+use Rattle.iface_ingress.specs.Incoming.{IncomingValue, IsContent}
+use Rattle.iface_ingress.specs.Reassembled.{Assemblers, taken_in}
+use Rattle.iface_ingress.proofs.Settings.{brings_same}
 use Rattle.interface.specs.Host.{Sender}
 use Rattle.interface.specs.Ingress.{Takes, Replied, is_awaited, sender_of, sender_with}
 use Rattle.interface.proofs.Kept.{RunsAt, IsKept}
 use Rattle.interface.specs.State.{State, at_device}
 use Rattle.interface.specs.Touches.{second_after}
 use Rattle.interface.specs.Remote.{context_for}
-use Rattle.interface.specs.Turn.{Leaves, SendsBy, Answers, TurnsIf, ItemTurns, is_waiting, let_through}
-use Rattle.interface.specs.WayOut.{PieceLeaves}
-use Rattle.interface.specs.declared.turn.Turned.{Turned}
+use Rattle.interface.specs.Serve.{Leaves, SendsBy, Answers, TurnsIf, ItemTurns, is_waiting, let_through}
+use Rattle.interface.specs.EgressPath.{FragmentLeaves}
+use Rattle.interface.specs.declared.serve.Served.{Served}
 use Rattle.interface.proofs.Keep.{polls_keep}
 use Rattle.interface.proofs.Sourced.{as_sourced}
 use Rattle.lan.specs.Worlds.AtLink.Port.{LinkEnd, PortValue, PortMove}
-use Rattle.lan.specs.Worlds.AtLink.Station.{StationValue, at_port}
+use Rattle.lan.specs.Worlds.AtLink.Node.{NodeValue, at_port}
 use Rattle.lan.specs.Worlds.AtLink.Steps.{PollsAt}
 use Rattle.sockets.specs.Context.{ContextValue}
 use Rattle.sockets.specs.Offer as Answer
@@ -58,14 +58,14 @@ use Rattle.sockets.specs.WellFormed.{HasWidths, IsWellFormed}
 use Rattle.sockets.specs.declared.socket.Socket.{Socket}
 use Rattle.lan.specs.Worlds.Hosts.Wire.{asked_in}
 use Rattle.lan.specs.Worlds.Link.Made.{sealed}
-use Rattle.lan.specs.Worlds.Link.Sides.{HasSixBytes, IsBetweenStations, IsSameKind, IsSound, IsStation}
+use Rattle.lan.specs.Worlds.Link.Sides.{HasSixBytes, IsBetweenNodes, IsSameKind, IsSound, IsNode}
 use Rattle.lan.specs.Worlds.Moves.Raws.{OfItem, OfEach}
 use Rattle.lan.proofs.Worlds.Hosts.Asking.{AreSilent, in_a_second, itself, later, over_later, reached}
-use Rattle.lan.proofs.Worlds.Hosts.WireFrames.{IsReply, IsTest, piece_quiet, told_quiet, whole_quiet}
+use Rattle.lan.proofs.Worlds.Hosts.WireFrames.{IsReply, IsTest, fragment_quiet, told_quiet, whole_quiet}
 use Rattle.lan.proofs.Worlds.Hosts.WireReplies.{MayReply, RepliesMayGo, brings_may}
-use Rattle.lan.proofs.Worlds.Keeps.{moment_sound}
+use Rattle.lan.proofs.Worlds.Keeps.{instant_sound}
 use Rattle.lan.proofs.Worlds.Link.PlanKinds.{PlanKind, plan_kind}
-use Rattle.lan.proofs.Worlds.Link.Stations.{arrival_keeps_sender}
+use Rattle.lan.proofs.Worlds.Link.Nodes.{arrival_keeps_sender}
 use Rattle.lan.proofs.Worlds.Moves.EachSocket.{IsOfSockets, kept, middle}
 use Rattle.lan.proofs.Worlds.Told.{told_between}
 
@@ -135,7 +135,7 @@ next_sound i s = record {
   checksums = s.checksums;
 }
 
-request_sound : (i : InnerValue) (q : Question) → IsSound i → IsSound (with_request i (target_of q))
+request_sound : (i : InnerValue) (q : NeighborQuery) → IsSound i → IsSound (with_request i (target_of q))
 request_sound i q s = record {
   own = s.own;
   neighbors = s.neighbors;
@@ -145,32 +145,32 @@ request_sound i q s = record {
 }
 
 -- what arrives leaves a sound host one
-arrival_sound : (i : InnerValue) (places : Places) (content : Option IncomingValue) (a : Arrived) → Brings i places content a → IsSound i → IsSound a.inner
-arrival_sound i places content a brings s =
-    (arrival_keeps_sender (λ source destination x. Unit {0}) i.ident [] i None [] places content a brings (record {
+arrival_sound : (i : InnerValue) (slots : Slots) (content : Option IncomingValue) (a : Arrived) → Brings i slots content a → IsSound i → IsSound a.inner
+arrival_sound i slots content a brings s =
+    (arrival_keeps_sender (λ source destination x. Unit {0}) i.ident [] i None [] slots content a brings (record {
       sound = s;
       are_sent = record { packets = λ p among. absurd among; numbered = (refl, s.widths.ident) };
       left_is = tt;
       frames = tt;
     })).sound
 
-there_by : (own to : HardwareAddress) → IsStation own → IsSameKind own to → IsStation to
+there_by : (own to : HardwareAddress) → IsNode own → IsSameKind own to → IsNode to
 there_by (Hardware.Ethernet own) (Hardware.Ethernet to) here same = tt
 there_by (Hardware.Ethernet own) Hardware.Ip here same = absurd same
 there_by Hardware.Ip to here same = absurd here
 
--- what is left to send goes to a station
+-- what is left to send goes to a host
 pub record IsLeftSo (l : LeftValue) : Type 0 where
   pub half : IsHalfSent l
-  pub there : IsStation l.to
+  pub there : IsNode l.to
 
-rest_by : (mtu : ℕ) (c : LeftValue) (b : Bool) → IsStation c.to → IfSome (cond b (Some (record c { at = c.at + piece_room c.header mtu })) None) IsHalfSent →
-    IfSome (cond b (Some (record c { at = c.at + piece_room c.header mtu })) None) IsLeftSo
+rest_by : (mtu : ℕ) (c : LeftValue) (b : Bool) → IsNode c.to → IfSome (cond b (Some (record c { at = c.at + fragment_room c.header mtu })) None) IsHalfSent →
+    IfSome (cond b (Some (record c { at = c.at + fragment_room c.header mtu })) None) IsLeftSo
 rest_by mtu c true there is = record { half = is; there = there }
 rest_by mtu c false there is = tt
 
 rest_so : (mtu : ℕ) (c : LeftValue) → IsLeftSo c → IfSome (left_after mtu c) IsLeftSo
-rest_so mtu c so = rest_by mtu c (nat_lt (c.at + piece_room c.header mtu) (length c.payload)) so.there (left_half mtu c so.half)
+rest_so mtu c so = rest_by mtu c (nat_lt (c.at + fragment_room c.header mtu) (length c.payload)) so.there (left_half mtu c so.half)
 
 -- A POLL
 
@@ -181,10 +181,10 @@ OffersMayGo W May = (cx : ContextValue) (s s' : Socket) (answer : Answer.Offer) 
 
 module _ (T : List ℕ → Bool) (May : IpRepr → PayloadValue → Type 0) (W : Socket → Type 0) (test : IsTest T May) (law : IsOfSockets W)
     (offers : OffersMayGo W May) (replies : RepliesMayGo May) (t : ℤ) (before : List (List ℕ)) (rest : List ℤ) where
-  -- so far in a poll at the moment t, behind the frames `before`; `rest` are the moments of earlier turns
+  -- so far in a poll at the instant t, after the frames `before`; `rest` are the instants of earlier turns
   pub record So (d : PortValue) (i : InnerValue) (l : Option LeftValue) : Type 0 where
     pub sound : IsSound i
-    pub own : IsStation i.hardware
+    pub own : IsNode i.hardware
     pub left : IfSome l IsLeftSo
     pub more : List (List ℕ)
     pub sent : d.link.sent ≡ before ++ more
@@ -202,7 +202,7 @@ module _ (T : List ℕ → Bool) (May : IpRepr → PayloadValue → Type 0) (W :
       So d i l → So d i' l
   so_host d i i' l sound hardware silent so = record {
     sound = sound;
-    own = subst IsStation (sym hardware) so.own;
+    own = subst IsNode (sym hardware) so.own;
     left = so.left;
     more = so.more;
     sent = so.sent;
@@ -230,10 +230,10 @@ module _ (T : List ℕ → Bool) (May : IpRepr → PayloadValue → Type 0) (W :
 
   -- A PACKET'S WAY OUT
 
-  so_asked : (q : Question) (sent : Sent) (d d' : PortValue) (i i' : InnerValue) (l : Option LeftValue) → i.moment ≡ t → MayAsk i →
+  so_asked : (q : NeighborQuery) (sent : Sent) (d d' : PortValue) (i i' : InnerValue) (l : Option LeftValue) → i.instant ≡ t → MayAsk i →
       Asked PortMove d i q sent d' i' → So d i l → So d' i' l
   so_asked q Outcome.Waits d d' i i' l now may goes so =
-      let frame : List ℕ = question_frame i.checksums q in
+      let frame : List ℕ = solicitation_frame i.checksums q in
       let over : i.neighbors.silent ≤ℤ t = reached t i.neighbors.silent (subst (λ (m : ℤ). int_lt m i.neighbors.silent ≡ false) now may) in
       let asked : So d' (with_request i (target_of q)) l = record {
         sound = request_sound i q so.sound;
@@ -255,10 +255,10 @@ module _ (T : List ℕ → Bool) (May : IpRepr → PayloadValue → Type 0) (W :
   so_numbered (Ip.Ipv4 v) d i l so = so_host d i (with_next_ident i) l (next_sound i so.sound) refl refl so
   so_numbered (Ip.Ipv6 v) d i l so = so
 
-  so_went : (to : HardwareAddress) (p : PacketValue) (sent : Sent) (d d' : PortValue) (i i' : InnerValue) (l : Option LeftValue) →
+  so_was_sent : (to : HardwareAddress) (p : PacketValue) (sent : Sent) (d d' : PortValue) (i i' : InnerValue) (l : Option LeftValue) →
       IsWritable (numbered i p) → IsSameKind i.hardware to → May p.header p.payload
-      → Went PortMove d i p.header (Whole to (numbered i p)) sent d' i' → So d i l → So d' i' l
-  so_went to p Outcome.Gone d d' i i' l w same may goes so =
+      → WasSent PortMove d i p.header (Whole to (numbered i p)) sent d' i' → So d i l → So d' i' l
+  so_was_sent to p Outcome.Gone d d' i i' l w same may goes so =
       let caps : i.checksums ≡ sealed = so.sound.checksums in
       let len : length (packet_frame sealed i.hardware to (numbered i p)) ≡ packet_frame_len i.hardware to (numbered i p) =
       subst (λ (c : ChecksumCapabilities). length (packet_frame c i.hardware to (numbered i p)) ≡ packet_frame_len i.hardware to (numbered i p)) caps
@@ -269,31 +269,31 @@ module _ (T : List ℕ → Bool) (May : IpRepr → PayloadValue → Type 0) (W :
       so_where d' (after_header p.header i) i' l l goes.1 refl
       (so_numbered p.header d' i l
       (so_quiet d d' i l (packet_frame i.checksums i.hardware to (numbered i p)) quiet (ap (λ (x : PortValue). x.link.sent) goes.0.0) so))
-  so_went to p Outcome.Refused d d' i i' l w same may goes so =
+  so_was_sent to p Outcome.Refused d d' i i' l w same may goes so =
       so_where d' i i' l l goes.1 refl (so_device d d' i l (ap (λ (x : PortValue). x.link.sent) goes.0.0) so)
-  so_went to p Outcome.Waits d d' i i' l w same may goes so = absurd goes
-  so_went to p Outcome.Dropped d d' i i' l w same may goes so = absurd goes
-  so_went to p Outcome.Busy d d' i i' l w same may goes so = absurd goes
+  so_was_sent to p Outcome.Waits d d' i i' l w same may goes so = absurd goes
+  so_was_sent to p Outcome.Dropped d d' i i' l w same may goes so = absurd goes
+  so_was_sent to p Outcome.Busy d d' i i' l w same may goes so = absurd goes
 
-  -- the frame of a piece that went
-  so_piece : (c : LeftValue) (d d' : PortValue) (i : InnerValue) (l : Option LeftValue) → IsLeftSo c → Departs PortMove d i (departure_from i c) true d' →
+  -- the frame of a fragment that went
+  so_fragment : (c : LeftValue) (d d' : PortValue) (i : InnerValue) (l : Option LeftValue) → IsLeftSo c → Departs PortMove d i (departure_from i c) true d' →
       So d i l → So d' i l
-  so_piece c d d' i l left goes so =
+  so_fragment c d d' i l left goes so =
       let caps : i.checksums ≡ sealed = so.sound.checksums in
-      let piece = piece_from i c in
-      let len : length (piece_frame sealed i.hardware c.to c.header piece) ≡ piece_frame_len i.hardware c.to c.header piece =
-      subst (λ (k : ChecksumCapabilities). length (piece_frame k i.hardware c.to c.header piece) ≡ piece_frame_len i.hardware c.to c.header piece) caps goes.1 in
-      let quiet : T (piece_frame i.checksums i.hardware c.to c.header piece) ≡ false =
-      subst (λ (k : ChecksumCapabilities). T (piece_frame k i.hardware c.to c.header piece) ≡ false) (sym caps)
-      (piece_quiet T May test i.hardware c.to c.header piece so.own left.there left.half.header_is len) in
-      so_quiet d d' i l (piece_frame i.checksums i.hardware c.to c.header piece) quiet (ap (λ (x : PortValue). x.link.sent) goes.0) so
+      let fragment = fragment_from i c in
+      let len : length (fragment_frame sealed i.hardware c.to c.header fragment) ≡ fragment_frame_len i.hardware c.to c.header fragment =
+      subst (λ (k : ChecksumCapabilities). length (fragment_frame k i.hardware c.to c.header fragment) ≡ fragment_frame_len i.hardware c.to c.header fragment) caps goes.1 in
+      let quiet : T (fragment_frame i.checksums i.hardware c.to c.header fragment) ≡ false =
+      subst (λ (k : ChecksumCapabilities). T (fragment_frame k i.hardware c.to c.header fragment) ≡ false) (sym caps)
+      (fragment_quiet T May test i.hardware c.to c.header fragment so.own left.there left.half.header_is len) in
+      so_quiet d d' i l (fragment_frame i.checksums i.hardware c.to c.header fragment) quiet (ap (λ (x : PortValue). x.link.sent) goes.0) so
 
   so_cut : (c : LeftValue) (sent : Sent) (d d' : PortValue) (i i' : InnerValue) (l l' : Option LeftValue) → IsLeftSo c → WasCut PortMove d i l c sent d' i' l' →
       So d i l → So d' i' l'
   so_cut c Outcome.Gone d d' i i' l l' left goes so =
       so_where d' (with_next_ident i) i' (left_from i c) l' goes.1 goes.2
       (so_left d' (with_next_ident i) l (left_from i c) (rest_so (cut_mtu i c) c left)
-      (so_host d' i (with_next_ident i) l (next_sound i so.sound) refl refl (so_piece c d d' i l left goes.0 so)))
+      (so_host d' i (with_next_ident i) l (next_sound i so.sound) refl refl (so_fragment c d d' i l left goes.0 so)))
   so_cut c Outcome.Refused d d' i i' l l' left goes so =
       so_where d' i i' l l' goes.1 goes.2 (so_device d d' i l (ap (λ (x : PortValue). x.link.sent) goes.0.0) so)
   so_cut c Outcome.Waits d d' i i' l l' left goes so = absurd goes
@@ -303,21 +303,21 @@ module _ (T : List ℕ → Bool) (May : IpRepr → PayloadValue → Type 0) (W :
   so_stays : (d d' : PortValue) (i i' : InnerValue) (l l' : Option LeftValue) → Stays d i l d' i' l' → So d i l → So d' i' l'
   so_stays d d' i i' l l' is so = so_where d' i i' l l' is.1 is.2 (so_device d d' i l (ap (λ (x : PortValue). x.link.sent) is.0) so)
 
-  so_out : (d d' : PortValue) (i i' : InnerValue) (l l' : Option LeftValue) (p : PacketValue) (sent : Sent) → i.moment ≡ t → IsWellFormed p →
+  so_out : (d d' : PortValue) (i i' : InnerValue) (l l' : Option LeftValue) (p : PacketValue) (sent : Sent) → i.instant ≡ t → IsWellFormed p →
       May p.header p.payload
-      → GoesOut PortMove d i l p (plan_of i (is_some l) p.header) sent d' i' l' → So d i l → So d' i' l'
+      → IsTransmitted PortMove d i l p (plan_of i (is_some l) p.header) sent d' i' l' → So d i l → So d' i' l'
   so_out d d' i i' l l' p sent now formed may goes so =
       let busy : Bool = is_some l in
       let off : IsOffered p = offered p formed in
       let sound : IsSound i = so.sound in
-      plan_cases i busy p.header (λ plan. plan_of i busy p.header ≡ plan → PlanKind i.hardware plan → GoesOut PortMove d i l p plan sent d' i' l' →
+      plan_cases i busy p.header (λ plan. plan_of i busy p.header ≡ plan → PlanKind i.hardware plan → IsTransmitted PortMove d i l p plan sent d' i' l' →
       So d' i' l')
       (λ is kind out. so_stays d d' i i' l l' out.1 so) (λ is kind out. so_stays d d' i i' l l' out.1 so)
       (λ is kind out. so_stays d d' i i' l l' out.1 so) (λ is kind out. so_stays d d' i i' l l' out.1 so)
       (λ q asking from is kind out. so_where d' i' i' l l' refl out.1 (so_asked q sent d d' i i' l now asking out.0 so))
       (λ to short is kind out. let most = sound.widths.mtu in
       so_where d' i' i' l l' refl out.1
-      (so_went to p sent d d' i i' l (writes i p sound.widths off (omega (arith, short, most))) kind may out.0 so))
+      (so_was_sent to p sent d d' i i' l (writes i p sound.widths off (omega (arith, short, most))) kind may out.0 so))
       (λ to long short bare idle is kind out.
       so_cut (cut_of i to p) sent d d' i i' l l'
       (record { half = begun_half i busy p to sound.widths off is; there = there_by i.hardware to so.own kind }) out so)
@@ -325,17 +325,17 @@ module _ (T : List ℕ → Bool) (May : IpRepr → PayloadValue → Type 0) (W :
 
   -- ARRIVALS
 
-  so_told : (packet : ArpRepr) (gone : Bool) (d d' : PortValue) (i : InnerValue) (l : Option LeftValue) → IsReply packet → IsBetweenStations packet →
+  so_told : (packet : ArpRepr) (gone : Bool) (d d' : PortValue) (i : InnerValue) (l : Option LeftValue) → IsReply packet → IsBetweenNodes packet →
       Departs PortMove d i (Tells packet) gone d' → So d i l → So d' i l
   so_told packet true d d' i l reply between goes so =
       so_quiet d d' i l (arp_frame packet) (told_quiet T May test packet between reply) (ap (λ (x : PortValue). x.link.sent) goes.0) so
   so_told packet false d d' i l reply between goes so = so_device d d' i l (ap (λ (x : PortValue). x.link.sent) goes.0) so
 
   abbrev IsOfAnswer : ReplyValue → Type 0
-  IsOfAnswer (Replies.Tells packet) = IsBetweenStations packet
+  IsOfAnswer (Replies.Tells packet) = IsBetweenNodes packet
   IsOfAnswer (Replies.Answers p) = Unit {0}
 
-  so_replied : (awaited : Bool) (reply : Option ReplyValue) (x x' : Sender PortValue) → x.inner.moment ≡ t → IfSome reply (MayReply May) →
+  so_replied : (awaited : Bool) (reply : Option ReplyValue) (x x' : Sender PortValue) → x.inner.instant ≡ t → IfSome reply (MayReply May) →
       IfSome reply IsOfAnswer
       → Replied PortMove awaited reply x x' → So x.device x.inner x.left → So x'.device x'.inner x'.left
   so_replied awaited None x x' now may of is so = subst (λ (y : Sender PortValue). So y.device y.inner y.left) (sym is) so
@@ -346,16 +346,16 @@ module _ (T : List ℕ → Bool) (May : IpRepr → PayloadValue → Type 0) (W :
       so_out x.device x'.device x.inner x'.inner x.left x'.left p goes.0 now goes.2 may goes.1 so
 
   abbrev P : State PortValue → Type 0
-  P s = So s.device s.host.inner s.host.left × OfEach W s.places
+  P s = So s.device s.host.inner s.host.left × OfEach W s.slots
 
-  answers_of : (i : InnerValue) (timeout : ℕ) (slots : Slots) (places : Places) (frame : List ℕ) (content : Option IncomingValue) (a : Arrived) →
+  answers_of : (i : InnerValue) (timeout : ℕ) (assemblers : Assemblers) (slots : Slots) (frame : List ℕ) (content : Option IncomingValue) (a : Arrived) →
       HasSixBytes i.hardware
-      → IsContent i.hardware i.checksums frame content → Brings i places (whole_after i timeout slots (taken_in i content)) a → (o : Option ReplyValue) →
+      → IsContent i.hardware i.checksums frame content → Brings i slots (whole_after i timeout assemblers (taken_in i content)) a → (o : Option ReplyValue) →
       a.reply ≡ o → IfSome o IsOfAnswer
-  answers_of i timeout slots places frame content a six is brings None reply = tt
-  answers_of i timeout slots places frame content a six is brings (Some (Replies.Tells packet)) reply =
-      (told_between i timeout slots places frame content a packet six is brings reply).1
-  answers_of i timeout slots places frame content a six is brings (Some (Replies.Answers p)) reply = tt
+  answers_of i timeout assemblers slots frame content a six is brings None reply = tt
+  answers_of i timeout assemblers slots frame content a six is brings (Some (Replies.Tells packet)) reply =
+      (told_between i timeout assemblers slots frame content a packet six is brings reply).1
+  answers_of i timeout assemblers slots frame content a six is brings (Some (Replies.Answers p)) reply = tt
 
   so_takes : (s s' : State PortValue) (answer : Option Bool) → RunsAt t s.host.inner → So s.device s.host.inner s.host.left → Takes PortMove s answer s' →
       So s'.device s'.host.inner s'.host.left
@@ -370,36 +370,36 @@ module _ (T : List ℕ → Bool) (May : IpRepr → PayloadValue → Type 0) (W :
       let i : InnerValue = s.host.inner in
       let content : Option IncomingValue = takes.4.0 in
       let a : Arrived = takes.4.2.0 in
-      let whole : Option IncomingValue = whole_after i s.host.timeout s.host.slots (taken_in i content) in
-      let brings : Brings i s.places whole a = takes.4.2.1.1 in
-      let same = brings_same i s.places whole a brings in
+      let whole : Option IncomingValue = whole_after i s.host.timeout s.host.assemblers (taken_in i content) in
+      let brings : Brings i s.slots whole a = takes.4.2.1.1 in
+      let same = brings_same i s.slots whole a brings in
       let taken : So mid i s.host.left = so_device s.device mid i s.host.left (sym (ap (λ (x : PortValue). x.link.sent) takes.2.1)) so in
-      so_replied (is_awaited a) a.reply (sender_with PortMove (at_device s mid) a) (sender_of PortMove s') (same.moment ∙ runs.0)
-      (brings_may May replies i s.places whole a brings)
-      (answers_of i s.host.timeout s.host.slots s.places takes.0 content a so.sound.own takes.4.1 brings a.reply refl) takes.4.2.3
-      (so_host mid i a.inner s.host.left (arrival_sound i s.places whole a brings so.sound) same.hardware same.silent taken)
+      so_replied (is_awaited a) a.reply (sender_with PortMove (at_device s mid) a) (sender_of PortMove s') (same.instant ∙ runs.0)
+      (brings_may May replies i s.slots whole a brings)
+      (answers_of i s.host.timeout s.host.assemblers s.slots takes.0 content a so.sound.own takes.4.1 brings a.reply refl) takes.4.2.3
+      (so_host mid i a.inner s.host.left (arrival_sound i s.slots whole a brings so.sound) same.hardware same.silent taken)
 
   -- THE WAY OUT
 
-  so_piece_leaves : (c : LeftValue) (x x' : Sender PortValue) (gone : Bool) → x.left ≡ Some c → PieceLeaves PortMove c x gone x' → x'.inner ≡ x.inner →
+  so_fragment_leaves : (c : LeftValue) (x x' : Sender PortValue) (gone : Bool) → x.left ≡ Some c → FragmentLeaves PortMove c x gone x' → x'.inner ≡ x.inner →
       So x.device x.inner x.left → So x'.device x'.inner x'.left
-  so_piece_leaves c x x' gone is (inl stays) same so =
+  so_fragment_leaves c x x' gone is (inl stays) same so =
       so_where x'.device x.inner x'.inner x.left x'.left same stays.2
       (so_device x.device x'.device x.inner x.left (ap (λ (y : PortValue). y.link.sent) stays.0.0) so)
-  so_piece_leaves c x x' gone is (inr goes) same so =
+  so_fragment_leaves c x x' gone is (inr goes) same so =
       so_where x'.device x.inner x'.inner x'.left x'.left same refl
       (by gone goes.2 (so_device x.device goes.0 x.inner x.left (ap (λ (y : PortValue). y.link.sent) goes.1.0) so)) where
-        by : (gone : Bool) → PieceGoesOut PortMove goes.0 x.inner c gone x'.device x'.left → So goes.0 x.inner x.left → So x'.device x.inner x'.left
+        by : (gone : Bool) → FragmentIsTransmitted PortMove goes.0 x.inner c gone x'.device x'.left → So goes.0 x.inner x.left → So x'.device x.inner x'.left
         by true out so =
             let left : IsLeftSo c = subst (λ (o : Option LeftValue). IfSome o IsLeftSo) is so.left in
             so_where x'.device x.inner x.inner (left_from x.inner c) x'.left refl out.1
             (so_left x'.device x.inner x.left (left_from x.inner c) (rest_so (cut_mtu x.inner c) c left)
-            (so_piece c goes.0 x'.device x.inner x.left left out.0 so))
+            (so_fragment c goes.0 x'.device x.inner x.left left out.0 so))
         by false out so =
             so_where x'.device x.inner x.inner x.left x'.left refl (out.1 ∙ sym is)
             (so_device goes.0 x'.device x.inner x.left (ap (λ (y : PortValue). y.link.sent) out.0.0) so)
 
-  module _ (turn : Option IpAddress) (x x' : Sender PortValue) (now : x.inner.moment ≡ t) (so : So x.device x.inner x.left) where
+  module _ (turn : Option IpAddress) (x x' : Sender PortValue) (now : x.inner.instant ≡ t) (so : So x.device x.inner x.left) where
     abbrev Next : Type 0
     Next = So x'.device x'.inner x'.left
 
@@ -414,25 +414,25 @@ module _ (T : List ℕ → Bool) (May : IpRepr → PayloadValue → Type 0) (W :
         so_out goes.0 x'.device x.inner x'.inner x.left x'.left p sent now formed may goes.2
         (so_device x.device goes.0 x.inner x.left (ap (λ (y : PortValue). y.link.sent) goes.1.0) so)
 
-    so_sent : (o : Option PacketValue) (item item' : Item Socket) (changed : Bool) (turned : Turned) →
+    so_sent : (o : Option PacketValue) (item item' : Item Socket) (changed : Bool) (turned : Served) →
         ((p : PacketValue) → o ≡ Some p → May p.header p.payload) → SendsBy PortMove turn o x item changed turned x' item' → Next
     so_sent None item item' changed turned may sends = absurd sends
     so_sent (Some p) item item' changed turned may sends =
         so_leaves item.meta sends.0 sends.3.0 sends.3.4
         (subst (λ (q : PacketValue). May q.header q.payload) (sym sends.1) (as_sourced May test.sourced x.inner p (may p refl))) sends.3.1
 
-    so_answers : (answer : Answer.Offer) (item item' : Item Socket) (turned : Turned) →
+    so_answers : (answer : Answer.Offer) (item item' : Item Socket) (turned : Served) →
         ((p : PacketValue) → offered_by item.socket ≡ Some p → May p.header p.payload) → Answers PortMove turn answer x item turned x' item' → Next
     so_answers (Offer.Silent changed) item item' turned may answers = so_same answers.1
     so_answers (Offer.Packet changed) item item' turned may answers = so_sent (offered_by item.socket) item item' changed turned may answers
 
-    so_turns : (waits : Bool) (item item' : Item Socket) (turned : Turned) → W item.socket → TurnsIf PortMove turn waits x item turned x' item' → Next
+    so_turns : (waits : Bool) (item item' : Item Socket) (turned : Served) → W item.socket → TurnsIf PortMove turn waits x item turned x' item' → Next
     so_turns true item item' turned holds turns = so_same turns.1
     so_turns false item item' turned holds turns =
         so_answers turns.0 (record item { socket = turns.1 }) item' turned
         (λ p is. offers (context_for x.inner item.socket) item.socket turns.1 turns.0 p holds turns.2 is) turns.3
 
-    so_item : (o o' : Option (Item Socket)) (turned : Turned) → OfItem W o → ItemTurns PortMove turn o x turned x' o' → Next
+    so_item : (o o' : Option (Item Socket)) (turned : Served) → OfItem W o → ItemTurns PortMove turn o x turned x' o' → Next
     so_item None None turned holds turns = so_same turns.1
     so_item (Some item) (Some item') turned holds turns =
         so_turns (is_waiting x.inner item.meta) (let_through x.inner item) item' turned holds turns
@@ -441,23 +441,23 @@ module _ (T : List ℕ → Bool) (May : IpRepr → PayloadValue → Type 0) (W :
 
   all_kept : IsKept PortMove t P
   all_kept = record {
-    maintenance = λ s h. (so_host s.device s.host.inner _ s.host.left (moment_sound t s.host.inner h.0.sound) refl refl h.0, places.maintenance s h.1);
-    arrivals = λ s s' answer runs h takes. (so_takes s s' answer runs h.0 takes, places.arrivals s s' answer runs h.1 takes);
-    pieces = λ h ps x x' l gone runs is so leaves same.
-        (so_piece_leaves l x x' gone is leaves same so.0, places.pieces h ps x x' l gone runs is so.1 leaves same);
+    maintenance = λ s h. (so_host s.device s.host.inner _ s.host.left (instant_sound t s.host.inner h.0.sound) refl refl h.0, slots.maintenance s h.1);
+    arrivals = λ s s' answer runs h takes. (so_takes s s' answer runs h.0 takes, slots.arrivals s s' answer runs h.1 takes);
+    fragments = λ h ps x x' l gone runs is so leaves same.
+        (so_fragment_leaves l x x' gone is leaves same so.0, slots.fragments h ps x x' l gone runs is so.1 leaves same);
     turns = λ turn h first after p p' x x' turned runs so turns. (
       so_item turn x x' runs.0 so.0 p.inner p'.inner turned (middle W first after p so.1) turns,
-      places.turns turn h first after p p' x x' turned runs so.1 turns,
+      slots.turns turn h first after p p' x x' turned runs so.1 turns,
     );
   } where
-    places : IsKept PortMove t (λ s. OfEach W s.places)
-    places = kept W law PortMove t
+    slots : IsKept PortMove t (λ s. OfEach W s.slots)
+    slots = kept W law PortMove t
 
   -- a host that is polled
-  pub polled_so : (s s' : StationValue) (budget : ℕ) (changed : Bool) → PollsAt s t budget changed s' → s.link.sent ≡ before → IsSound s.host.inner →
-      IsStation s.host.inner.hardware
-      → IfSome s.host.left IsLeftSo → AreSilent rest s.host.inner.neighbors.silent → OfEach W s.places →
-      (d : PortValue) × (d.link ≡ s'.link) × So d s'.host.inner s'.host.left × OfEach W s'.places
+  pub polled_so : (s s' : NodeValue) (budget : ℕ) (changed : Bool) → PollsAt s t budget changed s' → s.link.sent ≡ before → IsSound s.host.inner →
+      IsNode s.host.inner.hardware
+      → IfSome s.host.left IsLeftSo → AreSilent rest s.host.inner.neighbors.silent → OfEach W s.slots →
+      (d : PortValue) × (d.link ≡ s'.link) × So d s'.host.inner s'.host.left × OfEach W s'.slots
   polled_so s s' budget changed at same sound own left silent all =
       let began : So at.port s.host.inner s.host.left = record {
         sound = sound;

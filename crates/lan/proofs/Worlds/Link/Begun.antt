@@ -6,40 +6,40 @@ use Rattle.std.specs.List.{count_by}
 use Rattle.std.proofs.lemmas.List.{drop_at, get_or-drop}
 use Rattle.std.proofs.lemmas.List.Sums.{sum_by_push}
 use Rattle.std.proofs.lemmas.Bool.Decides.{nat_tests}
-use Rattle.lan_base.specs.Medium.{Medium}
-use Rattle.lan_base.specs.Medium.TheVariants as Medium
-use Rattle.lan_base.specs.Capabilities.{frame_header}
-use Rattle.interface.specs.Ipv4.{piece_of}
-use Rattle.interface_ingress.specs.Fields.{be16}
-use Rattle.interface_ingress.specs.HardwareAddress.{HardwareAddress}
-use Rattle.interface_ingress.specs.Headers.{piece_offset}
+use Rattle.sim_link.specs.Medium.{Medium}
+use Rattle.sim_link.specs.Medium.TheVariants as Medium
+use Rattle.sim_link.specs.Capabilities.{frame_header}
+use Rattle.interface.specs.Ipv4.{fragment_of}
+use Rattle.iface_ingress.specs.Fields.{be16}
+use Rattle.iface_ingress.specs.HardwareAddress.{HardwareAddress}
+use Rattle.iface_ingress.specs.Headers.{fragment_offset}
 use Rattle.interface.specs.IpRepr.{IpRepr}
 use Rattle.interface.specs.IpRepr.TheVariants as Ip
 use Rattle.interface.specs.Ipv4 as Ipv4
-use Rattle.interface.specs.Ipv4Piece.{Ipv4Piece}
+use Rattle.interface.specs.Ipv4Fragment.{Ipv4Fragment}
 use Rattle.interface.specs.Ipv6 as Ipv6
 use Rattle.sockets.specs.Packet.{PacketValue, PayloadValue, packet_of}
-use Rattle.interface_tables.specs.Pieces.{piece_at}
-use Rattle.interface_egress.specs.Departure.{packet_frame, packet_frame_len, piece_frame, piece_frame_len, piece_v6, fragment_header}
-use Rattle.interface_egress.specs.Fragments.{LeftValue, piece_room, next_piece}
-use Rattle.interface_egress.specs.declared.frame.CutHeader.{CutHeader}
-use Rattle.interface_egress.specs.declared.frame.CutHeader.TheVariants as Cut
+use Rattle.iface_tables.specs.FragmentList.{fragment_at}
+use Rattle.iface_egress.specs.Departure.{packet_frame, packet_frame_len, fragment_frame, fragment_frame_len, fragment_v6, fragment_header}
+use Rattle.iface_egress.specs.Fragments.{LeftValue, fragment_room, next_fragment}
+use Rattle.iface_egress.specs.declared.frame.CutHeader.{CutHeader}
+use Rattle.iface_egress.specs.declared.frame.CutHeader.TheVariants as Cut
 use Rattle.interface.specs.Delivered.{IsWritable}
-use Rattle.lan_base.specs.Carried.{packet_in}
-use Rattle.lan_base.specs.Cuts.{ipv4_part}
-use Rattle.lan_base.specs.Parts.{may_carry, is_ipv6, begins_pieces}
-use Rattle.lan_base.specs.declared.part.Part.{Part}
-use Rattle.lan_base.specs.Slices.{bytes_of_slice}
+use Rattle.sim_link.specs.PacketInFrame.{packet_in}
+use Rattle.sim_link.specs.Cuts.{ipv4_part}
+use Rattle.sim_link.specs.Parts.{may_carry, is_ipv6, begins_fragments}
+use Rattle.sim_link.specs.declared.part.Part.{Part}
+use Rattle.sim_link.specs.Slices.{bytes_of_slice}
 use Rattle.lan.specs.Worlds.AtLink.Origins.{begins_datagram}
 use Rattle.lan.specs.Worlds.Link.Made.{sealed}
-use Rattle.lan.specs.Worlds.Link.Frames.{Outgoing, number_by, medium_on, IsLinkHeader6, IsSlice, IsPiece6}
+use Rattle.lan.specs.Worlds.Link.Frames.{Outgoing, number_by, medium_on, IsLinkHeader6, IsSlice, IsFragment6}
 use Rattle.lan.specs.Worlds.Link.Numbers.{and_number, count_numbered, IsTied}
 use Rattle.lan.specs.Worlds.Link.Sides.{IsSameKind, IsLeft}
-use Rattle.lan.proofs.Worlds.Link.Behind.{with_len, packet_of_slice, read_slice, ether_front}
+use Rattle.lan.proofs.Worlds.Link.Following.{with_len, packet_of_slice, read_slice, ether_front}
 use Rattle.lan.proofs.Worlds.Link.CutFrames.{part_is}
 use Rattle.lan.proofs.Worlds.Link.Fragments.{offset_is}
-use Rattle.lan.proofs.Worlds.Link.Pieces6.{value6, fits6, len6}
-use Rattle.lan.proofs.Worlds.Link.Spelled.{as_whole, length_v6, whole4, piece4, piece6}
+use Rattle.lan.proofs.Worlds.Link.Fragments6.{value6, fits6, len6}
+use Rattle.lan.proofs.Worlds.Link.Spelled.{as_whole, length_v6, whole4, fragment4, fragment6}
 
 -- TESTS
 
@@ -67,30 +67,30 @@ is_none n is = grind (arith, nat_tests, is)
 
 module _ (medium : Medium) (out : List Outgoing) (frame : List ℕ) (f : IsSlice medium out frame) where
   abbrev spelled : List ℕ
-  spelled = Ipv4.written_piece true (with_len f.header f.slice.count) f.slice.at f.slice.more ++ bytes_of_slice f.bytes f.slice
+  spelled = Ipv4.written_fragment true (with_len f.header f.slice.count) f.slice.at f.slice.more ++ bytes_of_slice f.bytes f.slice
 
-  -- the packet behind the link header says where its slice begins
-  place_is : (piece_of (packet_in medium frame)).offset ≡ f.slice.at
-  place_is =
+  -- the packet after the link header says where its slice begins
+  slot_is : (fragment_of (packet_in medium frame)).offset ≡ f.slice.at
+  slot_is =
       let packet : packet_in medium frame ≡ packet_of_slice f.header f.bytes f.slice [] =
       ap (drop (frame_header medium)) f.frame_is ∙ drop_at f.link spelled (frame_header medium) f.is_link.len ∙ sym (append-nil spelled) in
       let read = read_slice f.header f.bytes [] f.slice f.sent.value f.sent.short f.within f.unit in
-      ap (λ (b : List ℕ). (piece_of b).offset) packet ∙ sym (ap (λ (p : Ipv4Piece). p.offset) read.piece_is)
+      ap (λ (b : List ℕ). (fragment_of b).offset) packet ∙ sym (ap (λ (p : Ipv4Fragment). p.offset) read.fragment_is)
 
   pub slice_begins : f.slice.at ≡ 0 → begins_datagram medium frame ≡ true
   slice_begins first =
-      either (is_some (ipv4_part medium frame) && ((piece_of (packet_in medium frame)).offset == 0)) (begins_pieces medium frame)
-      (ap (λ (o : Option Part). is_some o && ((piece_of (packet_in medium frame)).offset == 0)) (part_is medium out frame f)
-      ∙ ap (λ (n : ℕ). n == 0) (place_is ∙ first))
+      either (is_some (ipv4_part medium frame) && ((fragment_of (packet_in medium frame)).offset == 0)) (begins_fragments medium frame)
+      (ap (λ (o : Option Part). is_some o && ((fragment_of (packet_in medium frame)).offset == 0)) (part_is medium out frame f)
+      ∙ ap (λ (n : ℕ). n == 0) (slot_is ∙ first))
 
 -- A PIECE OF IPV6
 
-module _ (medium : Medium) (out : List Outgoing) (frame : List ℕ) (f : IsPiece6 medium out frame) where
+module _ (medium : Medium) (out : List Outgoing) (frame : List ℕ) (f : IsFragment6 medium out frame) where
   abbrev rest_p : List ℕ
-  rest_p = fragment_header f.header.next_header f.number f.piece ++ f.piece.bytes
+  rest_p = fragment_header f.header.next_header f.number f.fragment ++ f.fragment.bytes
 
   abbrev w_p : List ℕ
-  w_p = Ipv6.written (piece_v6 f.header f.piece)
+  w_p = Ipv6.written (fragment_v6 f.header f.fragment)
 
   in_frame : packet_in medium frame ≡ w_p ++ rest_p
   in_frame = ap (drop (frame_header medium)) f.frame_is ∙ drop_at f.link (w_p ++ rest_p) (frame_header medium) f.is_link.len
@@ -101,38 +101,38 @@ module _ (medium : Medium) (out : List Outgoing) (frame : List ℕ) (f : IsPiece
   carries_v6 Medium.Ip is_link = refl
 
   header_long : length w_p ≡ 40
-  header_long = length_v6 (piece_v6 f.header f.piece) (value6 medium out frame f)
+  header_long = length_v6 (fragment_v6 f.header f.fragment) (value6 medium out frame f)
 
   is_v6 : is_ipv6 (w_p ++ rest_p) ≡ true
   is_v6 =
-      let size : be16 (w_p ++ rest_p) 4 ≡ 8 + length f.piece.bytes = (let fits = fits6 medium out frame f in omega (arith, fits)) in
-      let rest_long : length rest_p ≡ 8 + length f.piece.bytes = sym (len6 medium out frame f) in
+      let size : be16 (w_p ++ rest_p) 4 ≡ 8 + length f.fragment.bytes = (let fits = fits6 medium out frame f in omega (arith, fits)) in
+      let rest_long : length rest_p ≡ 8 + length f.fragment.bytes = sym (len6 medium out frame f) in
       three (nat_le 40 (length (w_p ++ rest_p))) (slice_index (w_p ++ rest_p) 0 / 16 == 6) (nat_le (40 + be16 (w_p ++ rest_p) 4) (length (w_p ++ rest_p)))
       (less_is 40 (length (w_p ++ rest_p)) (omega (arith, length-append w_p rest_p, header_long))) refl
       (less_is (40 + be16 (w_p ++ rest_p) 4) (length (w_p ++ rest_p)) (omega (arith, length-append w_p rest_p, header_long, size, rest_long)))
 
-  word_behind : be16 (w_p ++ rest_p) 42 ≡ be16 rest_p 2
-  word_behind =
-      let behind : drop 40 (w_p ++ rest_p) ≡ rest_p = drop_at w_p rest_p 40 header_long in
+  word_following : be16 (w_p ++ rest_p) 42 ≡ be16 rest_p 2
+  word_following =
+      let following : drop 40 (w_p ++ rest_p) ≡ rest_p = drop_at w_p rest_p 40 header_long in
       let high : slice_index (w_p ++ rest_p) 42 ≡ slice_index rest_p 2 =
-      sym (get_or-drop 40 (w_p ++ rest_p) 2 0) ∙ ap (λ (l : List ℕ). slice_index l 2) behind in
+      sym (get_or-drop 40 (w_p ++ rest_p) 2 0) ∙ ap (λ (l : List ℕ). slice_index l 2) following in
       let low : slice_index (w_p ++ rest_p) 43 ≡ slice_index rest_p 3 =
-      sym (get_or-drop 40 (w_p ++ rest_p) 3 0) ∙ ap (λ (l : List ℕ). slice_index l 3) behind in
+      sym (get_or-drop 40 (w_p ++ rest_p) 3 0) ∙ ap (λ (l : List ℕ). slice_index l 3) following in
       omega (arith, high, low)
 
-  pub piece6_begins : f.piece.offset ≡ 0 → begins_datagram medium frame ≡ true
-  piece6_begins first =
-      let at : piece_offset rest_p ≡ f.piece.offset =
-      offset_is f.header.next_header f.number f.piece.offset f.piece.bytes (let a = f.room in let b = f.cut.short in omega (arith, a, b)) f.unit f.piece.more in
+  pub fragment6_begins : f.fragment.offset ≡ 0 → begins_datagram medium frame ≡ true
+  fragment6_begins first =
+      let at : fragment_offset rest_p ≡ f.fragment.offset =
+      offset_is f.header.next_header f.number f.fragment.offset f.fragment.bytes (let a = f.room in let b = f.cut.short in omega (arith, a, b)) f.unit f.fragment.more in
       let none : be16 rest_p 2 / 8 ≡ 0 = omega (arith, at, first) in
-      let begins : begins_pieces medium frame ≡ true =
+      let begins : begins_fragments medium frame ≡ true =
       four (may_carry medium 0x86dd frame) (is_ipv6 (packet_in medium frame)) (slice_index (packet_in medium frame) 6 == 44)
       (be16 (packet_in medium frame) 42 / 8 == 0)
       (ap (may_carry medium 0x86dd) f.frame_is ∙ carries_v6 medium f.is_link)
       (ap is_ipv6 in_frame ∙ is_v6)
       (ap (λ (l : List ℕ). slice_index l 6 == 44) in_frame)
-      (ap (λ (l : List ℕ). be16 l 42 / 8 == 0) in_frame ∙ ap (λ (n : ℕ). n / 8 == 0) word_behind ∙ is_none (be16 rest_p 2 / 8) none) in
-      or_else (is_some (ipv4_part medium frame) && ((piece_of (packet_in medium frame)).offset == 0)) (begins_pieces medium frame) begins
+      (ap (λ (l : List ℕ). be16 l 42 / 8 == 0) in_frame ∙ ap (λ (n : ℕ). n / 8 == 0) word_following ∙ is_none (be16 rest_p 2 / 8) none) in
+      or_else (is_some (ipv4_part medium frame) && ((fragment_of (packet_in medium frame)).offset == 0)) (begins_fragments medium frame) begins
 
 -- A FIRST FRAME
 
@@ -153,23 +153,23 @@ whole_begins own to (Ip.Ipv4 v) x n same w len =
     omega (arith, one)
 whole_begins own to (Ip.Ipv6 v) x n same w len = omega arith
 
--- the first piece of one that is cut
+-- the first fragment of one that is cut
 begins_by : (own : HardwareAddress) (out : List Outgoing) (mtu : ℕ) (l : LeftValue) → IsLeft own out l → (header : CutHeader) → l.header ≡ header
-    → length (piece_frame sealed own l.to header (piece_at (piece_room header mtu) l.payload l.at)) ≡
-    piece_frame_len own l.to header (piece_at (piece_room header mtu) l.payload l.at)
-    → l.at ≡ 0 → begins_datagram (medium_on own) (piece_frame sealed own l.to header (piece_at (piece_room header mtu) l.payload l.at)) ≡ true
+    → length (fragment_frame sealed own l.to header (fragment_at (fragment_room header mtu) l.payload l.at)) ≡
+    fragment_frame_len own l.to header (fragment_at (fragment_room header mtu) l.payload l.at)
+    → l.at ≡ 0 → begins_datagram (medium_on own) (fragment_frame sealed own l.to header (fragment_at (fragment_room header mtu) l.payload l.at)) ≡ true
 begins_by own out mtu l left (Cut.Ipv4 v) is len first =
-    let f = piece4 own out mtu v l is left len in
-    slice_begins (medium_on own) out (piece_frame sealed own l.to (Cut.Ipv4 v) (piece_at (piece_room (Cut.Ipv4 v) mtu) l.payload l.at)) f.0 (f.1 ∙ first)
+    let f = fragment4 own out mtu v l is left len in
+    slice_begins (medium_on own) out (fragment_frame sealed own l.to (Cut.Ipv4 v) (fragment_at (fragment_room (Cut.Ipv4 v) mtu) l.payload l.at)) f.0 (f.1 ∙ first)
 begins_by own out mtu l left (Cut.Ipv6 v number) is len first =
-    let f = piece6 own out mtu v number l is left len in
-    piece6_begins (medium_on own) out (piece_frame sealed own l.to (Cut.Ipv6 v number) (piece_at (piece_room (Cut.Ipv6 v number) mtu) l.payload l.at)) f.0
+    let f = fragment6 own out mtu v number l is left len in
+    fragment6_begins (medium_on own) out (fragment_frame sealed own l.to (Cut.Ipv6 v number) (fragment_at (fragment_room (Cut.Ipv6 v number) mtu) l.payload l.at)) f.0
     (f.1 ∙ first)
 
-pub piece_begins : (own : HardwareAddress) (out : List Outgoing) (mtu : ℕ) (l : LeftValue) → IsLeft own out l →
-    length (piece_frame sealed own l.to l.header (next_piece mtu l)) ≡ piece_frame_len own l.to l.header (next_piece mtu l)
-    → l.at ≡ 0 → begins_datagram (medium_on own) (piece_frame sealed own l.to l.header (next_piece mtu l)) ≡ true
-piece_begins own out mtu l left len first = begins_by own out mtu l left l.header refl len first
+pub fragment_begins : (own : HardwareAddress) (out : List Outgoing) (mtu : ℕ) (l : LeftValue) → IsLeft own out l →
+    length (fragment_frame sealed own l.to l.header (next_fragment mtu l)) ≡ fragment_frame_len own l.to l.header (next_fragment mtu l)
+    → l.at ≡ 0 → begins_datagram (medium_on own) (fragment_frame sealed own l.to l.header (next_fragment mtu l)) ≡ true
+fragment_begins own out mtu l left len first = begins_by own out mtu l left l.header refl len first
 
 -- TIES
 

@@ -1,37 +1,37 @@
 -- A frame of which one word of the TCP segment was exchanged for one of another sum brings no segment.
 use Rattle.std.proofs.Common.{◌≡◌, ◌≢◌, inl, inr, ℕ, zero, suc, ◌+◌, ◌/◌, ◌%◌, ◌^◌, ◌<◌, ◌≤◌, List, [], ◌∷◌, ◌++◌, length, refl, ◌∙◌, ap, subst, arith}
 use Rattle.std.proofs.Math.ListN.{set}
-use Rattle.interface_ingress.specs.Fields.{be16, put16}
+use Rattle.iface_ingress.specs.Fields.{be16, put16}
 use Rattle.interface.specs.Ip as Ips
 use Rattle.interface.specs.Ip.{carried_in, source_of, destination_of}
-use Rattle.interface_ingress.specs.IpProtocol.TheVariants as Protocol
+use Rattle.iface_ingress.specs.IpProtocol.TheVariants as Protocol
 use Rattle.interface.specs.IpRepr.{IpRepr}
 use Rattle.interface.specs.IpRepr.TheVariants as Ip
-use Rattle.ip_tcp.specs.Tcp as Tcp
-use Rattle.ip_tcp.proofs.Sealed.{IsTcp-put16}
+use Rattle.wire_tcp.specs.Tcp as Tcp
+use Rattle.wire_tcp.proofs.Sealed.{IsTcp-put16}
 use Rattle.sockets.specs.Packet.{PacketValue, PayloadValue, ControlV4, ControlV6, Bytes, Datagram, Segment}
-use Rattle.interface_ingress.specs.Carried.{IsCarried}
-use Rattle.interface_ingress.specs.Kept.{IsDamaged}
-use Rattle.interface_ingress.specs.Sent.{normal_payload}
-use Rattle.interface_ingress.proofs.Bare.{bare_where}
-use Rattle.interface_ingress.specs.Upper.{upper_payload}
-use Rattle.interface_ingress.proofs.FramesArrive.{payload-arrives}
+use Rattle.iface_ingress.specs.UpperLayer.{IsCarried}
+use Rattle.iface_ingress.specs.FragmentStored.{IsDamaged}
+use Rattle.iface_ingress.specs.Sent.{normal_payload}
+use Rattle.iface_ingress.proofs.Bare.{bare_where}
+use Rattle.iface_ingress.specs.Upper.{upper_payload}
+use Rattle.iface_ingress.proofs.FramesArrive.{payload-arrives}
 use Rattle.lan.specs.Worlds.Link.Made.{Makes, sealed, WasMade, HandsMade, bytes_of}
 use Rattle.lan.specs.Worlds.Link.Frames.{IsOut}
-use Rattle.lan.proofs.Worlds.Link.Behind.{sealed_both}
+use Rattle.lan.proofs.Worlds.Link.Following.{sealed_both}
 
 -- A WORD EXCHANGED BEHIND
 
-set_behind : (a b : List ℕ) (n k x : ℕ) → n ≡ length a + k → set (a ++ b) n x ≡ a ++ set b k x
-set_behind [] b n k x is = let e : n ≡ k = omega arith in ap (λ (m : ℕ). set b m x) e
-set_behind (y ∷ a) b zero k x is = absurd (omega arith)
-set_behind (y ∷ a) b (suc n) k x is = ap (λ (l : List ℕ). y ∷ l) (set_behind a b n k x (omega arith))
+set_following : (a b : List ℕ) (n k x : ℕ) → n ≡ length a + k → set (a ++ b) n x ≡ a ++ set b k x
+set_following [] b n k x is = let e : n ≡ k = omega arith in ap (λ (m : ℕ). set b m x) e
+set_following (y ∷ a) b zero k x is = absurd (omega arith)
+set_following (y ∷ a) b (suc n) k x is = ap (λ (l : List ℕ). y ∷ l) (set_following a b n k x (omega arith))
 
-pub put_behind : (a b : List ℕ) (n k word : ℕ) → n ≡ length a + k → put16 (a ++ b) n word ≡ a ++ put16 b k word
-put_behind a b n k word is =
+pub put_following : (a b : List ℕ) (n k word : ℕ) → n ≡ length a + k → put16 (a ++ b) n word ≡ a ++ put16 b k word
+put_following a b n k word is =
     let high : ℕ = word / 256 % 256 in
     let low : ℕ = word % 256 in
-    ap (λ (l : List ℕ). set l (n + 1) low) (set_behind a b n k high is) ∙ set_behind a (set b k high) (n + 1) (k + 1) low (omega (arith, is))
+    ap (λ (l : List ℕ). set l (n + 1) low) (set_following a b n k high is) ∙ set_following a (set b k high) (n + 1) (k + 1) low (omega (arith, is))
 
 set_len : (xs : List ℕ) (k x : ℕ) → length (set xs k x) ≡ length xs
 set_len [] k x = refl
@@ -74,14 +74,14 @@ module _ (made : Makes) where
 
   pub hands_damaged : (ip : IpRepr) (payload : List ℕ) → IsDamaged sealed ip payload → HandsMade made ip payload
   hands_damaged ip payload bad x is =
-      let straight = bare_where ip payload Protocol.Tcp bad.0 refl in
+      let direct = bare_where ip payload Protocol.Tcp bad.0 refl in
       none_damaged ip payload bad x
-      (subst (λ (bytes : List ℕ). IsCarried sealed ip bytes x) straight.1
-      (subst (λ (h : IpRepr). IsCarried sealed h (upper_payload ip payload) x) straight.0 is))
+      (subst (λ (bytes : List ℕ). IsCarried sealed ip bytes x) direct.1
+      (subst (λ (h : IpRepr). IsCarried sealed h (upper_payload ip payload) x) direct.0 is))
 
 -- a segment whose checksum holds, with a word exchanged, is none
-pub no_segment : (ip : IpRepr) (bytes : List ℕ) (place word : ℕ) → carried_in ip ≡ Protocol.Tcp → Tcp.IsChecked (source_of ip) (destination_of ip) bytes →
-    place % 2 ≡ 0 → place + 2 ≤ length bytes → word < 2 ^ 16
-    → be16 bytes place % 65535 ≢ word % 65535 → IsDamaged sealed ip (put16 bytes place word)
-no_segment ip bytes place word tcp checked even within small other =
-    (tcp, λ header carried_bytes is. IsTcp-put16 (source_of ip) (destination_of ip) bytes place word header checked even within small other is.format)
+pub no_segment : (ip : IpRepr) (bytes : List ℕ) (slot word : ℕ) → carried_in ip ≡ Protocol.Tcp → Tcp.IsChecked (source_of ip) (destination_of ip) bytes →
+    slot % 2 ≡ 0 → slot + 2 ≤ length bytes → word < 2 ^ 16
+    → be16 bytes slot % 65535 ≢ word % 65535 → IsDamaged sealed ip (put16 bytes slot word)
+no_segment ip bytes slot word tcp checked even within small other =
+    (tcp, λ header carried_bytes is. IsTcp-put16 (source_of ip) (destination_of ip) bytes slot word header checked even within small other is.format)

@@ -4,42 +4,42 @@ use Rattle.std.proofs.Common.{take, drop, slice_index, Option, Some, None, refl,
 use Rattle.std.specs.Prelude.{nat_le, slice_range}
 use Rattle.std.proofs.lemmas.List.{drop_at, take_at}
 use Rattle.std.proofs.lemmas.Bool.Decides.{nat_tests}
-use Rattle.lan_base.specs.Medium.{Medium}
-use Rattle.lan_base.specs.Capabilities.{frame_header}
-use Rattle.interface_ingress.specs.Fields.{be16, put16}
-use Rattle.interface_ingress.specs.HardwareAddress.{HardwareAddress}
-use Rattle.interface_ingress.specs.HardwareAddress.TheVariants as Hardware
+use Rattle.sim_link.specs.Medium.{Medium}
+use Rattle.sim_link.specs.Capabilities.{frame_header}
+use Rattle.iface_ingress.specs.Fields.{be16, put16}
+use Rattle.iface_ingress.specs.HardwareAddress.{HardwareAddress}
+use Rattle.iface_ingress.specs.HardwareAddress.TheVariants as Hardware
 use Rattle.interface.specs.Ip as Ips
 use Rattle.interface.specs.Ip.{carried_in, source_of, destination_of}
-use Rattle.interface_ingress.specs.IpProtocol.TheVariants as Protocol
+use Rattle.iface_ingress.specs.IpProtocol.TheVariants as Protocol
 use Rattle.interface.specs.IpRepr.{IpRepr}
 use Rattle.interface.specs.IpRepr.TheVariants as Ip
 use Rattle.interface.specs.Ipv4 as Ipv4
-use Rattle.interface.specs.Ipv4Piece.{Ipv4Piece}
+use Rattle.interface.specs.Ipv4Fragment.{Ipv4Fragment}
 use Rattle.interface.specs.Ipv4Repr.{Ipv4Repr}
 use Rattle.interface.specs.Ipv6 as Ipv6
 use Rattle.interface.specs.Ipv6Repr.{Ipv6Repr}
 use Rattle.interface.specs.Parts.{has_flag}
-use Rattle.interface_egress.specs.Departure.{piece_v6, fragment_header}
-use Rattle.ip_address.specs.Protocol.{protocol_of}
-use Rattle.ip_tcp.specs.Tcp as Tcp
+use Rattle.iface_egress.specs.Departure.{fragment_v6, fragment_header}
+use Rattle.wire_address.specs.Protocol.{protocol_of}
+use Rattle.wire_tcp.specs.Tcp as Tcp
 use Rattle.interface.specs.Ipv4.{header_len_of}
-use Rattle.interface_ingress.specs.EthernetRepr.{EthernetRepr}
-use Rattle.interface_ingress.specs.Incoming.{IncomingValue, Ip4, Ip6, IsIncoming, IsPacketV4, IsPacketV6}
-use Rattle.interface_ingress.specs.Handed.{is_known_v6}
-use Rattle.interface_ingress.specs.Kept.{IsDamaged}
-use Rattle.interface_ingress.specs.Reassembled.{uncut}
-use Rattle.interface_ingress.proofs.FramesArrive.{piece-arrives}
-use Rattle.lan_base.specs.Carried.{packet_in}
-use Rattle.lan_base.specs.Parts.{may_carry, is_ipv4, is_ipv6, is_uncut, payload_v4, payload_v6, tcp_part, bytes_at, damaged}
-use Rattle.lan_base.specs.declared.part.Part.{Part}
-use Rattle.lan_base.specs.Slices.{IsLinkHeader, bytes_of_slice}
+use Rattle.iface_ingress.specs.EthernetRepr.{EthernetRepr}
+use Rattle.iface_ingress.specs.Incoming.{IncomingValue, Ip4, Ip6, IsIncoming, IsPacketV4, IsPacketV6}
+use Rattle.iface_ingress.specs.Processed.{is_known_v6}
+use Rattle.iface_ingress.specs.FragmentStored.{IsDamaged}
+use Rattle.iface_ingress.specs.Reassembled.{uncut}
+use Rattle.iface_ingress.proofs.FramesArrive.{fragment-arrives}
+use Rattle.sim_link.specs.PacketInFrame.{packet_in}
+use Rattle.sim_link.specs.Parts.{may_carry, is_ipv4, is_ipv6, is_uncut, payload_v4, payload_v6, tcp_part, bytes_at, damaged}
+use Rattle.sim_link.specs.declared.part.Part.{Part}
+use Rattle.sim_link.specs.Slices.{IsLinkHeader, bytes_of_slice}
 use Rattle.lan.specs.Worlds.Link.Made.{Makes, sealed, bytes_of}
-use Rattle.lan.specs.Worlds.Link.Frames.{Outgoing, medium_on, IsSlice, IsWhole6, IsPiece6, IsLinkHeader6, IsFrom, BringsFrom, AreOut}
+use Rattle.lan.specs.Worlds.Link.Frames.{Outgoing, medium_on, IsSlice, IsWhole6, IsFragment6, IsLinkHeader6, IsFrom, BringsFrom, AreOut}
 use Rattle.lan.specs.Worlds.Link.Sides.{IsHostFrame, IsDamage}
-use Rattle.lan.proofs.Worlds.Link.Behind.{sealed_both, with_len, value_with, count_of_slice, piece_of_slice, read_slice, read_v6, read_behind4, read_behind6}
-use Rattle.lan.proofs.Worlds.Link.Behind.{ether_front, said, none_left}
-use Rattle.lan.proofs.Worlds.Link.Damaged.{put_behind, put_len, segment_checked, hands_damaged, no_segment}
+use Rattle.lan.proofs.Worlds.Link.Following.{sealed_both, with_len, value_with, count_of_slice, fragment_of_slice, read_slice, read_v6, read_following4, read_following6}
+use Rattle.lan.proofs.Worlds.Link.Following.{ether_front, said, none_left}
+use Rattle.lan.proofs.Worlds.Link.Damaged.{put_following, put_len, segment_checked, hands_damaged, no_segment}
 use Rattle.lan.proofs.Worlds.Link.HostFrames.{other_version}
 use Rattle.lan.proofs.Worlds.Link.Spelled.{length_v4, length_v6}
 use Rattle.lan.proofs.Worlds.Link.Whole6.{known_whole}
@@ -98,14 +98,14 @@ number_of n m is = grind (arith, nat_tests, is)
 
 -- THE WORD
 
--- behind two headers
-put_behind_both : (link w x : List ℕ) (n place word : ℕ) → n ≡ length link + (length w + place) →
-    put16 (link ++ (w ++ x)) n word ≡ link ++ (w ++ put16 x place word)
-put_behind_both link w x n place word is =
-    put_behind link (w ++ x) n (length w + place) word is ∙ ap (λ (l : List ℕ). link ++ l) (put_behind w x (length w + place) place word refl)
+-- after two headers
+put_following_both : (link w x : List ℕ) (n slot word : ℕ) → n ≡ length link + (length w + slot) →
+    put16 (link ++ (w ++ x)) n word ≡ link ++ (w ++ put16 x slot word)
+put_following_both link w x n slot word is =
+    put_following link (w ++ x) n (length w + slot) word is ∙ ap (λ (l : List ℕ). link ++ l) (put_following w x (length w + slot) slot word refl)
 
-bytes_behind : (link w x : List ℕ) (n m : ℕ) → n ≡ length link + length w → m ≡ length x → slice_range (link ++ (w ++ x)) n (n + m) ≡ x
-bytes_behind link w x n m at len =
+bytes_following : (link w x : List ℕ) (n m : ℕ) → n ≡ length link + length w → m ≡ length x → slice_range (link ++ (w ++ x)) n (n + m) ≡ x
+bytes_following link w x n m at len =
     let count : n + m - n ≡ length x = omega (arith, len) in
     let long : length (link ++ w) ≡ n = length-append link w ∙ sym at in
     ap (λ (k : ℕ). take k (drop n (link ++ (w ++ x)))) count
@@ -182,10 +182,10 @@ bad_from made out v (inr b) =
     (inl (known_whole b.header b.payload (ap is_known_v6 b.bad.0), hands_damaged made (Ip.Ipv6 b.header) b.payload b.bad))
 
 module _ (made : Makes) (hardware : HardwareAddress) (out : List Outgoing) (all : AreOut made out) (frame : List ℕ) (part : Part)
-    (place word : ℕ) where
+    (slot word : ℕ) where
   module _ (f : IsSlice (medium_on hardware) out frame) (is_part : tcp_part (medium_on hardware) frame ≡ Some part) where
     abbrev w : List ℕ
-    w = Ipv4.written_piece true (with_len f.header f.slice.count) f.slice.at f.slice.more
+    w = Ipv4.written_fragment true (with_len f.header f.slice.count) f.slice.at f.slice.more
 
     abbrev x : List ℕ
     x = bytes_of_slice f.bytes f.slice
@@ -196,8 +196,8 @@ module _ (made : Makes) (hardware : HardwareAddress) (out : List Outgoing) (all 
     abbrev header : Ipv4Repr
     header = Ipv4.normal (with_len f.header f.slice.count)
 
-    known : IsPacketV4 sealed packet header (piece_of_slice f.slice) x
-    known = subst (λ (b : List ℕ). IsPacketV4 sealed b header (piece_of_slice f.slice) x) (append-nil packet)
+    known : IsPacketV4 sealed packet header (fragment_of_slice f.slice) x
+    known = subst (λ (b : List ℕ). IsPacketV4 sealed b header (fragment_of_slice f.slice) x) (append-nil packet)
         (read_slice f.header f.bytes [] f.slice f.sent.value f.sent.short f.within f.unit)
 
     inside : packet_in (medium_on hardware) (f.link ++ packet) ≡ packet
@@ -223,10 +223,10 @@ module _ (made : Makes) (hardware : HardwareAddress) (out : List Outgoing) (all 
     low = omega arith
 
     start : f.slice.at ≡ 0
-    start = at_start packet f.slice.at flags (ap (λ (p : Ipv4Piece). p.offset) known.piece_is)
+    start = at_start packet f.slice.at flags (ap (λ (p : Ipv4Fragment). p.offset) known.fragment_is)
 
     ended : f.slice.more ≡ false
-    ended = no_more packet f.slice.more flags low (ap (λ (p : Ipv4Piece). p.more) known.piece_is)
+    ended = no_more packet f.slice.more flags low (ap (λ (p : Ipv4Fragment). p.more) known.fragment_is)
 
     protocol : header.next_header ≡ Protocol.Tcp
     protocol = known.format.protocol ∙ ap protocol_of (ap (λ (l : List ℕ). slice_index l 9) (sym inside) ∙ number_of (slice_index q 9) 6 tests.1)
@@ -248,11 +248,11 @@ module _ (made : Makes) (hardware : HardwareAddress) (out : List Outgoing) (all 
 
     segment_is : bytes_at frame part ≡ x
     segment_is = ap (λ (b : List ℕ). bytes_at b part) f.frame_is
-        ∙ bytes_behind f.link w x part.at part.len (omega (arith, part_at, f.is_link.len, long_w)) (part_len ∙ sym long_x)
+        ∙ bytes_following f.link w x part.at part.len (omega (arith, part_at, f.is_link.len, long_w)) (part_len ∙ sym long_x)
 
-    damaged_is : damaged frame part place word ≡ f.link ++ (w ++ put16 x place word)
-    damaged_is = ap (λ (b : List ℕ). put16 b (part.at + place) word) f.frame_is
-        ∙ put_behind_both f.link w x (part.at + place) place word (omega (arith, part_at, f.is_link.len, long_w))
+    damaged_is : damaged frame part slot word ≡ f.link ++ (w ++ put16 x slot word)
+    damaged_is = ap (λ (b : List ℕ). put16 b (part.at + slot) word) f.frame_is
+        ∙ put_following_both f.link w x (part.at + slot) slot word (omega (arith, part_at, f.is_link.len, long_w))
 
     all_bytes : x ≡ f.bytes
     all_bytes =
@@ -271,27 +271,27 @@ module _ (made : Makes) (hardware : HardwareAddress) (out : List Outgoing) (all 
         subst (λ (h : IpRepr). Tcp.IsChecked (source_of (Ips.normal h)) (destination_of (Ips.normal h)) (bytes_of f.sent.packet)) f.sent.header of_packet in
         subst (λ (b : List ℕ). Tcp.IsChecked (source_of (Ip.Ipv4 header)) (destination_of (Ip.Ipv4 header)) b) (sym (all_bytes ∙ f.sent.bytes_are)) of_header
 
-    slice_bad : (padding : List ℕ) → IsDamage frame part place word → BringsBad hardware (damaged frame part place word ++ padding)
+    slice_bad : (padding : List ℕ) → IsDamage frame part slot word → BringsBad hardware (damaged frame part slot word ++ padding)
     slice_bad padding damage v is =
-        let x' : List ℕ = put16 x place word in
-        let joined : damaged frame part place word ++ padding ≡ f.link ++ ((w ++ x') ++ padding) = ap (λ (b : List ℕ). b ++ padding) damaged_is ∙
+        let x' : List ℕ = put16 x slot word in
+        let joined : damaged frame part slot word ++ padding ≡ f.link ++ ((w ++ x') ++ padding) = ap (λ (b : List ℕ). b ++ padding) damaged_is ∙
         append_assoc f.link (w ++ x') padding in
-        let len : f.slice.count ≡ length x' = sym (put_len x place word ∙ long_x) in
-        let read : IsPacketV4 sealed ((w ++ x') ++ padding) header (piece_of_slice f.slice) x' =
-        piece-arrives Hardware.Ip sealed sealed None (with_len f.header f.slice.count) (piece_of_slice f.slice) x' padding tt
+        let len : f.slice.count ≡ length x' = sym (put_len x slot word ∙ long_x) in
+        let read : IsPacketV4 sealed ((w ++ x') ++ padding) header (fragment_of_slice f.slice) x' =
+        fragment-arrives Hardware.Ip sealed sealed None (with_len f.header f.slice.count) (fragment_of_slice f.slice) x' padding tt
         (let a = f.within.within in let b = f.sent.short in omega (arith, a, b)) (value_with f.header f.slice.count f.sent.value) len (let a =
         f.within.within in let b = f.sent.short in omega (arith, a, b)) f.unit sealed_both in
-        let found = read_behind4 ((w ++ x') ++ padding) header (piece_of_slice f.slice) x' read hardware f.link v f.is_link
+        let found = read_following4 ((w ++ x') ++ padding) header (fragment_of_slice f.slice) x' read hardware f.link v f.is_link
         (subst (λ (b : List ℕ). IsIncoming hardware sealed b v) joined is) in
-        let whole : piece_of_slice f.slice ≡ uncut = λ k. record { offset = start k; more = ended k } in
-        let other : be16 x place % 65535 ≢ word % 65535 = subst (λ (b : List ℕ). be16 b place % 65535 ≢ word % 65535) segment_is damage.other in
-        let room : place + 2 ≤ length x = let a = damage.within in omega (arith, a, part_len, long_x) in
+        let whole : fragment_of_slice f.slice ≡ uncut = λ k. record { offset = start k; more = ended k } in
+        let other : be16 x slot % 65535 ≢ word % 65535 = subst (λ (b : List ℕ). be16 b slot % 65535 ≢ word % 65535) segment_is damage.other in
+        let room : slot + 2 ≤ length x = let a = damage.within in omega (arith, a, part_len, long_x) in
         inl (record {
           link = found.0;
           header = header;
           payload = x';
-          value_is = found.1 ∙ ap (λ (p : Ipv4Piece). Ip4 found.0 header p x') whole;
-          bad = no_segment (Ip.Ipv4 header) x place word protocol checked damage.even room damage.small other;
+          value_is = found.1 ∙ ap (λ (p : Ipv4Fragment). Ip4 found.0 header p x') whole;
+          bad = no_segment (Ip.Ipv4 header) x slot word protocol checked damage.even room damage.small other;
         })
 
   -- IPV6
@@ -339,11 +339,11 @@ module _ (made : Makes) (hardware : HardwareAddress) (out : List Outgoing) (all 
 
     segment_is6 : bytes_at frame part ≡ f.bytes
     segment_is6 = ap (λ (b : List ℕ). bytes_at b part) f.frame_is
-        ∙ bytes_behind f.link w6 f.bytes part.at part.len (omega (arith, part_at6, f.is_link.len, long_w6)) part_len6
+        ∙ bytes_following f.link w6 f.bytes part.at part.len (omega (arith, part_at6, f.is_link.len, long_w6)) part_len6
 
-    damaged_is6 : damaged frame part place word ≡ f.link ++ (w6 ++ put16 f.bytes place word)
-    damaged_is6 = ap (λ (b : List ℕ). put16 b (part.at + place) word) f.frame_is
-        ∙ put_behind_both f.link w6 f.bytes (part.at + place) place word (omega (arith, part_at6, f.is_link.len, long_w6))
+    damaged_is6 : damaged frame part slot word ≡ f.link ++ (w6 ++ put16 f.bytes slot word)
+    damaged_is6 = ap (λ (b : List ℕ). put16 b (part.at + slot) word) f.frame_is
+        ∙ put_following_both f.link w6 f.bytes (part.at + slot) slot word (omega (arith, part_at6, f.is_link.len, long_w6))
 
     protocol_sent6 : carried_in (Ips.normal f.sent.packet.header) ≡ Protocol.Tcp
     protocol_sent6 = ap (λ (h : IpRepr). carried_in (Ips.normal h)) f.sent.header ∙ protocol6
@@ -355,28 +355,28 @@ module _ (made : Makes) (hardware : HardwareAddress) (out : List Outgoing) (all 
         subst (λ (h : IpRepr). Tcp.IsChecked (source_of (Ips.normal h)) (destination_of (Ips.normal h)) (bytes_of f.sent.packet)) f.sent.header of_packet in
         subst (λ (b : List ℕ). Tcp.IsChecked (source_of (Ip.Ipv6 header6)) (destination_of (Ip.Ipv6 header6)) b) (sym f.sent.bytes_are) of_header
 
-    whole6_bad : (padding : List ℕ) → IsDamage frame part place word → BringsBad hardware (damaged frame part place word ++ padding)
+    whole6_bad : (padding : List ℕ) → IsDamage frame part slot word → BringsBad hardware (damaged frame part slot word ++ padding)
     whole6_bad padding damage v is =
-        let x' : List ℕ = put16 f.bytes place word in
-        let joined : damaged frame part place word ++ padding ≡ f.link ++ ((w6 ++ x') ++ padding) = ap (λ (b : List ℕ). b ++ padding) damaged_is6 ∙
+        let x' : List ℕ = put16 f.bytes slot word in
+        let joined : damaged frame part slot word ++ padding ≡ f.link ++ ((w6 ++ x') ++ padding) = ap (λ (b : List ℕ). b ++ padding) damaged_is6 ∙
         append_assoc f.link (w6 ++ x') padding in
-        let len : f.header.payload_len ≡ length x' = f.sent.len ∙ sym (put_len f.bytes place word) in
-        let found = read_behind6 ((w6 ++ x') ++ padding) header6 x' (read_v6 f.header x' padding f.sent.value f.sent.fits len) hardware f.link v f.is_link
+        let len : f.header.payload_len ≡ length x' = f.sent.len ∙ sym (put_len f.bytes slot word) in
+        let found = read_following6 ((w6 ++ x') ++ padding) header6 x' (read_v6 f.header x' padding f.sent.value f.sent.fits len) hardware f.link v f.is_link
         (subst (λ (b : List ℕ). IsIncoming hardware sealed b v) joined is) in
-        let other : be16 f.bytes place % 65535 ≢ word % 65535 = subst (λ (b : List ℕ). be16 b place % 65535 ≢ word % 65535) segment_is6 damage.other in
-        let room : place + 2 ≤ length f.bytes = let a = damage.within in omega (arith, a, part_len6) in
+        let other : be16 f.bytes slot % 65535 ≢ word % 65535 = subst (λ (b : List ℕ). be16 b slot % 65535 ≢ word % 65535) segment_is6 damage.other in
+        let room : slot + 2 ≤ length f.bytes = let a = damage.within in omega (arith, a, part_len6) in
         inr (record {
           link = found.0;
           header = header6;
           payload = x';
           value_is = found.1;
-          bad = no_segment (Ip.Ipv6 header6) f.bytes place word protocol6 checked6 damage.even room damage.small other;
+          bad = no_segment (Ip.Ipv6 header6) f.bytes slot word protocol6 checked6 damage.even room damage.small other;
         })
 
-  -- a piece of IPv6 has no segment
-  module _ (f : IsPiece6 (medium_on hardware) out frame) where
+  -- a fragment of IPv6 has no segment
+  module _ (f : IsFragment6 (medium_on hardware) out frame) where
     abbrev packet_p : List ℕ
-    packet_p = Ipv6.written (piece_v6 f.header f.piece) ++ (fragment_header f.header.next_header f.number f.piece ++ f.piece.bytes)
+    packet_p = Ipv6.written (fragment_v6 f.header f.fragment) ++ (fragment_header f.header.next_header f.number f.fragment ++ f.fragment.bytes)
 
     abbrev q_p : List ℕ
     q_p = packet_in (medium_on hardware) (f.link ++ packet_p)
@@ -384,13 +384,13 @@ module _ (made : Makes) (hardware : HardwareAddress) (out : List Outgoing) (all 
     no_tcp : slice_index q_p 6 == 6 ≡ false
     no_tcp = ap (λ (l : List ℕ). slice_index l 6 == 6) (drop_at f.link packet_p (frame_header (medium_on hardware)) f.is_link.len)
 
-    piece6_none : tcp_part (medium_on hardware) frame ≡ None
-    piece6_none =
+    fragment6_none : tcp_part (medium_on hardware) frame ≡ None
+    fragment6_none =
         ap (tcp_part (medium_on hardware)) f.frame_is
         ∙ neither (may_carry (medium_on hardware) 0x0800 (f.link ++ packet_p) && is_ipv4 q_p && is_uncut q_p && (slice_index q_p 9 == 6))
         (may_carry (medium_on hardware) 0x86dd (f.link ++ packet_p) && is_ipv6 q_p && (slice_index q_p 6 == 6)) (payload_v4 (medium_on hardware) q_p)
         (payload_v6 (medium_on hardware) q_p)
-        (version_no4 (medium_on hardware) f.link (piece_v6 f.header f.piece) (fragment_header f.header.next_header f.number f.piece ++ f.piece.bytes)
+        (version_no4 (medium_on hardware) f.link (fragment_v6 f.header f.fragment) (fragment_header f.header.next_header f.number f.fragment ++ f.fragment.bytes)
         (is_uncut q_p) (slice_index q_p 9 == 6) f.is_link)
         (last_no (may_carry (medium_on hardware) 0x86dd (f.link ++ packet_p)) (is_ipv6 q_p) (slice_index q_p 6 == 6) no_tcp)
 
@@ -401,14 +401,14 @@ module _ (made : Makes) (hardware : HardwareAddress) (out : List Outgoing) (all 
 
   -- a host's frame with a word of its TCP segment exchanged, and any padding
   pub damaged_bad : (padding : List ℕ) → IsHostFrame (medium_on hardware) out frame → tcp_part (medium_on hardware) frame ≡ Some part →
-      IsDamage frame part place word
-      → BringsBad hardware (damaged frame part place word ++ padding)
+      IsDamage frame part slot word
+      → BringsBad hardware (damaged frame part slot word ++ padding)
   damaged_bad padding (inl f) is damage = slice_bad f is padding damage
   damaged_bad padding (inr (inl f)) is damage = whole6_bad f is padding damage
-  damaged_bad padding (inr (inr (inl f))) is damage = absurd (none_there (tcp_part (medium_on hardware) frame) (piece6_none f) is)
+  damaged_bad padding (inr (inr (inl f))) is damage = absurd (none_there (tcp_part (medium_on hardware) frame) (fragment6_none f) is)
   damaged_bad padding (inr (inr (inr f))) is damage = absurd (none_there (tcp_part (medium_on hardware) frame) f.no_segment is)
 
   pub damaged_brings : (padding : List ℕ) → IsHostFrame (medium_on hardware) out frame → tcp_part (medium_on hardware) frame ≡ Some part →
-      IsDamage frame part place word
-      → BringsFrom made out hardware (damaged frame part place word ++ padding)
+      IsDamage frame part slot word
+      → BringsFrom made out hardware (damaged frame part slot word ++ padding)
   damaged_brings padding f is damage v read = bad_from made out v (damaged_bad padding f is damage v read)

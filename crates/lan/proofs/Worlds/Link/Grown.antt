@@ -1,26 +1,26 @@
 -- What was made and what was sent only grows.
 use Rattle.std.proofs.Common.{inl, inr, ℕ, List, [], ◌∷◌}
 use Rattle.std.specs.List.{AllByRecursion}
-use Rattle.lan_base.specs.Medium.{Medium}
-use Rattle.interface_ingress.specs.HardwareAddress.{HardwareAddress}
+use Rattle.sim_link.specs.Medium.{Medium}
+use Rattle.iface_ingress.specs.HardwareAddress.{HardwareAddress}
 use Rattle.interface.specs.Ip.{source_of, destination_of}
 use Rattle.interface.specs.IpRepr.{IpRepr}
 use Rattle.interface.specs.IpRepr.TheVariants as Ip
 use Rattle.interface.specs.Ipv4Repr.{Ipv4Repr}
 use Rattle.interface.specs.Ipv6Repr.{Ipv6Repr}
-use Rattle.interface_ingress.specs.IpAddress.{IpAddress}
+use Rattle.iface_ingress.specs.IpAddress.{IpAddress}
 use Rattle.sockets.specs.Packet.{PacketValue, PayloadValue, ControlV4, ControlV6, Bytes, Datagram, Segment}
-use Rattle.interface_tables.specs.Inner.{InnerValue}
-use Rattle.interface_tables.specs.Reassembly.{SlotValue}
-use Rattle.interface_tables.specs.declared.key.FragKey.{FragKey}
-use Rattle.interface_tables.specs.declared.key.FragKey.TheVariants as Keys
-use Rattle.interface_ingress.specs.Incoming.{IncomingValue, Arp, Ip4, Ip6}
-use Rattle.interface_egress.specs.declared.frame.CutHeader.{CutHeader}
-use Rattle.interface_egress.specs.declared.frame.CutHeader.TheVariants as Cut
-use Rattle.interface_ingress.specs.Reassembled.{Slots, PieceValue, part_v4}
+use Rattle.iface_tables.specs.Inner.{InnerValue}
+use Rattle.iface_tables.specs.Reassembly.{AssemblerValue}
+use Rattle.iface_tables.specs.declared.key.FragKey.{FragKey}
+use Rattle.iface_tables.specs.declared.key.FragKey.TheVariants as Keys
+use Rattle.iface_ingress.specs.Incoming.{IncomingValue, Arp, Ip4, Ip6}
+use Rattle.iface_egress.specs.declared.frame.CutHeader.{CutHeader}
+use Rattle.iface_egress.specs.declared.frame.CutHeader.TheVariants as Cut
+use Rattle.iface_ingress.specs.Reassembled.{Assemblers, FragmentValue, part_v4}
 use Rattle.lan.specs.Worlds.Link.Made.{Makes, WasMade, HandsMade, IsGoing}
-use Rattle.lan.specs.Worlds.Link.Frames.{Outgoing, IsSentV4, IsSentV6, IsCutV6, IsDatagram, IsPieceOf, IsFrom, BringsFrom}
-use Rattle.lan.specs.Worlds.Link.Held.{IsOfKey, IsSlotOf}
+use Rattle.lan.specs.Worlds.Link.Frames.{Outgoing, IsSentV4, IsSentV6, IsCutV6, IsDatagram, IsFragmentOf, IsFrom, BringsFrom}
+use Rattle.lan.specs.Worlds.Link.StoredFragments.{IsOfKey, IsAssemblerOf}
 use Rattle.lan.specs.Worlds.Link.Sides.{Grows, IsCutFrom, IsHostFrame, IsReceiver, AreSent}
 
 module _ {X : Type 0} (P Q : X → Type 0) (grows : (x : X) → P x → Q x) where
@@ -117,7 +117,7 @@ module _ (out out' : List Outgoing) (grows : Grows out out') where
         header = f.header;
         number = f.number;
         bytes = f.bytes;
-        piece = f.piece;
+        fragment = f.fragment;
         cut = cut6_grows f.header f.number f.bytes f.cut;
         is_link = f.is_link;
         within = f.within;
@@ -128,15 +128,15 @@ module _ (out out' : List Outgoing) (grows : Grows out out') where
       })))
   frame_grows medium frame (inr (inr (inr f))) = inr (inr (inr f))
 
-  key_grows : (key : FragKey) (s : SlotValue FragKey) → IsOfKey out key s → IsOfKey out' key s
+  key_grows : (key : FragKey) (s : AssemblerValue FragKey) → IsOfKey out key s → IsOfKey out' key s
   key_grows key s (inl none) = inl none
   key_grows key s (inr held) = inr (record { bytes = held.bytes; sent = datagram_grows key held.bytes held.sent; holds = held.holds })
 
-  slot_grows : (s : SlotValue FragKey) → IsSlotOf out s → IsSlotOf out' s
-  slot_grows s is key key_is = key_grows key s (is key key_is)
+  assembler_grows : (s : AssemblerValue FragKey) → IsAssemblerOf out s → IsAssemblerOf out' s
+  assembler_grows s is key key_is = key_grows key s (is key key_is)
 
-  piece_grows : (p : PieceValue) → IsPieceOf out p → IsPieceOf out' p
-  piece_grows p piece = record { bytes = piece.bytes; sent = datagram_grows p.key piece.bytes piece.sent; slice = piece.slice }
+  fragment_grows : (p : FragmentValue) → IsFragmentOf out p → IsFragmentOf out' p
+  fragment_grows p fragment = record { bytes = fragment.bytes; sent = datagram_grows p.key fragment.bytes fragment.sent; slice = fragment.slice }
 
   -- WHAT WAS MADE
 
@@ -155,19 +155,19 @@ module _ (out out' : List Outgoing) (grows : Grows out out') where
     from_grows : (v : IncomingValue) → IsFrom made out v → IsFrom made' out' v
     from_grows (Arp link packet) from = inl tt
     from_grows (Ip4 link h p x) (inl whole) = inl (whole.0, hands_grow (Ip.Ipv4 h) x whole.1)
-    from_grows (Ip4 link h p x) (inr piece) = inr (piece_grows (part_v4 h p x) piece)
+    from_grows (Ip4 link h p x) (inr fragment) = inr (fragment_grows (part_v4 h p x) fragment)
     from_grows (Ip6 link h x) (inl whole) = inl (whole.0, hands_grow (Ip.Ipv6 h) x whole.1)
-    from_grows (Ip6 link h x) (inr piece) =
-        inr (record { part = piece.part; part_is = piece.part_is; of = piece_grows piece.part piece.of })
+    from_grows (Ip6 link h x) (inr fragment) =
+        inr (record { part = fragment.part; part_is = fragment.part_is; of = fragment_grows fragment.part fragment.of })
 
     brings_grow : (hardware : HardwareAddress) (frame : List ℕ) → BringsFrom made out hardware frame → BringsFrom made' out' hardware frame
     brings_grow hardware frame brings v is = from_grows v (brings v is)
 
-    pub receiver_grows : (i : InnerValue) (slots : Slots) (waiting : List (List ℕ)) → IsReceiver made out i slots waiting →
-        IsReceiver made' out' i slots waiting
-    receiver_grows i slots waiting r = record {
+    pub receiver_grows : (i : InnerValue) (assemblers : Assemblers) (waiting : List (List ℕ)) → IsReceiver made out i assemblers waiting →
+        IsReceiver made' out' i assemblers waiting
+    receiver_grows i assemblers waiting r = record {
       checksums = r.checksums;
-      slots_are = all_grow (IsSlotOf out) (IsSlotOf out') slot_grows slots r.slots_are;
+      assemblers_are = all_grow (IsAssemblerOf out) (IsAssemblerOf out') assembler_grows assemblers r.assemblers_are;
       waits = all_grow (BringsFrom made out i.hardware) (BringsFrom made' out' i.hardware) (brings_grow i.hardware) waiting r.waits;
     }
 

@@ -2,35 +2,35 @@
 use Rattle.std.proofs.Common.{◌≡◌, inl, inr, ℕ, ◌+◌, ◌%◌, ◌≤◌, ◌/◌, ◌==◌, ◌&&◌, Bool, true, false, cond, List, ◌++◌, length, slice_index, Option, Some, None}
 use Rattle.std.proofs.Common.{refl, sym, ◌∙◌, ap, subst}
 use Rattle.std.specs.Prelude.{nat_le}
-use Rattle.lan_base.specs.Medium.{Medium}
-use Rattle.lan_base.specs.Capabilities.{frame_header}
-use Rattle.interface_ingress.specs.Fields.{be16}
-use Rattle.interface_ingress.specs.HardwareAddress.{HardwareAddress}
+use Rattle.sim_link.specs.Medium.{Medium}
+use Rattle.sim_link.specs.Capabilities.{frame_header}
+use Rattle.iface_ingress.specs.Fields.{be16}
+use Rattle.iface_ingress.specs.HardwareAddress.{HardwareAddress}
 use Rattle.interface.specs.Ipv6 as Ipv6
 use Rattle.interface.specs.Ipv6Repr.{Ipv6Repr}
-use Rattle.interface_egress.specs.Departure.{piece_v6, fragment_header}
+use Rattle.iface_egress.specs.Departure.{fragment_v6, fragment_header}
 use Rattle.interface.specs.Ipv4.{header_len_of}
-use Rattle.lan_base.specs.Carried.{packet_in, names_tcp_or_udp}
-use Rattle.lan_base.specs.Cuts.{ipv4_part, first_piece, second_piece}
-use Rattle.lan_base.specs.Parts.{may_carry, is_ipv4, payload_v4}
-use Rattle.lan_base.specs.declared.part.Part.{Part}
+use Rattle.sim_link.specs.PacketInFrame.{packet_in, names_tcp_or_udp}
+use Rattle.sim_link.specs.Cuts.{ipv4_part, first_fragment, second_fragment}
+use Rattle.sim_link.specs.Parts.{may_carry, is_ipv4, payload_v4}
+use Rattle.sim_link.specs.declared.part.Part.{Part}
 use Rattle.lan.specs.Worlds.Link.Made.{Makes}
 use Rattle.lan.specs.Worlds.Link.Frames.{Outgoing, medium_on, IsLinkHeader6, BringsFrom, AreOut}
 use Rattle.lan.specs.Worlds.Link.Sides.{IsHostFrame}
-use Rattle.lan.proofs.Worlds.Link.Behind.{ether_front, said, none_left}
-use Rattle.lan.proofs.Worlds.Link.Contents.{slice_brings, whole6_brings, piece6_brings}
+use Rattle.lan.proofs.Worlds.Link.Following.{ether_front, said, none_left}
+use Rattle.lan.proofs.Worlds.Link.Contents.{slice_brings, whole6_brings, fragment6_brings}
 use Rattle.lan.proofs.Worlds.Link.CutFrames.{part_is, front_is, back_is}
 use Rattle.lan.proofs.Worlds.Link.Noise.{noise_names_neither, whole_where_none}
 
 -- HANDED OVER
 
 module _ (made : Makes) (hardware : HardwareAddress) (out : List Outgoing) where
-  -- a host's frame, or a piece that the link made, with any padding
+  -- a host's frame, or a fragment that the link made, with any padding
   pub host_frame_brings : (frame padding : List ℕ) → AreOut made out → IsHostFrame (medium_on hardware) out frame →
       BringsFrom made out hardware (frame ++ padding)
   host_frame_brings frame padding all (inl f) = slice_brings made hardware out frame padding f
   host_frame_brings frame padding all (inr (inl f)) = whole6_brings made hardware out frame padding all f
-  host_frame_brings frame padding all (inr (inr (inl f))) = piece6_brings made hardware out frame padding all f
+  host_frame_brings frame padding all (inr (inr (inl f))) = fragment6_brings made hardware out frame padding all f
   host_frame_brings frame padding all (inr (inr (inr f))) = λ v is. inl (whole_where_none made v (f.brings hardware padding v refl is))
 
   -- bytes that name neither TCP nor UDP
@@ -77,10 +77,10 @@ uncut6 Medium.Ip frame link v bytes is_link is =
 no_part : (o : Option Part) (part : Part) → o ≡ None → o ≡ Some part → ⊥
 no_part o part none some = cc
 
--- both pieces of a frame that can be cut are frames of its host's packets
+-- both fragments of a frame that can be cut are frames of its host's packets
 pub cut_is_host : (medium : Medium) (out : List Outgoing) (frame : List ℕ) (part : Part) (at : ℕ) → IsHostFrame medium out frame →
     ipv4_part medium frame ≡ Some part → at ≤ part.len → at % 8 ≡ 0
-    → IsHostFrame medium out (first_piece medium frame at) × IsHostFrame medium out (second_piece medium frame at)
+    → IsHostFrame medium out (first_fragment medium frame at) × IsHostFrame medium out (second_fragment medium frame at)
 cut_is_host medium out frame part at (inl f) is within unit =
     let same : Some part ≡ Some (record { at = frame_header medium + 20; len = f.slice.count }) = sym is ∙ part_is medium out frame f in
     let part_same : part ≡ record { at = frame_header medium + 20; len = f.slice.count } = cc in
@@ -91,6 +91,6 @@ cut_is_host medium out frame part at (inr (inl f)) is within unit =
     absurd (no_part (ipv4_part medium frame) part (uncut6 medium frame f.link f.header f.bytes f.is_link f.frame_is) is)
 cut_is_host medium out frame part at (inr (inr (inl f))) is within unit =
     absurd (no_part (ipv4_part medium frame) part
-    (uncut6 medium frame f.link (piece_v6 f.header f.piece) (fragment_header f.header.next_header f.number f.piece ++ f.piece.bytes) f.is_link f.frame_is)
+    (uncut6 medium frame f.link (fragment_v6 f.header f.fragment) (fragment_header f.header.next_header f.number f.fragment ++ f.fragment.bytes) f.is_link f.frame_is)
     is)
 cut_is_host medium out frame part at (inr (inr (inr f))) is within unit = absurd (no_part (ipv4_part medium frame) part f.uncut is)

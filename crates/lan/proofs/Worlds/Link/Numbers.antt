@@ -42,30 +42,30 @@ one_more (Some m) k n is = refl
 
 -- which number a packet has
 pub record HasNumber (first : ℕ) (out : List Outgoing) (n : ℕ) : Type 0 where
-  pub place : ℕ
-  pub below : place < count_numbered out
-  pub number : n ≡ (first + place) % 2 ^ 16
+  pub slot : ℕ
+  pub below : slot < count_numbered out
+  pub number : n ≡ (first + slot) % 2 ^ 16
 
-place_of : (first : ℕ) (out : List Outgoing) (next : ℕ) (p : PacketValue) (n : ℕ) → AreNumbered first out next → IsNumbered p n out → HasNumber first out n
-place_of first [] next p n are among = absurd among
-place_of first (o ∷ out) next p n are (inl is) =
+slot_of : (first : ℕ) (out : List Outgoing) (next : ℕ) (p : PacketValue) (n : ℕ) → AreNumbered first out next → IsNumbered p n out → HasNumber first out n
+slot_of first [] next p n are among = absurd among
+slot_of first (o ∷ out) next p n are (inl is) =
     let before : AreNumbered first out n = takes_some first out next n (number_of o) is.1 are in
     record {
-      place = count_numbered out;
+      slot = count_numbered out;
       below = omega (arith, one_more (number_of o) n (count_numbered out) is.1);
       number = next_is first out n before;
     }
-place_of first (o ∷ out) next p n are (inr older) =
+slot_of first (o ∷ out) next p n are (inr older) =
     let before = takes_any first out next (number_of o) are in
-    let has = place_of first out before.0 p n before.1 older in
-    record { place = has.place; below = omega (arith, has.below, more_numbers (number_of o) (count_numbered out)); number = has.number }
+    let has = slot_of first out before.0 p n before.1 older in
+    record { slot = has.slot; below = omega (arith, has.below, more_numbers (number_of o) (count_numbered out)); number = has.number }
 
 -- the newest packet's number isn't that of an older one
 newest : (first : ℕ) (out : List Outgoing) (next : ℕ) (o : Outgoing) (p : PacketValue) (n : ℕ) → AreNumbered first (o ∷ out) next → AreFew (o ∷ out) →
     number_of o ≡ Some n → IsNumbered p n out → ⊥
 newest first out next o p n are few is older =
     let before : AreNumbered first out n = takes_some first out next n (number_of o) is are in
-    let has = place_of first out n p n before older in
+    let has = slot_of first out n p n before older in
     let number = next_is first out n before in
     omega (arith, has.below, has.number, number, few, one_more (number_of o) n (count_numbered out) is)
 

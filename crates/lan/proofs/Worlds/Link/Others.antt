@@ -3,38 +3,38 @@ use Rattle.std.proofs.Common.{◌≡◌, ℕ, ◌+◌, Bool, true, false, cond, 
 use Rattle.std.proofs.Common.{arith, length-append, length-drop, append_assoc}
 use Rattle.std.specs.Int.{w16, to_be_bytes}
 use Rattle.std.proofs.lemmas.List.{drop_at}
-use Rattle.lan_base.specs.Medium.{Medium}
-use Rattle.interface_egress.specs.Arp as Arps
-use Rattle.interface_ingress.specs.EthernetAddress.{EthernetAddress}
-use Rattle.interface_ingress.specs.EthernetProtocol.TheVariants as Ether
-use Rattle.interface_ingress.specs.Fields.{be16}
-use Rattle.interface_ingress.specs.HardwareAddress.{HardwareAddress}
-use Rattle.interface_ingress.specs.HardwareAddress.TheVariants as Hardware
-use Rattle.interface_ingress.specs.IpProtocol.{IpProtocol}
-use Rattle.interface_ingress.specs.IpProtocol.TheVariants as Protocol
+use Rattle.sim_link.specs.Medium.{Medium}
+use Rattle.iface_egress.specs.Arp as Arps
+use Rattle.iface_ingress.specs.EthernetAddress.{EthernetAddress}
+use Rattle.iface_ingress.specs.EthernetProtocol.TheVariants as Ether
+use Rattle.iface_ingress.specs.Fields.{be16}
+use Rattle.iface_ingress.specs.HardwareAddress.{HardwareAddress}
+use Rattle.iface_ingress.specs.HardwareAddress.TheVariants as Hardware
+use Rattle.iface_ingress.specs.IpProtocol.{IpProtocol}
+use Rattle.iface_ingress.specs.IpProtocol.TheVariants as Protocol
 use Rattle.interface.specs.Ipv6 as Ipv6
-use Rattle.ip_address.specs.Protocol.{ether_number, protocol_of}
-use Rattle.interface_ingress.specs.ArpRepr.{ArpRepr}
-use Rattle.interface_ingress.specs.ArpRepr.TheVariants as Arp
-use Rattle.interface_egress.specs.Departure.{arp_frame, arp_request, solicited_station, solicitation_header, solicitation, question_frame}
-use Rattle.interface_egress.specs.declared.frame.Question.{Question}
-use Rattle.interface_egress.specs.declared.frame.Question.TheVariants as Query
-use Rattle.interface_ingress.specs.Incoming.{IncomingValue, IsIncoming}
-use Rattle.interface_ingress.specs.Incoming as Content
+use Rattle.wire_address.specs.Protocol.{ether_number, protocol_of}
+use Rattle.iface_ingress.specs.ArpRepr.{ArpRepr}
+use Rattle.iface_ingress.specs.ArpRepr.TheVariants as Arp
+use Rattle.iface_egress.specs.Departure.{arp_frame, arp_request, solicited_hardware_addr, solicitation_header, solicitation, solicitation_frame}
+use Rattle.iface_egress.specs.declared.frame.NeighborQuery.{NeighborQuery}
+use Rattle.iface_egress.specs.declared.frame.NeighborQuery.TheVariants as Query
+use Rattle.iface_ingress.specs.Incoming.{IncomingValue, IsIncoming}
+use Rattle.iface_ingress.specs.Incoming as Content
 use Rattle.interface.specs.Ip.{carried_in}
-use Rattle.interface_ingress.proofs.Bare.{bare_v6}
-use Rattle.interface_ingress.specs.Handed.{is_known_v6}
+use Rattle.iface_ingress.proofs.Bare.{bare_v6}
+use Rattle.iface_ingress.specs.Processed.{is_known_v6}
 use Rattle.interface.specs.Delivered.{NamesNoPorts}
-use Rattle.lan_base.specs.Carried.{packet_in}
-use Rattle.lan_base.specs.Parts.{may_carry, is_ipv4, is_ipv6, is_uncut, payload_v4, payload_v6}
-use Rattle.lan_base.specs.declared.part.Part.{Part}
+use Rattle.sim_link.specs.PacketInFrame.{packet_in}
+use Rattle.sim_link.specs.Parts.{may_carry, is_ipv4, is_ipv6, is_uncut, payload_v4, payload_v6}
+use Rattle.sim_link.specs.declared.part.Part.{Part}
 use Rattle.lan.specs.Worlds.Link.Made.{sealed, bytes_of}
 use Rattle.lan.specs.Worlds.Link.Frames.{medium_on}
-use Rattle.interface_egress.proofs.Planned.{AsksFrom}
-use Rattle.lan.specs.Worlds.Link.Sides.{IsOther, BringsNone, IsBetweenStations, HasSixBytes}
+use Rattle.iface_egress.proofs.Planned.{AsksFrom}
+use Rattle.lan.specs.Worlds.Link.Sides.{IsOther, BringsNone, IsBetweenNodes, HasSixBytes}
 use Rattle.lan.proofs.Worlds.Link.Asked.{IsAsked}
-use Rattle.lan.proofs.Worlds.Link.Behind.{carries}
-use Rattle.lan.proofs.Worlds.Link.Links.{number_behind}
+use Rattle.lan.proofs.Worlds.Link.Following.{carries}
+use Rattle.lan.proofs.Worlds.Link.Links.{number_following}
 use Rattle.lan.proofs.Worlds.Link.Whole6.{known_whole}
 
 -- TESTS THAT FAIL
@@ -83,8 +83,8 @@ arp_other link rest len here there = record {
 abbrev arp_tail : List ℕ
 arp_tail = to_be_bytes w16 (ether_number Ether.Arp)
 
--- the frame of an ARP packet between two stations
-pub arp_is_other : (packet : ArpRepr) → IsBetweenStations packet → IsOther Medium.Ethernet (arp_frame packet)
+-- the frame of an ARP packet between two hosts
+pub arp_is_other : (packet : ArpRepr) → IsBetweenNodes packet → IsOther Medium.Ethernet (arp_frame packet)
 arp_is_other (Arp.EthernetIpv4 operation source source_protocol target target_protocol) between =
     let rest : List ℕ = Arps.written (Arp.EthernetIpv4 operation source source_protocol target target_protocol) in
     let link : List ℕ = target.0 ++ (source.0 ++ arp_tail) in
@@ -92,8 +92,8 @@ arp_is_other (Arp.EthernetIpv4 operation source source_protocol target target_pr
     let len : length link ≡ 14 = omega (arith, count, length-append target.0 (source.0 ++ arp_tail), length-append source.0 arp_tail) in
     let joined : link ++ rest ≡ target.0 ++ (source.0 ++ (arp_tail ++ rest)) = append_assoc target.0 (source.0 ++ arp_tail) rest ∙
     ap (λ (l : List ℕ). target.0 ++ l) (append_assoc source.0 arp_tail rest) in
-    arp_other link rest len (number_behind target.0 source.0 arp_tail count) (ap (λ (l : List ℕ). be16 l 12) joined ∙
-    number_behind target.0 source.0 (arp_tail ++ rest) count)
+    arp_other link rest len (number_following target.0 source.0 arp_tail count) (ap (λ (l : List ℕ). be16 l 12) joined ∙
+    number_following target.0 source.0 (arp_tail ++ rest) count)
 
 -- QUESTIONS
 
@@ -147,15 +147,15 @@ control_other link packet len here there names still = record {
   reads Hardware.Ip padding v on is = absurd cc
 
 -- the frame of a question for a neighbour
-pub question_is_other : (hardware : HardwareAddress) (q : Question) → AsksFrom hardware q → HasSixBytes hardware → IsAsked q →
-    IsOther (medium_on hardware) (question_frame sealed q)
+pub question_is_other : (hardware : HardwareAddress) (q : NeighborQuery) → AsksFrom hardware q → HasSixBytes hardware → IsAsked q →
+    IsOther (medium_on hardware) (solicitation_frame sealed q)
 question_is_other hardware (Query.Arp own source target) from six asked =
     let own_six : length own.0 ≡ 6 = subst HasSixBytes from six in
-    subst (λ (h : HardwareAddress). IsOther (medium_on h) (question_frame sealed (Query.Arp own source target))) (sym from)
+    subst (λ (h : HardwareAddress). IsOther (medium_on h) (solicitation_frame sealed (Query.Arp own source target))) (sym from)
     (arp_is_other (arp_request own source target) (own_six, refl))
 question_is_other hardware (Query.Neighbor own source target) from six asked =
     let own_six : length own.0 ≡ 6 = subst HasSixBytes from six in
-    let to : List ℕ = (solicited_station target).0 in
+    let to : List ℕ = (solicited_hardware_addr target).0 in
     let link : List ℕ = to ++ (own.0 ++ v6_tail) in
     let packet : List ℕ = Ipv6.written (solicitation_header source target) ++ bytes_of (solicitation own source target) in
     let to_six : length to ≡ 6 = omega (arith, asked, length-drop 13 target.0) in
@@ -164,5 +164,5 @@ question_is_other hardware (Query.Neighbor own source target) from six asked =
     let joined : link ++ packet ≡ to ++ (own.0 ++ (v6_tail ++ packet)) = append_assoc to (own.0 ++ v6_tail) packet ∙
     ap (λ (l : List ℕ). to ++ l) (append_assoc own.0 v6_tail packet) in
     subst (λ (h : HardwareAddress). IsOther (medium_on h) (link ++ packet)) (sym from)
-    (control_other link packet len (number_behind to own.0 v6_tail count) (ap (λ (l : List ℕ). be16 l 12) joined ∙
-    number_behind to own.0 (v6_tail ++ packet) count) refl (λ padding. refl))
+    (control_other link packet len (number_following to own.0 v6_tail count) (ap (λ (l : List ℕ). be16 l 12) joined ∙
+    number_following to own.0 (v6_tail ++ packet) count) refl (λ padding. refl))

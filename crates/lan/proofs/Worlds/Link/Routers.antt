@@ -3,13 +3,13 @@ use Rattle.std.proofs.Common.{ℕ, zero, suc, Bool, true, false, cond, List, [],
 use Rattle.std.proofs.lemmas.List.{reverse-append}
 use Rattle.std.specs.Prelude.{ℤ, reverse, find, position}
 use Rattle.std.specs.List.{AllByRecursion, filter_map, cons_option}
-use Rattle.interface_ingress.specs.Address.{IsIpAddress}
-use Rattle.interface_ingress.specs.IpAddress.{IpAddress}
-use Rattle.interface_tables.specs.Best.{is_unbeaten}
-use Rattle.interface_tables.specs.Route.{serves, serving, is_longer, best_route, router_of, without_at, without}
-use Rattle.interface_tables.specs.declared.route.Route.{Route}
+use Rattle.iface_ingress.specs.Address.{IsIpAddress}
+use Rattle.iface_ingress.specs.IpAddress.{IpAddress}
+use Rattle.iface_tables.specs.Best.{is_unbeaten}
+use Rattle.iface_tables.specs.Route.{serves, serving, is_longer, best_route, router_of, without_at, without}
+use Rattle.iface_tables.specs.declared.route.Route.{Route}
 use Rattle.lan.specs.Worlds.Link.Sides.{RoutersAre}
-use Rattle.lan.proofs.Worlds.Link.Slots.{all_more}
+use Rattle.lan.proofs.Worlds.Link.Assemblers.{all_more}
 
 abbrev IsVia : Route → Type 0
 IsVia r = IsIpAddress r.via_router
@@ -19,16 +19,16 @@ module _ {X : Type 0} (P : X → Type 0) where
   find_is test [] all = tt
   find_is test (x ∷ xs) all = elim (test x) as (λ b. IfSome (cond b (Some x) (find test xs)) P) [ true ↦ all.0 | false ↦ find_is test xs all.1 ]
 
-one_serving : (address : IpAddress) (moment : ℤ) (r : Route) (rest : List Route) → IsVia r → AllByRecursion IsVia rest →
-    AllByRecursion IsVia (cons_option (serving address moment r) rest)
-one_serving address moment r rest is all =
-    elim (serves address moment r) as (λ b. AllByRecursion IsVia (cons_option (cond b (Some r) None) rest)) [ true ↦ (is, all) | false ↦ all ]
+one_serving : (address : IpAddress) (instant : ℤ) (r : Route) (rest : List Route) → IsVia r → AllByRecursion IsVia rest →
+    AllByRecursion IsVia (cons_option (serving address instant r) rest)
+one_serving address instant r rest is all =
+    elim (serves address instant r) as (λ b. AllByRecursion IsVia (cons_option (cond b (Some r) None) rest)) [ true ↦ (is, all) | false ↦ all ]
 
-serving_are : (address : IpAddress) (moment : ℤ) (routes : List Route) → AllByRecursion IsVia routes →
-    AllByRecursion IsVia (filter_map (serving address moment) routes)
-serving_are address moment [] all = tt
-serving_are address moment (r ∷ routes) all =
-    one_serving address moment r (filter_map (serving address moment) routes) all.0 (serving_are address moment routes all.1)
+serving_are : (address : IpAddress) (instant : ℤ) (routes : List Route) → AllByRecursion IsVia routes →
+    AllByRecursion IsVia (filter_map (serving address instant) routes)
+serving_are address instant [] all = tt
+serving_are address instant (r ∷ routes) all =
+    one_serving address instant r (filter_map (serving address instant) routes) all.0 (serving_are address instant routes all.1)
 
 all_reverse : (routes : List Route) → AllByRecursion IsVia routes → AllByRecursion IsVia (reverse routes)
 all_reverse [] all = tt
@@ -40,12 +40,12 @@ via_is None is = tt
 via_is (Some r) is = is
 
 -- whichever route a packet takes, its router is an address
-pub routers_are : (routes : List Route) → RoutersAre routes → (address : IpAddress) (moment : ℤ) →
-    IfSome (router_of (best_route routes address moment)) IsIpAddress
-routers_are routes all address moment =
-    let candidates : List Route = filter_map (serving address moment) (reverse routes) in
-    via_is (best_route routes address moment)
-    (find_is IsVia (is_unbeaten is_longer candidates) candidates (serving_are address moment (reverse routes) (all_reverse routes all)))
+pub routers_are : (routes : List Route) → RoutersAre routes → (address : IpAddress) (instant : ℤ) →
+    IfSome (router_of (best_route routes address instant)) IsIpAddress
+routers_are routes all address instant =
+    let candidates : List Route = filter_map (serving address instant) (reverse routes) in
+    via_is (best_route routes address instant)
+    (find_is IsVia (is_unbeaten is_longer candidates) candidates (serving_are address instant (reverse routes) (all_reverse routes all)))
 
 -- WITHOUT ONE
 

@@ -1,11 +1,11 @@
--- The frames of packets and pieces that left are slices, or whole packets of IPv6, or pieces of them.
+-- The frames of packets and fragments that left are slices, or whole packets of IPv6, or fragments of them.
 use Rattle.std.proofs.Common.{◌≡◌, inl, inr, ℕ, zero, suc, ◌+◌, ◌^◌, ◌<◌, ◌≤◌, Bool, true, false, List, [], ◌∷◌, ◌++◌, length, take, drop, refl, sym, ◌∙◌, ap}
 use Rattle.std.proofs.Common.{◌-◌, ◌*◌, ◌/◌, ◌%◌, Some, None, subst, arith, append_assoc, length-append, length-take, length-drop, append-nil}
 use Rattle.std.specs.Prelude.{nat_lt}
 use Rattle.std.proofs.lemmas.List.{take_at}
 use Rattle.std.proofs.lemmas.Bool.Decides.{nat_tests}
-use Rattle.interface_ingress.specs.EthernetProtocol.TheVariants as Ether
-use Rattle.interface_ingress.specs.HardwareAddress.{HardwareAddress}
+use Rattle.iface_ingress.specs.EthernetProtocol.TheVariants as Ether
+use Rattle.iface_ingress.specs.HardwareAddress.{HardwareAddress}
 use Rattle.interface.specs.IpRepr.{IpRepr}
 use Rattle.interface.specs.IpRepr.TheVariants as Ip
 use Rattle.interface.specs.Ipv4 as Ipv4
@@ -13,25 +13,25 @@ use Rattle.interface.specs.Ipv4Repr.{Ipv4Repr}
 use Rattle.interface.specs.Ipv6 as Ipv6
 use Rattle.interface.specs.Ipv6Repr.{Ipv6Repr}
 use Rattle.sockets.specs.Packet.{PacketValue, PayloadValue, packet_of, payload_len}
-use Rattle.interface_tables.specs.Pieces as Pieces
-use Rattle.interface_tables.specs.Pieces.{piece_at}
-use Rattle.interface_tables.proofs.Rebuilt.{IsSliceOf-piece_at}
-use Rattle.interface_egress.specs.Departure.{link_header, link_len, packet_frame, packet_frame_len, piece_frame, piece_frame_len, piece_header_len}
-use Rattle.interface_egress.specs.Departure.{piece_v6, fragment_header}
-use Rattle.interface_egress.specs.Fragments.{LeftValue, piece_room, next_piece}
-use Rattle.interface_egress.specs.declared.frame.CutHeader.{CutHeader}
-use Rattle.interface_egress.specs.declared.frame.CutHeader.TheVariants as Cut
+use Rattle.iface_tables.specs.FragmentList as FragmentList
+use Rattle.iface_tables.specs.FragmentList.{fragment_at}
+use Rattle.iface_tables.proofs.ReassembledDatagram.{IsSliceOf-fragment_at}
+use Rattle.iface_egress.specs.Departure.{link_header, link_len, packet_frame, packet_frame_len, fragment_frame, fragment_frame_len, fragment_header_len}
+use Rattle.iface_egress.specs.Departure.{fragment_v6, fragment_header}
+use Rattle.iface_egress.specs.Fragments.{LeftValue, fragment_room, next_fragment}
+use Rattle.iface_egress.specs.declared.frame.CutHeader.{CutHeader}
+use Rattle.iface_egress.specs.declared.frame.CutHeader.TheVariants as Cut
 use Rattle.interface.specs.Delivered.{IsCutValue, IsWritable}
 use Rattle.interface.proofs.Arrives.{length-written}
 use Rattle.lan.specs.Worlds.Link.Made.{sealed, bytes_of}
-use Rattle.lan.specs.Worlds.Link.Frames.{Outgoing, medium_on, IsSentV4, IsCutV6, IsSlice, IsWhole6, IsPiece6}
+use Rattle.lan.specs.Worlds.Link.Frames.{Outgoing, medium_on, IsSentV4, IsCutV6, IsSlice, IsWhole6, IsFragment6}
 use Rattle.lan.specs.Worlds.Link.Sides.{IsSameKind, IsHostFrame, IsCutFrom, IsLeft}
-use Rattle.lan.proofs.Worlds.Link.Behind.{with_len}
+use Rattle.lan.proofs.Worlds.Link.Following.{with_len}
 use Rattle.lan.proofs.Worlds.Link.Links.{link4, link6}
 
 -- LENGTHS
 
-pub length_v4 : (v : Ipv4Repr) (offset : ℕ) (more : Bool) → Ipv4.IsValue v → length (Ipv4.written_piece true v offset more) ≡ 20
+pub length_v4 : (v : Ipv4Repr) (offset : ℕ) (more : Bool) → Ipv4.IsValue v → length (Ipv4.written_fragment true v offset more) ≡ 20
 length_v4 v offset more value =
     omega (arith, value.source.0, value.destination.0, length-append v.src_addr.0 (v.dst_addr.0 ++ []), length-append v.dst_addr.0 [])
 
@@ -76,8 +76,8 @@ module _ (own to : HardwareAddress) (same : IsSameKind own to) (out : List Outgo
               (front link (Ipv4.written true v) bytes (link_len own to) 20 (payload_len x) len (length_v4 v 0 false w.header) (sent_len p w));
           within = record { within = omega arith; last = λ none. omega arith };
           unit = refl;
-          frame_is = ap (λ (n : ℕ). link ++ (Ipv4.written_piece true (with_len v n) 0 false ++ bytes)) count ∙
-              ap (λ (b : List ℕ). link ++ (Ipv4.written_piece true (with_len v (length bytes)) 0 false ++ b)) (sym all);
+          frame_is = ap (λ (n : ℕ). link ++ (Ipv4.written_fragment true (with_len v n) 0 false ++ bytes)) count ∙
+              ap (λ (b : List ℕ). link ++ (Ipv4.written_fragment true (with_len v (length bytes)) 0 false ++ b)) (sym all);
         },
         refl,
       )
@@ -127,23 +127,23 @@ take_count (suc n) (x ∷ xs) = ap (λ (l : List ℕ). x ∷ l) (take_count n xs
 ended : (a b : ℕ) → nat_lt a b ≡ false → b ≤ a
 ended a b none = grind (arith, nat_tests)
 
-behind_end : (a b : ℕ) → nat_lt a b ≡ true → a < b
-behind_end a b more = grind (arith, nat_tests)
+following_end : (a b : ℕ) → nat_lt a b ≡ true → a < b
+following_end a b more = grind (arith, nat_tests)
 
--- the next piece of what is left, from where that begins
+-- the next fragment of what is left, from where that begins
 module _ (own : HardwareAddress) (out : List Outgoing) (mtu : ℕ) where
   -- IPV4
 
-  pub piece4 : (v : Ipv4Repr) (l : LeftValue) → l.header ≡ Cut.Ipv4 v → IsLeft own out l →
-      length (piece_frame sealed own l.to (Cut.Ipv4 v) (piece_at (piece_room (Cut.Ipv4 v) mtu) l.payload l.at)) ≡
-      piece_frame_len own l.to (Cut.Ipv4 v) (piece_at (piece_room (Cut.Ipv4 v) mtu) l.payload l.at)
-      → (f : IsSlice (medium_on own) out (piece_frame sealed own l.to (Cut.Ipv4 v) (piece_at (piece_room (Cut.Ipv4 v) mtu) l.payload l.at)))
+  pub fragment4 : (v : Ipv4Repr) (l : LeftValue) → l.header ≡ Cut.Ipv4 v → IsLeft own out l →
+      length (fragment_frame sealed own l.to (Cut.Ipv4 v) (fragment_at (fragment_room (Cut.Ipv4 v) mtu) l.payload l.at)) ≡
+      fragment_frame_len own l.to (Cut.Ipv4 v) (fragment_at (fragment_room (Cut.Ipv4 v) mtu) l.payload l.at)
+      → (f : IsSlice (medium_on own) out (fragment_frame sealed own l.to (Cut.Ipv4 v) (fragment_at (fragment_room (Cut.Ipv4 v) mtu) l.payload l.at)))
       × (f.slice.at ≡ l.at)
-  piece4 v l header left len =
-      let room : ℕ = piece_room (Cut.Ipv4 v) mtu in
+  fragment4 v l header left len =
+      let room : ℕ = fragment_room (Cut.Ipv4 v) mtu in
       let part : List ℕ = take room (drop l.at l.payload) in
       let link : List ℕ = link_header own l.to Ether.Ipv4 in
-      let w : List ℕ = Ipv4.written_piece true (with_len v (length part)) l.at (nat_lt (l.at + room) (length l.payload)) in
+      let w : List ℕ = Ipv4.written_fragment true (with_len v (length part)) l.at (nat_lt (l.at + room) (length l.payload)) in
       let half = left.half in
       let value : Ipv4.IsValue v = subst IsCutValue header half.header_is in
       let sent : IsSentV4 out v l.payload = subst (λ (h : CutHeader). IsCutFrom out h l.payload) header left.sent in
@@ -155,7 +155,7 @@ module _ (own : HardwareAddress) (out : List Outgoing) (mtu : ℕ) where
         destination = value.destination;
         identification = value.identification;
         protocol = value.protocol;
-        hops = value.hops;
+        hop_limit = value.hop_limit;
       }) in (
         record {
           link = link;
@@ -180,41 +180,41 @@ module _ (own : HardwareAddress) (out : List Outgoing) (mtu : ℕ) where
   whole_units : (n : ℕ) → n / 8 * 8 % 8 ≡ 0
   whole_units n = omega arith
 
-  pub piece6 : (v : Ipv6Repr) (number : ℕ) (l : LeftValue) → l.header ≡ Cut.Ipv6 v number → IsLeft own out l →
-      length (piece_frame sealed own l.to (Cut.Ipv6 v number) (piece_at (piece_room (Cut.Ipv6 v number) mtu) l.payload l.at)) ≡
-      piece_frame_len own l.to (Cut.Ipv6 v number) (piece_at (piece_room (Cut.Ipv6 v number) mtu) l.payload l.at)
-      → (f : IsPiece6 (medium_on own) out (piece_frame sealed own l.to (Cut.Ipv6 v number) (piece_at (piece_room (Cut.Ipv6 v number) mtu) l.payload l.at)))
-      × (f.piece.offset ≡ l.at)
-  piece6 v number l header left len =
-      let room : ℕ = piece_room (Cut.Ipv6 v number) mtu in
-      let p : Pieces.Piece = piece_at room l.payload l.at in
+  pub fragment6 : (v : Ipv6Repr) (number : ℕ) (l : LeftValue) → l.header ≡ Cut.Ipv6 v number → IsLeft own out l →
+      length (fragment_frame sealed own l.to (Cut.Ipv6 v number) (fragment_at (fragment_room (Cut.Ipv6 v number) mtu) l.payload l.at)) ≡
+      fragment_frame_len own l.to (Cut.Ipv6 v number) (fragment_at (fragment_room (Cut.Ipv6 v number) mtu) l.payload l.at)
+      → (f : IsFragment6 (medium_on own) out (fragment_frame sealed own l.to (Cut.Ipv6 v number) (fragment_at (fragment_room (Cut.Ipv6 v number) mtu) l.payload l.at)))
+      × (f.fragment.offset ≡ l.at)
+  fragment6 v number l header left len =
+      let room : ℕ = fragment_room (Cut.Ipv6 v number) mtu in
+      let p : FragmentList.FragmentPart = fragment_at room l.payload l.at in
       let link : List ℕ = link_header own l.to Ether.Ipv6 in
-      let w : List ℕ = Ipv6.written (piece_v6 v p) in
-      let fragment : List ℕ = fragment_header v.next_header number p in
+      let w : List ℕ = Ipv6.written (fragment_v6 v p) in
+      let fragment_bytes : List ℕ = fragment_header v.next_header number p in
       let half = left.half in
       let value : Ipv6.IsValue v × (number < 2 ^ 32) = subst IsCutValue header half.header_is in
       let cut : IsCutV6 out v number l.payload = subst (λ (h : CutHeader). IsCutFrom out h l.payload) header left.sent in
       let most : l.at ≤ length l.payload = half.within in
-      let of_piece : Ipv6.IsValue (piece_v6 v p) =
-      record { source = value.0.source; destination = value.0.destination; protocol = omega arith; hops = value.0.hops } in
-      let long : length (w ++ fragment) ≡ 48 = omega (arith, length-append w fragment, length_v6 (piece_v6 v p) of_piece) in
-      let units_of : room % 8 ≡ 0 = whole_units (mtu - piece_header_len (Cut.Ipv6 v number)) in (
+      let of_fragment : Ipv6.IsValue (fragment_v6 v p) =
+      record { source = value.0.source; destination = value.0.destination; protocol = omega arith; hop_limit = value.0.hop_limit } in
+      let long : length (w ++ fragment_bytes) ≡ 48 = omega (arith, length-append w fragment_bytes, length_v6 (fragment_v6 v p) of_fragment) in
+      let units_of : room % 8 ≡ 0 = whole_units (mtu - fragment_header_len (Cut.Ipv6 v number)) in (
         record {
           link = link;
           header = v;
           number = number;
           bytes = l.payload;
-          piece = p;
+          fragment = p;
           cut = cut;
-          is_link = link6 own l.to left.to (front link (w ++ fragment) p.bytes (link_len own l.to) 48 (length p.bytes) len long refl);
-          within = IsSliceOf-piece_at room l.payload l.at most;
+          is_link = link6 own l.to left.to (front link (w ++ fragment_bytes) p.bytes (link_len own l.to) 48 (length p.bytes) len long refl);
+          within = IsSliceOf-fragment_at room l.payload l.at most;
           room = omega (arith, most, length-take room (drop l.at l.payload), length-drop l.at l.payload);
           unit = half.unit;
           units = λ more.
-              let less : l.at + room < length l.payload = behind_end (l.at + room) (length l.payload) more in
+              let less : l.at + room < length l.payload = following_end (l.at + room) (length l.payload) more in
               let all : length p.bytes ≡ room = omega (arith, most, less, length-take room (drop l.at l.payload), length-drop l.at l.payload) in
               ap (λ (n : ℕ). n % 8) all ∙ units_of;
-          frame_is = ap (λ (b : List ℕ). link ++ b) (append_assoc w fragment p.bytes);
+          frame_is = ap (λ (b : List ℕ). link ++ b) (append_assoc w fragment_bytes p.bytes);
         },
         refl,
       )
@@ -222,15 +222,15 @@ module _ (own : HardwareAddress) (out : List Outgoing) (mtu : ℕ) where
   -- EITHER
 
   abbrev next_of : LeftValue → CutHeader → List ℕ
-  next_of l header = piece_frame sealed own l.to header (piece_at (piece_room header mtu) l.payload l.at)
+  next_of l header = fragment_frame sealed own l.to header (fragment_at (fragment_room header mtu) l.payload l.at)
 
-  pub piece_by : (l : LeftValue) → IsLeft own out l → (header : CutHeader) → l.header ≡ header
-      → length (next_of l header) ≡ piece_frame_len own l.to header (piece_at (piece_room header mtu) l.payload l.at)
+  pub fragment_by : (l : LeftValue) → IsLeft own out l → (header : CutHeader) → l.header ≡ header
+      → length (next_of l header) ≡ fragment_frame_len own l.to header (fragment_at (fragment_room header mtu) l.payload l.at)
       → IsHostFrame (medium_on own) out (next_of l header)
-  piece_by l left (Cut.Ipv4 v) is len = inl (piece4 v l is left len).0
-  piece_by l left (Cut.Ipv6 v number) is len = inr (inr (inl (piece6 v number l is left len).0))
+  fragment_by l left (Cut.Ipv4 v) is len = inl (fragment4 v l is left len).0
+  fragment_by l left (Cut.Ipv6 v number) is len = inr (inr (inl (fragment6 v number l is left len).0))
 
-pub piece_frame_is : (own : HardwareAddress) (out : List Outgoing) (mtu : ℕ) (l : LeftValue) → IsLeft own out l →
-    length (piece_frame sealed own l.to l.header (next_piece mtu l)) ≡ piece_frame_len own l.to l.header (next_piece mtu l)
-    → IsHostFrame (medium_on own) out (piece_frame sealed own l.to l.header (next_piece mtu l))
-piece_frame_is own out mtu l left len = piece_by own out mtu l left l.header refl len
+pub fragment_frame_is : (own : HardwareAddress) (out : List Outgoing) (mtu : ℕ) (l : LeftValue) → IsLeft own out l →
+    length (fragment_frame sealed own l.to l.header (next_fragment mtu l)) ≡ fragment_frame_len own l.to l.header (next_fragment mtu l)
+    → IsHostFrame (medium_on own) out (fragment_frame sealed own l.to l.header (next_fragment mtu l))
+fragment_frame_is own out mtu l left len = fragment_by own out mtu l left l.header refl len

@@ -8,29 +8,29 @@ use Rattle.sockets.specs.Offer.TheVariants as Offer
 use Rattle.sockets.specs.Packet.{PacketValue}
 use Rattle.sockets.specs.Socket.{offered_by}
 use Rattle.sockets.specs.declared.socket.Socket.{Socket}
-use Rattle.interface_egress.specs.Inner.{InnerValue}
-use Rattle.interface_egress.specs.Departure as Departures
-use Rattle.interface_egress.specs.Departure.{Departure}
-use Rattle.interface_egress.specs.Emits.{Emits}
-use Rattle.interface_egress.specs.Fragments.{LeftValue}
-use Rattle.interface_egress.specs.GoesOut.{GoesOut, PieceGoesOut, Asked, Went, WasCut, cut_of, numbered, frame_of, frame_len_of}
-use Rattle.interface_egress.specs.Plan.{plan_of}
-use Rattle.interface_egress.specs.declared.frame.Question.{Question}
-use Rattle.interface_egress.specs.declared.plan.Plan.{Plan}
-use Rattle.interface_egress.specs.declared.plan.Plan.TheVariants as Way
-use Rattle.interface_egress.specs.declared.socket_meta.Meta.{Meta}
-use Rattle.interface_egress.specs.declared.socket_set.Item.{Item}
-use Rattle.interface_egress.specs.declared.socket_set.SocketStorage.{SocketStorage}
-use Rattle.interface_egress.specs.declared.way_out.Sent.{Sent}
-use Rattle.interface_egress.specs.declared.way_out.Sent.TheVariants as Outcome
-use Rattle.interface_ingress.specs.Arrives as Replies
-use Rattle.interface_ingress.specs.Arrives.{ReplyValue}
+use Rattle.iface_egress.specs.Inner.{InnerValue}
+use Rattle.iface_egress.specs.Departure as Departures
+use Rattle.iface_egress.specs.Departure.{Departure}
+use Rattle.iface_egress.specs.Emits.{Emits}
+use Rattle.iface_egress.specs.Fragments.{LeftValue}
+use Rattle.iface_egress.specs.IsTransmitted.{IsTransmitted, FragmentIsTransmitted, Asked, WasSent, WasCut, cut_of, numbered, frame_of, frame_len_of}
+use Rattle.iface_egress.specs.Plan.{plan_of}
+use Rattle.iface_egress.specs.declared.frame.NeighborQuery.{NeighborQuery}
+use Rattle.iface_egress.specs.declared.plan.Plan.{Plan}
+use Rattle.iface_egress.specs.declared.plan.Plan.TheVariants as Way
+use Rattle.iface_egress.specs.declared.socket_meta.Meta.{Meta}
+use Rattle.iface_egress.specs.declared.socket_set.Item.{Item}
+use Rattle.iface_egress.specs.declared.socket_set.SocketStorage.{SocketStorage}
+use Rattle.iface_egress.specs.declared.egress_path.Sent.{Sent}
+use Rattle.iface_egress.specs.declared.egress_path.Sent.TheVariants as Outcome
+use Rattle.iface_ingress.specs.Arrives as Replies
+use Rattle.iface_ingress.specs.Arrives.{ReplyValue}
 use Rattle.interface.specs.Host.{Sender}
 use Rattle.interface.specs.Ingress.{Takes, Replied, is_awaited, sender_of}
 use Rattle.interface.specs.State.{State}
-use Rattle.interface.specs.Turn.{Leaves, SendsBy, Answers, TurnsIf, ItemTurns, PlaceTurns, is_waiting, let_through}
-use Rattle.interface.specs.WayOut.{PieceLeaves}
-use Rattle.interface.specs.declared.turn.Turned.{Turned}
+use Rattle.interface.specs.Serve.{Leaves, SendsBy, Answers, TurnsIf, ItemTurns, ServesSlot, is_waiting, let_through}
+use Rattle.interface.specs.EgressPath.{FragmentLeaves}
+use Rattle.interface.specs.declared.serve.Served.{Served}
 use Rattle.lan.proofs.Worlds.Moves.Frames.{IsNoTake}
 
 module _ {D : Type 0} (moves : D → Move → D → Type 0) (Q : D → Type 0) (keeps : (d d' : D) (m : Move) → IsNoTake m → moves d m d' → Q d → Q d') where
@@ -43,19 +43,19 @@ module _ {D : Type 0} (moves : D → Move → D → Type 0) (Q : D → Type 0) (
   emits d d' frame len true is holds = keeps d d' (Emitted frame) tt is.0 holds
   emits d d' frame len false is holds = keeps d d' (Denied len) tt is holds
 
-  asked : (d d' : D) (i i' : InnerValue) (q : Question) (sent : Sent) → Asked moves d i q sent d' i' → Q d → Q d'
+  asked : (d d' : D) (i i' : InnerValue) (q : NeighborQuery) (sent : Sent) → Asked moves d i q sent d' i' → Q d → Q d'
   asked d d' i i' q Outcome.Waits is holds = keeps d d' (Emitted _) tt is.0.0 holds
   asked d d' i i' q Outcome.Refused is holds = keeps d d' (Denied _) tt is.0 holds
   asked d d' i i' q Outcome.Gone is holds = absurd is
   asked d d' i i' q Outcome.Dropped is holds = absurd is
   asked d d' i i' q Outcome.Busy is holds = absurd is
 
-  went : (d d' : D) (i i' : InnerValue) (header : IpRepr) (p : Departure) (sent : Sent) → Went moves d i header p sent d' i' → Q d → Q d'
-  went d d' i i' header p Outcome.Gone is holds = keeps d d' (Emitted _) tt is.0.0 holds
-  went d d' i i' header p Outcome.Refused is holds = keeps d d' (Denied _) tt is.0 holds
-  went d d' i i' header p Outcome.Waits is holds = absurd is
-  went d d' i i' header p Outcome.Dropped is holds = absurd is
-  went d d' i i' header p Outcome.Busy is holds = absurd is
+  was_sent : (d d' : D) (i i' : InnerValue) (header : IpRepr) (p : Departure) (sent : Sent) → WasSent moves d i header p sent d' i' → Q d → Q d'
+  was_sent d d' i i' header p Outcome.Gone is holds = keeps d d' (Emitted _) tt is.0.0 holds
+  was_sent d d' i i' header p Outcome.Refused is holds = keeps d d' (Denied _) tt is.0 holds
+  was_sent d d' i i' header p Outcome.Waits is holds = absurd is
+  was_sent d d' i i' header p Outcome.Dropped is holds = absurd is
+  was_sent d d' i i' header p Outcome.Busy is holds = absurd is
 
   was_cut : (d d' : D) (i i' : InnerValue) (l l' : Option LeftValue) (c : LeftValue) (sent : Sent) → WasCut moves d i l c sent d' i' l' → Q d → Q d'
   was_cut d d' i i' l l' c Outcome.Gone is holds = keeps d d' (Emitted _) tt is.0.0 holds
@@ -64,24 +64,24 @@ module _ {D : Type 0} (moves : D → Move → D → Type 0) (Q : D → Type 0) (
   was_cut d d' i i' l l' c Outcome.Dropped is holds = absurd is
   was_cut d d' i i' l l' c Outcome.Busy is holds = absurd is
 
-  goes : (d d' : D) (i i' : InnerValue) (l l' : Option LeftValue) (p : PacketValue) (plan : Plan) (sent : Sent) → GoesOut moves d i l p plan sent d' i' l' →
+  goes : (d d' : D) (i i' : InnerValue) (l l' : Option LeftValue) (p : PacketValue) (plan : Plan) (sent : Sent) → IsTransmitted moves d i l p plan sent d' i' l' →
       Q d → Q d'
   goes d d' i i' l l' p Way.Drop sent is holds = same d d' is.1.0 holds
   goes d d' i i' l l' p Way.NoRoute sent is holds = same d d' is.1.0 holds
   goes d d' i i' l l' p Way.Wait sent is holds = same d d' is.1.0 holds
   goes d d' i i' l l' p Way.Busy sent is holds = same d d' is.1.0 holds
   goes d d' i i' l l' p (Way.Ask q) sent is holds = asked d d' i i' q sent is.0 holds
-  goes d d' i i' l l' p (Way.Go to) sent is holds = went d d' i i' p.header (Departures.Whole to (numbered i p)) sent is.0 holds
+  goes d d' i i' l l' p (Way.Go to) sent is holds = was_sent d d' i i' p.header (Departures.Whole to (numbered i p)) sent is.0 holds
   goes d d' i i' l l' p (Way.Cut to) sent is holds = was_cut d d' i i' l l' (cut_of i to p) sent is holds
 
-  piece_goes : (d d' : D) (i : InnerValue) (l : LeftValue) (gone : Bool) (l' : Option LeftValue) → PieceGoesOut moves d i l gone d' l' → Q d → Q d'
-  piece_goes d d' i l true l' is holds = keeps d d' (Emitted _) tt is.0.0 holds
-  piece_goes d d' i l false l' is holds = keeps d d' (Denied _) tt is.0 holds
+  fragment_goes : (d d' : D) (i : InnerValue) (l : LeftValue) (gone : Bool) (l' : Option LeftValue) → FragmentIsTransmitted moves d i l gone d' l' → Q d → Q d'
+  fragment_goes d d' i l true l' is holds = keeps d d' (Emitted _) tt is.0.0 holds
+  fragment_goes d d' i l false l' is holds = keeps d d' (Denied _) tt is.0 holds
 
-  pub piece_leaves : (l : LeftValue) (x x' : Sender D) (gone : Bool) → PieceLeaves moves l x gone x' → Q x.device → Q x'.device
-  piece_leaves l x x' gone (inl stays) holds = keeps x.device x'.device (Allowed x.inner.moment false) tt stays.0 holds
-  piece_leaves l x x' gone (inr (mid, leave, out)) holds =
-      piece_goes mid x'.device x.inner l gone x'.left out (keeps x.device mid (Allowed x.inner.moment true) tt leave holds)
+  pub fragment_leaves : (l : LeftValue) (x x' : Sender D) (gone : Bool) → FragmentLeaves moves l x gone x' → Q x.device → Q x'.device
+  fragment_leaves l x x' gone (inl stays) holds = keeps x.device x'.device (Allowed x.inner.instant false) tt stays.0 holds
+  fragment_leaves l x x' gone (inr (mid, leave, out)) holds =
+      fragment_goes mid x'.device x.inner l gone x'.left out (keeps x.device mid (Allowed x.inner.instant true) tt leave holds)
 
   -- A FRAME COMES
 
@@ -102,40 +102,40 @@ module _ {D : Type 0} (moves : D → Move → D → Type 0) (Q : D → Type 0) (
 
   module _ (turn : Option IpAddress) (x x' : Sender D) (holds : Q x.device) where
     pub leaves : (m : Meta) (p : PacketValue) (sent : Sent) → Leaves moves turn x m p sent x' → Q x'.device
-    leaves m p sent (inl rests) = keeps x.device x'.device (Allowed x.inner.moment rests.0) tt rests.1 holds
+    leaves m p sent (inl rests) = keeps x.device x'.device (Allowed x.inner.instant rests.0) tt rests.1 holds
     leaves m p sent (inr (mid, leave, out, free)) =
         goes mid x'.device x.inner x'.inner x.left x'.left p (plan_of x.inner (is_some x.left) p.header) sent out
-        (keeps x.device mid (Allowed x.inner.moment true) tt leave holds)
+        (keeps x.device mid (Allowed x.inner.instant true) tt leave holds)
 
     unmoved : x' ≡ x → Q x'.device
     unmoved is = same x.device x'.device (ap (λ (y : Sender D). y.device) is) holds
 
-    sends : (o : Option PacketValue) (item item' : Item Socket) (changed : Bool) (turned : Turned) → SendsBy moves turn o x item changed turned x' item' →
+    sends : (o : Option PacketValue) (item item' : Item Socket) (changed : Bool) (turned : Served) → SendsBy moves turn o x item changed turned x' item' →
         Q x'.device
     sends None item item' changed turned is = absurd is
     sends (Some p) item item' changed turned is = leaves item.meta is.0 is.3.0 is.3.1
 
-    answers : (answer : Answer.Offer) (item item' : Item Socket) (turned : Turned) → Answers moves turn answer x item turned x' item' → Q x'.device
+    answers : (answer : Answer.Offer) (item item' : Item Socket) (turned : Served) → Answers moves turn answer x item turned x' item' → Q x'.device
     answers (Offer.Silent changed) item item' turned is = unmoved is.1
     answers (Offer.Packet changed) item item' turned is = sends (offered_by item.socket) item item' changed turned is
 
-    turns : (waits : Bool) (item item' : Item Socket) (turned : Turned) → TurnsIf moves turn waits x item turned x' item' → Q x'.device
+    turns : (waits : Bool) (item item' : Item Socket) (turned : Served) → TurnsIf moves turn waits x item turned x' item' → Q x'.device
     turns true item item' turned is = unmoved is.1
     turns false item item' turned (answer, offered, offers, is) = answers answer (record item { socket = offered }) item' turned is
 
-    items : (o o' : Option (Item Socket)) (turned : Turned) → ItemTurns moves turn o x turned x' o' → Q x'.device
+    items : (o o' : Option (Item Socket)) (turned : Served) → ItemTurns moves turn o x turned x' o' → Q x'.device
     items None None turned is = unmoved is.1
     items (Some item) (Some item') turned is = turns (is_waiting x.inner item.meta) (let_through x.inner item) item' turned is
     items None (Some item') turned is = absurd is
     items (Some item) None turned is = absurd is
 
-    pub place_turns : (p p' : SocketStorage Socket) (turned : Turned) → PlaceTurns moves turn x p turned x' p' → Q x'.device
-    place_turns p p' turned is = items p.inner p'.inner turned is
+    pub slot_turns : (p p' : SocketStorage Socket) (turned : Served) → ServesSlot moves turn x p turned x' p' → Q x'.device
+    slot_turns p p' turned is = items p.inner p'.inner turned is
 
 -- what each move keeps, a frame that is taken too
 module _ {D : Type 0} (moves : D → Move → D → Type 0) (Q : D → Type 0) (keeps : (d d' : D) (m : Move) → moves d m d' → Q d → Q d') where
   pub takes : (s s' : State D) (answer : Option Bool) → Takes moves s answer s' → Q s.device → Q s'.device
-  takes s s' None is holds = keeps s.device s'.device (Empty s.host.inner.moment) is.0 holds
-  takes s s' (Some false) is holds = keeps s.device s'.device (Took s.host.inner.moment is.0) is.1 holds
+  takes s s' None is holds = keeps s.device s'.device (Empty s.host.inner.instant) is.0 holds
+  takes s s' (Some false) is holds = keeps s.device s'.device (Took s.host.inner.instant is.0) is.1 holds
   takes s s' (Some true) is holds =
-      reads moves Q (λ d d' m none. keeps d d' m) s s' is (keeps s.device is.1 (Took s.host.inner.moment is.0) is.2 holds)
+      reads moves Q (λ d d' m none. keeps d d' m) s s' is (keeps s.device is.1 (Took s.host.inner.instant is.0) is.2 holds)

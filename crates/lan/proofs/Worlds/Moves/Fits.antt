@@ -1,12 +1,12 @@
--- Wherever two hosts came from a fresh start, their sockets are fit.
+-- Wherever two hosts came from a new start, their sockets are fit.
 use Rattle.std.proofs.Common.{List, Option, Some, None}
 use Rattle.sockets.specs.declared.socket.Socket.{Socket}
 use Rattle.lan.specs.Worlds.AtLink.History.{Entry}
 use Rattle.lan.specs.Worlds.AtLink.Calls.{Did}
 use Rattle.lan.specs.Worlds.AtLink.Does.{does}
-use Rattle.lan.specs.Worlds.AtLink.Fresh.{IsFreshWorld}
+use Rattle.lan.specs.Worlds.AtLink.Initial.{IsInitialWorld}
 use Rattle.lan.specs.Worlds.AtLink.Runs.{Starts, unused_both, WorldRun}
-use Rattle.lan.specs.Worlds.AtLink.Station.{Stations}
+use Rattle.lan.specs.Worlds.AtLink.Node.{Nodes}
 use Rattle.lan.specs.Worlds.Moves.Fit.{IsFit, NamesPorts, AreFit}
 use Rattle.lan.specs.Worlds.Moves.Raws.{QueuesForeign}
 use Rattle.lan.proofs.Worlds.Moves.EachRun.{IsOfRuns, Keeps, runs_of_each}
@@ -43,6 +43,6 @@ module _ (V W : Socket → Type 0) where
 pub fit_runs : IsOfRuns IsFit
 fit_runs = both_runs QueuesForeign NamesPorts foreign_runs named_runs
 
-pub worlds_fit : (starts : Starts) → IsFreshWorld starts → (history : List Entry) (hosts : Stations) → WorldRun history (unused_both starts) hosts →
+pub worlds_fit : (starts : Starts) → IsInitialWorld starts → (history : List Entry) (hosts : Nodes) → WorldRun history (unused_both starts) hosts →
     AreFit hosts
-worlds_fit starts fresh history hosts ran = runs_of_each IsFit fit_runs starts fresh history hosts ran
+worlds_fit starts initial history hosts ran = runs_of_each IsFit fit_runs starts initial history hosts ran

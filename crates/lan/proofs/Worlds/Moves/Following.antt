@@ -1,9 +1,9 @@
 -- A host that moves of its sockets lead to.
 use Rattle.std.specs.Prelude.{◌≡◌, ℕ, ℤ, Bool, true, List}
 use Rattle.interface.specs.Ingress.{is_read}
-use Rattle.interface_ingress.specs.HardwareAddress.{HardwareAddress}
-use Rattle.interface_ingress.specs.IpAddress.{IpAddress}
-use Rattle.interface_tables.specs.Inner.{InnerValue}
+use Rattle.iface_ingress.specs.HardwareAddress.{HardwareAddress}
+use Rattle.iface_ingress.specs.IpAddress.{IpAddress}
+use Rattle.iface_tables.specs.Inner.{InnerValue}
 use Rattle.interface.specs.State.{State}
 use Rattle.lan.specs.Worlds.AtLink.Side.{Side}
 use Rattle.lan.specs.Worlds.AtLink.Kinds.{other}
@@ -11,15 +11,15 @@ use Rattle.lan.specs.Worlds.AtLink.Moves.{Step, IsRun, run}
 use Rattle.lan.specs.Worlds.AtLink.Parties.{Party, Net, party}
 use Rattle.lan.specs.Worlds.Moves.Made.{Grows}
 use Rattle.lan.specs.Worlds.Moves.Follows.{sockets_of}
-use Rattle.lan.specs.Worlds.Moves.Taken.{AreMoved, IsMoved}
+use Rattle.lan.specs.Worlds.Moves.ReceivedFrames.{AreMoved, IsMoved}
 use Rattle.lan.proofs.Worlds.Moves.Frames.{Frames, HaveAnswered, HaveLeft, and_gone, and_taken, answered_more, answered_narrowed, left_more, left_narrowed, one_moved}
 use Rattle.lan.proofs.Worlds.Moves.Held.{AreHeld, Stays}
-use Rattle.lan.proofs.Worlds.Moves.Hops.{Hops}
+use Rattle.lan.proofs.Worlds.Moves.HopLimit.{HopLimit}
 use Rattle.lan.proofs.Worlds.Moves.Leave.{AreLet, let_narrowed}
-use Rattle.lan.specs.Worlds.Moves.Hops.{KnowsHop}
+use Rattle.lan.specs.Worlds.Moves.HopLimit.{KnowsHop}
 
 -- Moves lead from one net to another, and neither the other host nor the history is touched. Under the condition C the host showed itself at this
--- moment as it was, and made no reset; and if its device gives leave, as G says, too, then what its sockets offered went, or had to stay. N says
+-- instant as it was, and made no reset; and if its device gives leave, as G says, too, then what its sockets offered went, or had to stay. N says
 -- that it knew to which hardware address the frames for a destination go. The frames F were taken and sent.
 pub record Reaches (names : List ℕ → Bool) (side : Side) (C G : Type 0) (N : IpAddress → HardwareAddress → Type 0) (F : Frames) (i0 : InnerValue) (t : ℤ) (net now : Net) : Type 0 where
   pub steps : List Step
@@ -29,7 +29,7 @@ pub record Reaches (names : List ℕ → Bool) (side : Side) (C G : Type 0) (N :
   pub history : now.history ≡ net.history
   pub grows : Grows (party net side) (party now side)
   pub held : C → AreHeld i0 t side net steps
-  pub went : C → G → AreLet i0 t N steps
+  pub was_sent : C → G → AreLet i0 t N steps
   pub took : AreMoved side i0 t net F.taken steps
   pub left : HaveLeft i0 t C N F.gone steps
   pub answered : G → HaveAnswered i0 N F.gone steps
@@ -41,8 +41,8 @@ pub record Follows {D : Type 0} (names : List ℕ → Bool) (side : Side) (Gives
   pub frames : Frames
   pub taken : Taken frames s.device
   pub reaches : Reaches names side (Stays i0 s.host.inner) (Gives s.device) (KnowsHop i0 t frames.taken s.host.inner) frames i0 t net now
-  pub hops : Hops i0 t frames.taken s.host.inner
-  pub sockets : (party now side).sockets ≡ sockets_of s.places
+  pub hop_limit : HopLimit i0 t frames.taken s.host.inner
+  pub sockets : (party now side).sockets ≡ sockets_of s.slots
   pub link : L s (party now side)
 
 -- the conditions may be narrower ones
@@ -57,7 +57,7 @@ narrowed names side C C' G G' N N' F i0 t net now back gives knew r = record {
   history = r.history;
   grows = r.grows;
   held = λ c. r.held (back c);
-  went = λ c g. let_narrowed i0 t N N' knew r.steps (r.went (back c) (gives g));
+  was_sent = λ c g. let_narrowed i0 t N N' knew r.steps (r.was_sent (back c) (gives g));
   took = r.took;
   left = left_narrowed i0 t C C' N N' F.gone back knew r.steps r.left;
   answered = λ g. answered_narrowed i0 N N' F.gone knew r.steps (r.answered (gives g));
@@ -75,7 +75,7 @@ took_one names side C G N F i0 t net now frame r moved = record {
   history = r.history;
   grows = r.grows;
   held = r.held;
-  went = r.went;
+  was_sent = r.was_sent;
   took = one_moved side i0 t net F.taken frame r.steps r.took moved;
   left = r.left;
   answered = r.answered;
@@ -92,7 +92,7 @@ sent_more names side C G N F i0 t net now more r = record {
   history = r.history;
   grows = r.grows;
   held = r.held;
-  went = r.went;
+  was_sent = r.was_sent;
   took = r.took;
   left = left_more i0 t C N F.gone more r.steps r.left;
   answered = λ g. answered_more i0 N F.gone more r.steps (r.answered g);

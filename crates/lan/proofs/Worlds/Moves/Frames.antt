@@ -1,40 +1,40 @@
 -- Frames that are taken and sent in a poll, the oldest first: each segment that one brings comes by a move, and each that a socket offers goes in one.
 use Rattle.std.proofs.Common.{◌≡◌, ◌⊎◌, inl, inr, ℕ, ℤ, true, false, List, [], ◌∷◌, ◌++◌, append-nil, Option, Some, None, IfSome, sym, ap, ◌∙◌, subst, append_assoc}
 use Rattle.std.specs.List.{AllByRecursion}
-use Rattle.ip_tcp.specs.declared.header.TcpHeader.{TcpHeader}
-use Rattle.lan_base.specs.Device.{Move, Took, Empty, Allowed, Emitted, Denied}
+use Rattle.wire_tcp.specs.declared.header.TcpHeader.{TcpHeader}
+use Rattle.sim_link.specs.Device.{Move, Took, Empty, Allowed, Emitted, Denied}
 use Rattle.sockets.specs.Context.{ContextValue}
 use Rattle.sockets.specs.Packet.{PacketValue, PayloadValue, ControlV4, ControlV6, Bytes, Datagram, Segment}
 use Rattle.sockets.specs.declared.socket.Socket.{Socket}
 use Rattle.sockets.specs.declared.socket.Socket.TheVariants as Is
-use Rattle.tcp_model.specs.Arrival.{arrives}
-use Rattle.tcp_model.specs.Offers.{offer_of, offered_packet}
-use Rattle.interface.specs.Ingress.{is_question, is_read}
+use Rattle.tcp_block.specs.Arrival.{arrives}
+use Rattle.tcp_block.specs.Offers.{offer_of, offered_packet}
+use Rattle.interface.specs.Ingress.{is_solicitation, is_read}
 use Rattle.interface.specs.IpRepr.{IpRepr}
 use Rattle.interface.specs.IpRepr.TheVariants as Ip
-use Rattle.interface.specs.Turn.{sourced}
-use Rattle.interface_egress.specs.Departure.{Whole}
-use Rattle.interface_egress.specs.Fragments.{departure_from}
-use Rattle.interface_egress.specs.GoesOut.{cut_of, frame_of, numbered}
-use Rattle.interface_egress.specs.Plan.{plan_of}
-use Rattle.interface_egress.specs.declared.plan.Plan.{Plan}
-use Rattle.interface_egress.specs.declared.plan.Plan.TheVariants as Way
-use Rattle.interface_ingress.specs.HardwareAddress.{HardwareAddress}
-use Rattle.interface_ingress.specs.IpAddress.{IpAddress}
-use Rattle.interface_ingress.specs.Arrives.{whole_after}
-use Rattle.interface_ingress.specs.Delivered.{packet_by}
-use Rattle.interface_ingress.specs.Incoming.{IncomingValue, Arp, Ip4, Ip6}
-use Rattle.interface_ingress.specs.Reassembled.{taken_in}
-use Rattle.interface_tables.specs.Inner.{InnerValue}
+use Rattle.interface.specs.Serve.{sourced}
+use Rattle.iface_egress.specs.Departure.{Whole}
+use Rattle.iface_egress.specs.Fragments.{departure_from}
+use Rattle.iface_egress.specs.IsTransmitted.{cut_of, frame_of, numbered}
+use Rattle.iface_egress.specs.Plan.{plan_of}
+use Rattle.iface_egress.specs.declared.plan.Plan.{Plan}
+use Rattle.iface_egress.specs.declared.plan.Plan.TheVariants as Way
+use Rattle.iface_ingress.specs.HardwareAddress.{HardwareAddress}
+use Rattle.iface_ingress.specs.IpAddress.{IpAddress}
+use Rattle.iface_ingress.specs.Arrives.{whole_after}
+use Rattle.iface_ingress.specs.Delivered.{packet_by}
+use Rattle.iface_ingress.specs.Incoming.{IncomingValue, Arp, Ip4, Ip6}
+use Rattle.iface_ingress.specs.Reassembled.{taken_in}
+use Rattle.iface_tables.specs.Inner.{InnerValue}
 use Rattle.lan.specs.Worlds.AtLink.Side.{Side}
 use Rattle.lan.specs.Worlds.AtLink.Moves as Moves
 use Rattle.lan.specs.Worlds.AtLink.Moves.{Step}
 use Rattle.lan.specs.Worlds.AtLink.Moves.Move.{Invokes, Passes, Offers, Gives, Takes, Receives, Resets, Changes}
 use Rattle.lan.specs.Worlds.AtLink.Parties.{Net}
-use Rattle.lan.specs.Worlds.Moves.Taken.{AreMoved, BringsIn, ComesIn, ComesNext, IfSegment, IsMoved}
-use Rattle.lan.specs.Worlds.Moves.Answered.{AnswerLeft, HasAnswered, WentAsPlanned}
-use Rattle.lan.specs.Worlds.Moves.Went.{HasLeft, IsGone, LeftFrom, WentBy}
-use Rattle.lan.proofs.Worlds.Moves.Places.{get_more}
+use Rattle.lan.specs.Worlds.Moves.ReceivedFrames.{AreMoved, BringsIn, ComesIn, ArrivesNext, IfSegment, IsMoved}
+use Rattle.lan.specs.Worlds.Moves.Answered.{AnswerLeft, HasAnswered, WasSentAsPlanned}
+use Rattle.lan.specs.Worlds.Moves.WasSent.{HasLeft, IsGone, LeftFrom, WasSentBy}
+use Rattle.lan.proofs.Worlds.Moves.Slots.{get_more}
 
 -- the frames that a host took in a poll so far, and those that its device took of it
 pub record Frames : Type 0 where
@@ -94,25 +94,25 @@ module _ {D : Type 0} (moves : D → Move → D → Type 0) (Taken : Frames → 
 module _ (side : Side) (i0 : InnerValue) (t : ℤ) (net : Net) where
   -- MORE STEPS
 
-  next_on : (at : ℕ) (ip : IpRepr) (header : TcpHeader) (bytes : List ℕ) (steps more : List Step) → ComesNext side i0 t net at ip header bytes steps →
-      ComesNext side i0 t net at ip header bytes (steps ++ more)
+  next_on : (at : ℕ) (ip : IpRepr) (header : TcpHeader) (bytes : List ℕ) (steps more : List Step) → ArrivesNext side i0 t net at ip header bytes steps →
+      ArrivesNext side i0 t net at ip header bytes (steps ++ more)
   next_on at ip header bytes steps more c = record {
     cx = c.cx;
     v = c.v;
     more = c.more ++ more;
     are = ap (λ (xs : List Step). xs ++ more) c.are;
-    moment = c.moment;
+    instant = c.instant;
   }
 
   comes_on : (ip : IpRepr) (header : TcpHeader) (bytes : List ℕ) (steps more : List Step) → ComesIn side i0 t net ip header bytes steps →
       ComesIn side i0 t net ip header bytes (steps ++ more)
   comes_on ip header bytes steps more c = record {
     before = c.before;
-    behind = c.behind ++ more;
-    are = ap (λ (xs : List Step). xs ++ more) c.are ∙ append_assoc c.before c.behind more;
-    places = c.places;
+    following = c.following ++ more;
+    are = ap (λ (xs : List Step). xs ++ more) c.are ∙ append_assoc c.before c.following more;
+    slots = c.slots;
     sockets = c.sockets;
-    comes = λ at named there. next_on at ip header bytes c.behind more (c.comes at named there);
+    comes = λ at named there. next_on at ip header bytes c.following more (c.comes at named there);
   }
 
   if_on : (ip : IpRepr) (carried : Option PayloadValue) (steps more : List Step) → IfSegment side i0 t net ip carried steps → IfSegment side i0 t net ip carried (steps ++ more)
@@ -126,7 +126,7 @@ module _ (side : Side) (i0 : InnerValue) (t : ℤ) (net : Net) where
   brings_on : (i : InnerValue) (content : Option IncomingValue) (steps more : List Step) → BringsIn side i0 t net i content steps → BringsIn side i0 t net i content (steps ++ more)
   brings_on i None steps more c = tt
   brings_on i (Some (Arp link packet)) steps more c = tt
-  brings_on i (Some (Ip4 link header piece payload)) steps more c =
+  brings_on i (Some (Ip4 link header fragment payload)) steps more c =
       λ ours. ((c ours).0, (c ours).1, if_on (Ip.Ipv4 header) (c ours).0 steps more (c ours).2)
   brings_on i (Some (Ip6 link header payload)) steps more c =
       λ ours. ((c ours).0, (c ours).1, if_on (Ip.Ipv6 header) (c ours).0 steps more (c ours).2)
@@ -135,12 +135,12 @@ module _ (side : Side) (i0 : InnerValue) (t : ℤ) (net : Net) where
   moved_on frame steps more m = record {
     i = m.i;
     settings = m.settings;
-    moment = m.moment;
+    instant = m.instant;
     timeout = m.timeout;
-    slots = m.slots;
+    assemblers = m.assemblers;
     content = m.content;
     is = m.is;
-    brings = brings_on m.i (whole_after m.i m.timeout m.slots (taken_in m.i m.content)) steps more m.brings;
+    brings = brings_on m.i (whole_after m.i m.timeout m.assemblers (taken_in m.i m.content)) steps more m.brings;
   }
 
   pub all_moved_on : (frames : List (List ℕ)) (steps more : List Step) → AreMoved side i0 t net frames steps → AreMoved side i0 t net frames (steps ++ more)
@@ -168,30 +168,30 @@ module _ (i0 : InnerValue) (t : ℤ) where
   -- under a narrower condition, as these frames are among those
   module _ (C C' : Type 0) (N N' : IpAddress → HardwareAddress → Type 0) (gone gone' : List (List ℕ)) (back : C' → C)
       (knew : (remote : IpAddress) (to : HardwareAddress) → N' remote to → N remote to) (among : (frame : List ℕ) → IsGone gone frame → IsGone gone' frame) where
-    still_went : (i : InnerValue) (p : PacketValue) (plan : Plan) → WentBy gone i p plan → WentBy gone' i p plan
-    still_went i p (Way.Go to) went = among (frame_of i (Whole to (numbered i p))) went
-    still_went i p (Way.Cut to) went = among (frame_of i (departure_from i (cut_of i to p))) went
-    still_went i p Way.Drop went = tt
-    still_went i p Way.NoRoute went = went
-    still_went i p Way.Wait went = went
-    still_went i p Way.Busy went = went
-    still_went i p (Way.Ask question) went = went
+    still_was_sent : (i : InnerValue) (p : PacketValue) (plan : Plan) → WasSentBy gone i p plan → WasSentBy gone' i p plan
+    still_was_sent i p (Way.Go to) was_sent = among (frame_of i (Whole to (numbered i p))) was_sent
+    still_was_sent i p (Way.Cut to) was_sent = among (frame_of i (departure_from i (cut_of i to p))) was_sent
+    still_was_sent i p Way.Drop was_sent = tt
+    still_was_sent i p Way.NoRoute was_sent = was_sent
+    still_was_sent i p Way.Wait was_sent = was_sent
+    still_was_sent i p Way.Busy was_sent = was_sent
+    still_was_sent i p (Way.Ask question) was_sent = was_sent
 
     still_from : (cx : ContextValue) (s : Socket) (from : IpAddress) (p : PacketValue) → LeftFrom i0 t C N gone cx s from p → LeftFrom i0 t C' N' gone' cx s from p
     still_from cx s from p l = record {
       i = l.i;
       settings = l.settings;
-      moment = l.moment;
+      instant = l.instant;
       ident = l.ident;
       paths = λ c. l.paths (back c);
-      hops = λ remote to n. l.hops remote to (knew remote to n);
+      hop_limit = λ remote to n. l.hop_limit remote to (knew remote to n);
       shown = l.shown;
       formed = l.formed;
       wide = l.wide;
       source = l.source;
       leaving_formed = l.leaving_formed;
       busy = l.busy;
-      went = still_went l.i (sourced l.i p) (plan_of l.i l.busy (sourced l.i p).header) l.went;
+      was_sent = still_was_sent l.i (sourced l.i p) (plan_of l.i l.busy (sourced l.i p).header) l.was_sent;
     }
 
     still_offered : (cx : ContextValue) (s : Socket) (from : IpAddress) (o : Option PacketValue) → IfSome o (λ p. LeftFrom i0 t C N gone cx s from p) →
@@ -237,17 +237,17 @@ module _ (i0 : InnerValue) where
 
   module _ (N N' : IpAddress → HardwareAddress → Type 0) (knew : (remote : IpAddress) (to : HardwareAddress) → N' remote to → N remote to)
       (gone gone' : List (List ℕ)) (among : (frame : List ℕ) → IsGone gone frame → IsGone gone' frame) where
-    still_as_planned : (i : InnerValue) (p : PacketValue) (plan : Plan) → WentAsPlanned i0 N gone i p plan → WentAsPlanned i0 N' gone' i p plan
+    still_as_planned : (i : InnerValue) (p : PacketValue) (plan : Plan) → WasSentAsPlanned i0 N gone i p plan → WasSentAsPlanned i0 N' gone' i p plan
     still_as_planned i p plan w = record {
       formed = w.formed;
       wide = w.wide;
-      went = λ to is. among (frame_of i (Whole to (numbered i p))) (w.went to is);
+      was_sent = λ to is. among (frame_of i (Whole to (numbered i p))) (w.was_sent to is);
     }
 
-    still_what : (i : InnerValue) (p : PacketValue) (plan : Plan) → (is_question plan ≡ true) ⊎ WentAsPlanned i0 N gone i p plan →
-        (is_question plan ≡ true) ⊎ WentAsPlanned i0 N' gone' i p plan
+    still_what : (i : InnerValue) (p : PacketValue) (plan : Plan) → (is_solicitation plan ≡ true) ⊎ WasSentAsPlanned i0 N gone i p plan →
+        (is_solicitation plan ≡ true) ⊎ WasSentAsPlanned i0 N' gone' i p plan
     still_what i p plan (inl asks) = inl asks
-    still_what i p plan (inr went) = inr (still_as_planned i p plan went)
+    still_what i p plan (inr was_sent) = inr (still_as_planned i p plan was_sent)
 
     still_answered : (o : Option PacketValue) → IfSome o (AnswerLeft i0 N gone) → IfSome o (AnswerLeft i0 N' gone')
     still_answered None left = tt
@@ -255,7 +255,7 @@ module _ (i0 : InnerValue) where
       i = left.i;
       settings = left.settings;
       ident = left.ident;
-      hops = λ remote to n. left.hops remote to (knew remote to n);
+      hop_limit = λ remote to n. left.hop_limit remote to (knew remote to n);
       busy = left.busy;
       what = still_what left.i p (plan_of left.i left.busy p.header) left.what;
     }

@@ -2,27 +2,27 @@
 use Rattle.std.proofs.Common.{◌≡◌, ℕ, ◌^◌, ◌<◌, ℤ, ◌≤ℤ◌, Bool, true, false, not, ◌&&◌, if◌then◌else◌, List, [], ◌∷◌, ◌++◌, IfSome, Option, Some, None, refl, sym, ap, ◌∙◌}
 use Rattle.std.specs.Prelude.{◌||◌}
 use Rattle.std.specs.List.{list_any}
-use Rattle.interface_egress.specs.Departing.{HasSettingsOf}
-use Rattle.interface_ingress.specs.AddressTests.{is_broadcast_v4, is_loopback, is_multicast, is_unspecified}
-use Rattle.interface_ingress.specs.IpAddress.TheVariants as Address
+use Rattle.iface_egress.specs.Departing.{HasSettingsOf}
+use Rattle.iface_ingress.specs.AddressTests.{is_broadcast_v4, is_loopback, is_multicast, is_unspecified}
+use Rattle.iface_ingress.specs.IpAddress.TheVariants as Address
 use Rattle.ip_wire.specs.IpCidr.{IpCidr}
 use Rattle.sockets.specs.Context.{ContextValue}
 use Rattle.interface.specs.Ip.{source_of, destination_of}
 use Rattle.interface.specs.IpRepr.{IpRepr}
-use Rattle.interface.specs.Turn.{with_source}
-use Rattle.interface_ingress.specs.IpAddress.{IpAddress}
-use Rattle.interface_ingress.specs.Handed.{is_for_many, names_nobody}
-use Rattle.interface_ingress.specs.Reassembled.{is_astray}
-use Rattle.interface_tables.specs.Inner.{InnerValue, context_of, context_towards, is_address_of, is_all_nodes, is_broadcast_of, is_for_us, is_local_broadcast, is_loopback_in}
-use Rattle.interface_tables.specs.Inner.{is_loopback_of, is_member_of, is_own, may_come_from, mtu_by_destination, solicits_block}
-use Rattle.interface_tables.specs.PathMtu.{mtu_towards}
-use Rattle.interface_tables.specs.declared.path_mtu.Path.{Path}
+use Rattle.interface.specs.Serve.{with_source}
+use Rattle.iface_ingress.specs.IpAddress.{IpAddress}
+use Rattle.iface_ingress.specs.Processed.{is_for_many, names_no_endpoint}
+use Rattle.iface_ingress.specs.Reassembled.{is_astray}
+use Rattle.iface_tables.specs.Inner.{InnerValue, context_of, context_towards, is_address_of, is_all_nodes, is_broadcast_of, is_for_us, is_local_broadcast, is_loopback_in}
+use Rattle.iface_tables.specs.Inner.{is_loopback_of, is_member_of, is_local, may_be_source, mtu_by_destination, solicits_cidr}
+use Rattle.iface_tables.specs.PathMtu.{mtu_towards}
+use Rattle.iface_tables.specs.declared.path_mtu.Path.{Path}
 use Rattle.interface.specs.SameHost.{IsSameHost}
-use Rattle.interface_tables.specs.Source.{source_for}
-use Rattle.tcp_model.specs.Offers.{offer_of}
-use Rattle.tcp_model.specs.OpenOffer.{OpenOffer}
-use Rattle.tcp_tie.specs.Host.{MayCome}
-use Rattle.tcp_tie.specs.Pair.Values.{context_on}
+use Rattle.iface_tables.specs.Source.{source_for}
+use Rattle.tcp_block.specs.Offers.{offer_of}
+use Rattle.tcp_block.specs.OpenOffer.{OpenOffer}
+use Rattle.tcp_refinement.specs.Host.{MayCome}
+use Rattle.tcp_refinement.specs.Pair.Values.{context_on}
 use Rattle.lan.specs.Worlds.AtLink.Kinds.{other}
 use Rattle.lan.specs.Worlds.AtLink.Moves.{Move, Step, after, run}
 use Rattle.lan.specs.Worlds.AtLink.Moves.Move.{Invokes, Passes, Offers, Gives, Takes, Receives, Resets, Changes}
@@ -30,17 +30,17 @@ use Rattle.lan.specs.Worlds.AtLink.Parties.{Net, party}
 use Rattle.lan.specs.Worlds.AtLink.Side.{Side}
 use Rattle.lan.specs.Worlds.Still.{host_in}
 
--- WHAT A HOST SHOWS, at a moment
+-- WHAT A HOST SHOWS, at an instant
 abbrev pub IsShownAt : InnerValue → ℤ → ContextValue → Type 0
 IsShownAt i t cx = cx ≡ context_on (host_in i) t cx.random
 
 -- the source that a segment with this header leaves from
 abbrev pub source_by : InnerValue → IpRepr → IpAddress
-source_by i h = source_of (if may_come_from i (source_of h) (destination_of h) then h else with_source h (source_for i.addresses (destination_of h)))
+source_by i h = source_of (if may_be_source i (source_of h) (destination_of h) then h else with_source h (source_for i.addresses (destination_of h)))
 
 -- a packet goes between two hosts, of which this is the second, and no loopback address is in it but an own one
 pub record IsBetweenHosts (i : InnerValue) (ip : IpRepr) : Type 0 where
-  pub somebody : names_nobody i ip ≡ false
+  pub somebody : names_no_endpoint i ip ≡ false
   pub one : is_for_many i (source_of ip) ≡ false
   pub ours : is_for_us i (destination_of ip) ≡ true
   pub here : is_astray i (source_of ip) (destination_of ip) ≡ false
@@ -106,7 +106,7 @@ module _ (i0 i : InnerValue) (seen : IsSeenAs i0 i) where
     isn_key = seen.isn_key k;
   }
 
-  pub nobodies : (ip : IpRepr) → names_nobody i ip ≡ names_nobody i0 ip
+  pub nobodies : (ip : IpRepr) → names_no_endpoint i ip ≡ names_no_endpoint i0 ip
   nobodies ip =
       ap (λ (all : Bool). is_unspecified (source_of ip) || (is_unspecified (destination_of ip) || (all || is_multicast (destination_of ip))))
       (broadcasts (destination_of ip))
@@ -114,12 +114,12 @@ module _ (i0 i : InnerValue) (seen : IsSeenAs i0 i) where
   pub many : (a : IpAddress) → is_for_many i a ≡ is_for_many i0 a
   many a = ap (λ (all : Bool). all || is_multicast a) (broadcasts a)
 
-  owns : (a : IpAddress) → is_own i a ≡ is_own i0 a
+  owns : (a : IpAddress) → is_local i a ≡ is_local i0 a
   owns a = λ k. seen.any_ip k || list_any (is_address_of a) (seen.addresses k)
 
   members : (a : IpAddress) → is_member_of i a ≡ is_member_of i0 a
   members (Address.Ipv4 a) = refl
-  members (Address.Ipv6 a) = ap (λ (bs : List IpCidr). is_all_nodes a || list_any (solicits_block a) bs) seen.addresses
+  members (Address.Ipv6 a) = ap (λ (bs : List IpCidr). is_all_nodes a || list_any (solicits_cidr a) bs) seen.addresses
 
   pub for_us : (a : IpAddress) → is_for_us i a ≡ is_for_us i0 a
   for_us a = λ k. owns a k || members a k || broadcasts a k || is_loopback_in a
@@ -128,7 +128,7 @@ module _ (i0 i : InnerValue) (seen : IsSeenAs i0 i) where
   strays source destination = ap (λ (bs : List IpCidr). (is_loopback source && not (list_any (is_loopback_of source) bs))
       || (is_loopback destination && not (list_any (is_loopback_of destination) bs))) seen.addresses
 
-  pub may_come : (source destination : IpAddress) → may_come_from i source destination ≡ may_come_from i0 source destination
+  pub may_come : (source destination : IpAddress) → may_be_source i source destination ≡ may_be_source i0 source destination
   may_come source destination =
       ap (λ (all : Bool). not (all || is_multicast source) && (not (is_loopback source) || is_loopback destination)) (broadcasts source)
 
@@ -166,11 +166,11 @@ module _ (i0 i : InnerValue) (seen : IsSeenAs i0 i) where
   all_so t side net [] held = tt
   all_so t side net (step ∷ steps) held = ((held.0.0, held_so t net side step.move held.0.1), all_so t side (after net step) steps held.1)
 
--- THE HOST IN A POLL, at this moment: its settings are those that it had, errors are counted up to no earlier moment, and its next identification is a
+-- THE HOST IN A POLL, at this instant: its settings are those that it had, errors are counted up to no earlier instant, and its next identification is a
 -- number of 16 bits where it was one
 pub record IsAsAt (i0 : InnerValue) (t : ℤ) (i : InnerValue) : Type 0 where
   pub settings : HasSettingsOf i0 i
-  pub moment : i.moment ≡ t
+  pub instant : i.instant ≡ t
   pub low : i0.errors_until ≤ℤ i.errors_until
   pub ident : i0.ident < 2 ^ 16 → i.ident < 2 ^ 16
 
@@ -180,18 +180,18 @@ module _ (i0 i : InnerValue) (t : ℤ) (like : IsAsAt i0 t i) where
 
   -- what a socket is shown to which a segment comes
   pub shows : IsShownAt i0 t (context_of i)
-  shows = λ k. context_on (hosts_same i0 i seen_at k) (like.moment k) i.random
+  shows = λ k. context_on (hosts_same i0 i seen_at k) (like.instant k) i.random
 
   -- what a socket is shown that is asked, where no path is known to carry less
   mtus : (d : Option IpAddress) → i.paths ≡ [] → mtu_by_destination i d ≡ i.mtu
   mtus None none = refl
-  mtus (Some a) none = ap (λ (ps : List Path). mtu_towards ps a i.moment i.mtu) none ∙ whole_path a i.moment i.mtu
+  mtus (Some a) none = ap (λ (ps : List Path). mtu_towards ps a i.instant i.mtu) none ∙ whole_path a i.instant i.mtu
 
   pub shows_towards : (d : Option IpAddress) → i.paths ≡ [] → IsShownAt i0 t (context_towards i d)
   shows_towards d none =
-      (λ k. record (context_of i) { ip_mtu = mtus d none k; random = 0 }) ∙ (λ k. context_on (hosts_same i0 i seen_at k) (like.moment k) 0)
+      (λ k. record (context_of i) { ip_mtu = mtus d none k; random = 0 }) ∙ (λ k. context_on (hosts_same i0 i seen_at k) (like.instant k) 0)
 
--- the way out leaves what is asked of a host
+-- the egress path leaves what is asked of a host
 pub stays_before : (i0 i i' : InnerValue) → IsSameHost i i' → Stays i0 i' → Stays i0 i
 stays_before i0 i i' same still =
     (sym (ap (λ (x : InnerValue). x.paths) same) ∙ still.0, sym (ap (λ (x : InnerValue). x.errors_until) same) ∙ still.1)

@@ -2,18 +2,18 @@
 use Rattle.std.proofs.Common.{ℕ, ◌+◌, ◌%◌, ◌^◌, ◌<◌, ℤ, arith, Bool, true, false, cond, sym, ap, subst}
 use Rattle.std.proofs.Math.Nat.{mod-lt}
 use Rattle.ip_wire.specs.IpRepr.{IpRepr}
-use Rattle.interface_tables.specs.Inner.{InnerValue}
-use Rattle.interface_egress.specs.Departing.{takes_number, ident_after}
-use Rattle.interface_egress.specs.declared.plan.Plan.{Plan}
-use Rattle.interface_egress.specs.declared.way_out.Sent.{Sent}
-use Rattle.interface_egress.specs.declared.way_out.Sent.TheVariants as Outcome
+use Rattle.iface_tables.specs.Inner.{InnerValue}
+use Rattle.iface_egress.specs.Departing.{takes_number, ident_after}
+use Rattle.iface_egress.specs.declared.plan.Plan.{Plan}
+use Rattle.iface_egress.specs.declared.egress_path.Sent.{Sent}
+use Rattle.iface_egress.specs.declared.egress_path.Sent.TheVariants as Outcome
 use Rattle.interface.proofs.HostCounts.{IsHostCount}
 
 by_number : (n : ℕ) (takes : Bool) → n < 2 ^ 16 → cond takes ((n + 1) % 2 ^ 16) n < 2 ^ 16
 by_number n true small = mod-lt (n + 1) (omega arith)
 by_number n false small = small
 
--- behind a packet's way out
+-- after a packet's egress path
 pub small_after : (n : ℕ) (plan : Plan) (sent : Sent) (h : IpRepr) → n < 2 ^ 16 → ident_after plan sent h n < 2 ^ 16
 small_after n plan Outcome.Gone h small = by_number n (takes_number plan h) small
 small_after n plan Outcome.Dropped h small = small

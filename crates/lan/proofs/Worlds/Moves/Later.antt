@@ -3,41 +3,41 @@ use Rattle.std.proofs.Common.{◌≡◌, ℕ, ℤ, ◌≤ℤ◌, ◌^◌, ◌<�
 use Rattle.std.proofs.Common.{Option, Some, None, refl, sym, ap, ◌∙◌, subst, arith, zero, suc}
 use Rattle.std.specs.Prelude.{◌||◌, ◌==◌, nat_lt, slice_set, remove}
 use Rattle.std.proofs.lemmas.Int.{ints, clamps}
-use Rattle.interface_ingress.specs.Icmpv6 as Icmpv6
+use Rattle.iface_ingress.specs.Icmpv6 as Icmpv6
 use Rattle.lan.specs.Worlds.AtLink.Ndisc.{NeighborMessage}
-use Rattle.interface_ingress.specs.AddressTests.{is_broadcast_v4, is_multicast_v4, is_multicast_v6, is_unspecified, is_unspecified_v4, is_unspecified_v6}
-use Rattle.interface_ingress.specs.IpAddress.{IpAddress}
-use Rattle.interface_ingress.specs.IpAddress.TheVariants as Address
-use Rattle.interface_ingress.specs.IpProtocol.TheVariants as Protocol
-use Rattle.interface_ingress.specs.EthernetRepr.{EthernetRepr}
-use Rattle.interface_ingress.specs.ArpRepr.{ArpRepr}
-use Rattle.interface_ingress.specs.ArpRepr.TheVariants as Arps
+use Rattle.iface_ingress.specs.AddressTests.{is_broadcast_v4, is_multicast_v4, is_multicast_v6, is_unspecified, is_unspecified_v4, is_unspecified_v6}
+use Rattle.iface_ingress.specs.IpAddress.{IpAddress}
+use Rattle.iface_ingress.specs.IpAddress.TheVariants as Address
+use Rattle.iface_ingress.specs.IpProtocol.TheVariants as Protocol
+use Rattle.iface_ingress.specs.EthernetRepr.{EthernetRepr}
+use Rattle.iface_ingress.specs.ArpRepr.{ArpRepr}
+use Rattle.iface_ingress.specs.ArpRepr.TheVariants as Arps
 use Rattle.interface.specs.IpRepr.{IpRepr}
 use Rattle.interface.specs.IpRepr.TheVariants as Ip
-use Rattle.interface_ingress.specs.Ipv4Address.{Ipv4Address}
+use Rattle.iface_ingress.specs.Ipv4Address.{Ipv4Address}
 use Rattle.interface.specs.Ipv4Repr.{Ipv4Repr}
-use Rattle.interface_ingress.specs.Ipv6Address.{Ipv6Address}
+use Rattle.iface_ingress.specs.Ipv6Address.{Ipv6Address}
 use Rattle.interface.specs.Ipv6Repr.{Ipv6Repr}
 use Rattle.interface.specs.SameHost.{IsSameHost}
-use Rattle.ip_tcp.specs.declared.header.TcpHeader.{TcpHeader}
+use Rattle.wire_tcp.specs.declared.header.TcpHeader.{TcpHeader}
 use Rattle.sockets.specs.Packet.{PayloadValue, ControlV4, ControlV6, Bytes, Datagram, Segment}
-use Rattle.interface_egress.specs.Departing.{HasSettingsOf}
-use Rattle.interface_tables.specs.ErrorLimit.{answered_at}
-use Rattle.interface_tables.specs.Inner.{InnerValue, at_moment, context_of, is_local_broadcast, is_own_solicited_node, with_error, with_path}
-use Rattle.interface_tables.specs.PathMtu.{entered, entered_at, heard_of, is_news, lowered, path_room, place_of, victim}
-use Rattle.interface_tables.specs.declared.path_mtu.Path.{Path}
-use Rattle.interface_ingress.specs.Arp.{teaches, learned, arp_arrived}
-use Rattle.interface_ingress.specs.Arrives.{Arrived, ArrivesV4, ArrivesV6, Brings, Hands, is_direct, sender_of, renewed, renewed_by, whole_after}
-use Rattle.interface_ingress.specs.Delivered.{Places, drawn_if, is_taken_raw, packet_delivered, segment_draws}
-use Rattle.interface_ingress.specs.Handed.{handed_host, handed_reply, is_for_many, is_unclaimed, limited_host, message_host, names_nobody, segment_host}
-use Rattle.interface_ingress.specs.Heard.{neighbor_heard}
-use Rattle.interface_ingress.specs.Incoming.{IncomingValue, Arp, Ip4, Ip6}
-use Rattle.interface_ingress.specs.Kept.{HasSameSettings}
-use Rattle.interface_ingress.specs.Reassembled.{Slots, bytes_at, is_astray, is_control_v6, is_heard, is_piece, is_piece_v6, is_sender, is_sender_v6}
-use Rattle.interface_ingress.specs.Reassembled.{is_taken_in, kept, place_in, rebuilt, rebuilt_v6, taken_in, uncut, whole_of}
-use Rattle.interface_ingress.proofs.Hearing.{entries-alone}
-use Rattle.interface_ingress.proofs.Limit.{counted_so}
-use Rattle.interface_ingress.proofs.PathTold.{path_v4_so, path_v6_so}
+use Rattle.iface_egress.specs.Departing.{HasSettingsOf}
+use Rattle.iface_tables.specs.ErrorLimit.{answered_at}
+use Rattle.iface_tables.specs.Inner.{InnerValue, at_instant, context_of, is_local_broadcast, is_local_solicited_node, with_error, with_path}
+use Rattle.iface_tables.specs.PathMtu.{entered, entered_at, heard_of, is_news, lowered, path_room, assembler_index_of, victim}
+use Rattle.iface_tables.specs.declared.path_mtu.Path.{Path}
+use Rattle.iface_ingress.specs.Arp.{teaches, learned, arp_arrived}
+use Rattle.iface_ingress.specs.Arrives.{Arrived, ArrivesV4, ArrivesV6, Brings, Hands, is_direct, sender_of, renewed, renewed_by, whole_after}
+use Rattle.iface_ingress.specs.Delivered.{Slots, drawn_if, is_taken_raw, packet_delivered, segment_draws}
+use Rattle.iface_ingress.specs.Processed.{handed_host, handed_reply, is_for_many, is_unclaimed, limited_host, message_host, names_no_endpoint, segment_host}
+use Rattle.iface_ingress.specs.Ndisc.{neighbor_learned}
+use Rattle.iface_ingress.specs.Incoming.{IncomingValue, Arp, Ip4, Ip6}
+use Rattle.iface_ingress.specs.FragmentStored.{HasSameSettings}
+use Rattle.iface_ingress.specs.Reassembled.{Assemblers, bytes_at, is_astray, is_control_v6, passes_filter, is_fragment, is_fragment_v6, is_sender, is_sender_v6}
+use Rattle.iface_ingress.specs.Reassembled.{is_taken_in, kept, slot_in, reassembled, reassembled_v6, taken_in, uncut, whole_of}
+use Rattle.iface_ingress.proofs.Hearing.{entries-alone}
+use Rattle.iface_ingress.proofs.Limit.{counted_so}
+use Rattle.iface_ingress.proofs.PathTold.{path_v4_so, path_v6_so}
 use Rattle.lan.proofs.Worlds.Moves.Held.{IsAsAt, Stays}
 
 -- ERRORS
@@ -54,9 +54,9 @@ by_errors : (nobody draws : Bool) (i : InnerValue) → (if nobody then i else dr
 by_errors true draws i = refl
 by_errors false draws i = drawn_errors draws i
 
-pub segment_errors : (i : InnerValue) (places : Places) (ip : IpRepr) (header : TcpHeader) (bytes : List ℕ) →
-    (segment_host i places ip header bytes).errors_until ≡ i.errors_until
-segment_errors i places ip header bytes = by_errors (names_nobody i ip) (segment_draws (context_of i) ip header bytes places) i
+pub segment_errors : (i : InnerValue) (slots : Slots) (ip : IpRepr) (header : TcpHeader) (bytes : List ℕ) →
+    (segment_host i slots ip header bytes).errors_until ≡ i.errors_until
+segment_errors i slots ip header bytes = by_errors (names_no_endpoint i ip) (segment_draws (context_of i) ip header bytes slots) i
 
 -- WHAT COMES TO THIS HOST
 
@@ -68,7 +68,7 @@ pub record IsFromOne (i : InnerValue) (source destination : IpAddress) : Type 0 
 abbrev pub IsHome : InnerValue → Option IncomingValue → Type 0
 IsHome i None = Unit {0}
 IsHome i (Some (Arp link packet)) = Unit {0}
-IsHome i (Some (Ip4 link header piece payload)) = IsFromOne i (Address.Ipv4 header.src_addr) (Address.Ipv4 header.dst_addr)
+IsHome i (Some (Ip4 link header fragment payload)) = IsFromOne i (Address.Ipv4 header.src_addr) (Address.Ipv4 header.dst_addr)
 IsHome i (Some (Ip6 link header payload)) = IsFromOne i (Address.Ipv6 header.src_addr) (Address.Ipv6 header.dst_addr)
 
 -- what the host takes in of a content
@@ -95,19 +95,19 @@ one_v6 true group own control near is named = clash named
 
 home_taken : (i : InnerValue) (v : IncomingValue) → is_taken_in i v ≡ true → IsHome i (Some v)
 home_taken i (Arp link packet) is = tt
-home_taken i (Ip4 link h piece payload) is =
+home_taken i (Ip4 link h fragment payload) is =
     let a : Ipv4Address = h.src_addr in
-    let cut = taken_cut (is_heard i link) (is_sender i a) (is_astray i (Address.Ipv4 a) (Address.Ipv4 h.dst_addr)) is in
+    let cut = taken_cut (passes_filter i link) (is_sender i a) (is_astray i (Address.Ipv4 a) (Address.Ipv4 h.dst_addr)) is in
     record {
       here = cut.1;
       one = one_v4 (is_unspecified_v4 a) (is_multicast_v4 a) (is_broadcast_v4 a) (is_local_broadcast i (Address.Ipv4 a)) cut.0;
     }
 home_taken i (Ip6 link h payload) is =
     let a : Ipv6Address = h.src_addr in
-    let cut = taken_cut (is_heard i link) (is_sender_v6 i h) (is_astray i (Address.Ipv6 a) (Address.Ipv6 h.dst_addr)) is in
+    let cut = taken_cut (passes_filter i link) (is_sender_v6 i h) (is_astray i (Address.Ipv6 a) (Address.Ipv6 h.dst_addr)) is in
     record {
       here = cut.1;
-      one = one_v6 (is_unspecified_v6 a) (is_multicast_v6 a) (is_own_solicited_node i h.dst_addr) (is_control_v6 h.next_header) (h.hop_limit == 255) cut.0;
+      one = one_v6 (is_unspecified_v6 a) (is_multicast_v6 a) (is_local_solicited_node i h.dst_addr) (is_control_v6 h.next_header) (h.hop_limit == 255) cut.0;
     }
 
 taken_if : (i : InnerValue) (v : IncomingValue) (taken : Bool) → is_taken_in i v ≡ taken → IsHome i (if taken then Some v else None)
@@ -118,41 +118,41 @@ taken_home : (i : InnerValue) (content : Option IncomingValue) → IsHome i (tak
 taken_home i None = tt
 taken_home i (Some v) = taken_if i v (is_taken_in i v) refl
 
--- a datagram that is rebuilt has the addresses of its last piece
-rebuilt_v4_home : (i : InnerValue) (link : Option EthernetRepr) (h : Ipv4Repr) (bytes : Option (List ℕ)) →
-    IsFromOne i (Address.Ipv4 h.src_addr) (Address.Ipv4 h.dst_addr) → IsHome i (rebuilt link h bytes)
-rebuilt_v4_home i link h None home = tt
-rebuilt_v4_home i link h (Some bytes) home = by (nat_lt (length bytes) (2 ^ 16 - 20)) where
+-- a datagram that is reassembled has the addresses of its last fragment
+reassembled_v4_home : (i : InnerValue) (link : Option EthernetRepr) (h : Ipv4Repr) (bytes : Option (List ℕ)) →
+    IsFromOne i (Address.Ipv4 h.src_addr) (Address.Ipv4 h.dst_addr) → IsHome i (reassembled link h bytes)
+reassembled_v4_home i link h None home = tt
+reassembled_v4_home i link h (Some bytes) home = by (nat_lt (length bytes) (2 ^ 16 - 20)) where
   by : (fits : Bool) → IsHome i (if fits then Some (Ip4 link (record h { payload_len = length bytes }) uncut bytes) else None)
   by true = home
   by false = tt
 
-rebuilt_v6_home : (i : InnerValue) (link : Option EthernetRepr) (h : Ipv6Repr) (bytes : Option (List ℕ)) →
-    IsFromOne i (Address.Ipv6 h.src_addr) (Address.Ipv6 h.dst_addr) → IsHome i (rebuilt_v6 link h bytes)
-rebuilt_v6_home i link h None home = tt
-rebuilt_v6_home i link h (Some bytes) home = by (nat_lt (length bytes) (2 ^ 16)) where
+reassembled_v6_home : (i : InnerValue) (link : Option EthernetRepr) (h : Ipv6Repr) (bytes : Option (List ℕ)) →
+    IsFromOne i (Address.Ipv6 h.src_addr) (Address.Ipv6 h.dst_addr) → IsHome i (reassembled_v6 link h bytes)
+reassembled_v6_home i link h None home = tt
+reassembled_v6_home i link h (Some bytes) home = by (nat_lt (length bytes) (2 ^ 16)) where
   by : (fits : Bool) → IsHome i (if fits then Some (Ip6 link (record h { next_header = Protocol.Ipv6Frag; payload_len = length bytes }) bytes) else None)
   by true = home
   by false = tt
 
-whole_home : (i : InnerValue) (slots : Slots) (at : Option ℕ) (content : Option IncomingValue) → IsHome i content → IsHome i (whole_of slots at content)
-whole_home i slots at None home = tt
-whole_home i slots at (Some (Arp link packet)) home = tt
-whole_home i slots at (Some (Ip4 link h piece payload)) home = by (is_piece piece) where
-  by : (is : Bool) → IsHome i (if is then rebuilt link h (bytes_at at slots) else Some (Ip4 link h piece payload))
-  by true = rebuilt_v4_home i link h (bytes_at at slots) home
+whole_home : (i : InnerValue) (assemblers : Assemblers) (at : Option ℕ) (content : Option IncomingValue) → IsHome i content → IsHome i (whole_of assemblers at content)
+whole_home i assemblers at None home = tt
+whole_home i assemblers at (Some (Arp link packet)) home = tt
+whole_home i assemblers at (Some (Ip4 link h fragment payload)) home = by (is_fragment fragment) where
+  by : (is : Bool) → IsHome i (if is then reassembled link h (bytes_at at assemblers) else Some (Ip4 link h fragment payload))
+  by true = reassembled_v4_home i link h (bytes_at at assemblers) home
   by false = home
-whole_home i slots at (Some (Ip6 link h payload)) home = by (is_piece_v6 h payload) where
-  by : (is : Bool) → IsHome i (if is then rebuilt_v6 link h (bytes_at at slots) else Some (Ip6 link h payload))
-  by true = rebuilt_v6_home i link h (bytes_at at slots) home
+whole_home i assemblers at (Some (Ip6 link h payload)) home = by (is_fragment_v6 h payload) where
+  by : (is : Bool) → IsHome i (if is then reassembled_v6 link h (bytes_at at assemblers) else Some (Ip6 link h payload))
+  by true = reassembled_v6_home i link h (bytes_at at assemblers) home
   by false = home
 
-pub brought_home : (i : InnerValue) (timeout : ℕ) (slots : Slots) (content : Option IncomingValue) →
-    IsHome i (whole_after i timeout slots (taken_in i content))
-brought_home i timeout slots content =
-    whole_home i (kept i timeout slots (taken_in i content)) (place_in slots (taken_in i content)) (taken_in i content) (taken_home i content)
+pub brought_home : (i : InnerValue) (timeout : ℕ) (assemblers : Assemblers) (content : Option IncomingValue) →
+    IsHome i (whole_after i timeout assemblers (taken_in i content))
+brought_home i timeout assemblers content =
+    whole_home i (kept i timeout assemblers (taken_in i content)) (slot_in assemblers (taken_in i content)) (taken_in i content) (taken_home i content)
 
--- LATER: errors are counted up to no earlier moment, and what was known of paths isn't forgotten
+-- LATER: errors are counted up to no earlier instant, and what was known of paths isn't forgotten
 abbrev pub IsLater : InnerValue → InnerValue → Type 0
 IsLater i i' = (i.errors_until ≤ℤ i'.errors_until) × (i'.paths ≡ [] → i.paths ≡ [])
 
@@ -179,12 +179,12 @@ no_less : (until now : ℤ) → until ≤ℤ answered_at until now
 no_less until now = omega (arith, ints, clamps)
 
 later_error : (i : InnerValue) → IsLater i (with_error i)
-later_error i = (no_less i.errors_until i.moment, λ none. none)
+later_error i = (no_less i.errors_until i.instant, λ none. none)
 
 -- a path
-behind_none : (xs : List Path) (x : Path) → xs ++ x ∷ [] ≡ [] → ⊥
-behind_none [] x is = absurd cc
-behind_none (y ∷ xs) x is = absurd cc
+following_none : (xs : List Path) (x : Path) → xs ++ x ∷ [] ≡ [] → ⊥
+following_none [] x is = absurd cc
+following_none (y ∷ xs) x is = absurd cc
 
 set_none : (paths : List Path) (at : ℕ) (x : Path) → slice_set paths at x ≡ [] → paths ≡ []
 set_none [] at x is = refl
@@ -195,69 +195,69 @@ entered_none : (at : Option ℕ) (paths : List Path) (x : Path) → entered_at a
 entered_none (Some at) paths x is = set_none paths at x is
 entered_none None paths x is = by (nat_lt (length paths) path_room) is where
   by : (fits : Bool) → (if fits then paths ++ x ∷ [] else remove paths (victim paths) ++ x ∷ []) ≡ [] → paths ≡ []
-  by true is = absurd (behind_none paths x is)
-  by false is = absurd (behind_none (remove paths (victim paths)) x is)
+  by true is = absurd (following_none paths x is)
+  by false is = absurd (following_none (remove paths (victim paths)) x is)
 
 lowered_none : (paths : List Path) (address : IpAddress) (told : ℕ) (now : ℤ) (whole : ℕ) → lowered paths address told now whole ≡ [] → paths ≡ []
 unfolding lowered
 lowered_none paths address told now whole is = by (is_news paths address told now whole) is where
   by : (news : Bool) → (if news then entered paths (heard_of address told now) else paths) ≡ [] → paths ≡ []
-  by true is = entered_none (place_of paths address) paths (heard_of address told now) is
+  by true is = entered_none (assembler_index_of paths address) paths (heard_of address told now) is
   by false is = is
 
 later_told : (i : InnerValue) (address : IpAddress) (told : ℕ) → IsLater i (with_path i address told)
-later_told i address told = (no_earlier i.errors_until, λ none. lowered_none i.paths address told i.moment i.mtu none)
+later_told i address told = (no_earlier i.errors_until, λ none. lowered_none i.paths address told i.instant i.mtu none)
 
 -- what carries it
 later_drawn : (draws : Bool) (i : InnerValue) → IsLater i (drawn_if draws i)
 later_drawn true i = later_same i (drawn_if true i) refl refl
 later_drawn false i = later_itself i
 
-later_segment : (i : InnerValue) (places : Places) (ip : IpRepr) (header : TcpHeader) (bytes : List ℕ) → IsLater i (segment_host i places ip header bytes)
-later_segment i places ip header bytes =
-    elim (names_nobody i ip) as (λ b. IsLater i (if b then i else drawn_if (segment_draws (context_of i) ip header bytes places) i)) [
+later_segment : (i : InnerValue) (slots : Slots) (ip : IpRepr) (header : TcpHeader) (bytes : List ℕ) → IsLater i (segment_host i slots ip header bytes)
+later_segment i slots ip header bytes =
+    elim (names_no_endpoint i ip) as (λ b. IsLater i (if b then i else drawn_if (segment_draws (context_of i) ip header bytes slots) i)) [
       | true ↦ later_itself i
-      | false ↦ later_drawn (segment_draws (context_of i) ip header bytes places) i
+      | false ↦ later_drawn (segment_draws (context_of i) ip header bytes slots) i
     ]
 
-later_heard : (i : InnerValue) (header : Ipv6Repr) (message : NeighborMessage) → IsLater i (neighbor_heard i header message).inner
+later_heard : (i : InnerValue) (header : Ipv6Repr) (message : NeighborMessage) → IsLater i (neighbor_learned i header message).inner
 later_heard i header message =
-    later_same i (neighbor_heard i header message).inner (ap (λ (x : InnerValue). x.errors_until) (entries-alone i header message))
+    later_same i (neighbor_learned i header message).inner (ap (λ (x : InnerValue). x.errors_until) (entries-alone i header message))
     (ap (λ (x : InnerValue). x.paths) (entries-alone i header message))
 
-later_message : (i : InnerValue) (places : Places) (header : Ipv6Repr) (message : Icmpv6.MessageValue) (bytes : List ℕ) →
-    IsLater i (message_host i places header message bytes)
-later_message i places header (Icmpv6.DstUnreachable reason about) bytes = later_itself i
-later_message i places header (Icmpv6.PktTooBig mtu about) bytes =
-    path_v6_so (IsLater i) i (later_itself i) (later_told i) places (Icmpv6.PktTooBig mtu about) bytes
-later_message i places header (Icmpv6.TimeExceeded reason about) bytes = later_itself i
-later_message i places header (Icmpv6.ParamProblem reason pointer about) bytes = later_itself i
-later_message i places header (Icmpv6.EchoRequest ident seq_no) bytes = later_itself i
-later_message i places header (Icmpv6.EchoReply ident seq_no) bytes = later_itself i
-later_message i places header (Icmpv6.Ndisc message) bytes =
-    elim (is_control_v6 header.next_header) as (λ b. IsLater i (if b then (neighbor_heard i header message).inner else i)) [
+later_message : (i : InnerValue) (slots : Slots) (header : Ipv6Repr) (message : Icmpv6.MessageValue) (bytes : List ℕ) →
+    IsLater i (message_host i slots header message bytes)
+later_message i slots header (Icmpv6.DstUnreachable reason about) bytes = later_itself i
+later_message i slots header (Icmpv6.PktTooBig mtu about) bytes =
+    path_v6_so (IsLater i) i (later_itself i) (later_told i) slots (Icmpv6.PktTooBig mtu about) bytes
+later_message i slots header (Icmpv6.TimeExceeded reason about) bytes = later_itself i
+later_message i slots header (Icmpv6.ParamProblem reason pointer about) bytes = later_itself i
+later_message i slots header (Icmpv6.EchoRequest ident seq_no) bytes = later_itself i
+later_message i slots header (Icmpv6.EchoReply ident seq_no) bytes = later_itself i
+later_message i slots header (Icmpv6.Ndisc message) bytes =
+    elim (is_control_v6 header.next_header) as (λ b. IsLater i (if b then (neighbor_learned i header message).inner else i)) [
       | true ↦ later_heard i header message
       | false ↦ later_itself i
     ]
 
-later_handed : (i : InnerValue) (places : Places) (ip : IpRepr) (payload : List ℕ) (carried : Option PayloadValue) →
-    IsLater i (handed_host i places ip payload carried)
-later_handed i places (Ip.Ipv4 header) payload (Some (ControlV4 message bytes)) =
-    path_v4_so (IsLater i) i (later_itself i) (later_told i) places payload message bytes
-later_handed i places (Ip.Ipv6 header) payload (Some (ControlV4 message bytes)) = later_itself i
-later_handed i places (Ip.Ipv4 header) payload (Some (ControlV6 message bytes)) = later_itself i
-later_handed i places (Ip.Ipv6 header) payload (Some (ControlV6 message bytes)) = later_message i places header message bytes
-later_handed i places ip payload (Some (Bytes bytes)) = later_itself i
-later_handed i places ip payload (Some (Datagram udp bytes)) = later_itself i
-later_handed i places ip payload (Some (Segment header bytes)) = later_segment i places ip header bytes
-later_handed i places ip payload None = later_itself i
+later_handed : (i : InnerValue) (slots : Slots) (ip : IpRepr) (payload : List ℕ) (carried : Option PayloadValue) →
+    IsLater i (handed_host i slots ip payload carried)
+later_handed i slots (Ip.Ipv4 header) payload (Some (ControlV4 message bytes)) =
+    path_v4_so (IsLater i) i (later_itself i) (later_told i) slots payload message bytes
+later_handed i slots (Ip.Ipv6 header) payload (Some (ControlV4 message bytes)) = later_itself i
+later_handed i slots (Ip.Ipv4 header) payload (Some (ControlV6 message bytes)) = later_itself i
+later_handed i slots (Ip.Ipv6 header) payload (Some (ControlV6 message bytes)) = later_message i slots header message bytes
+later_handed i slots ip payload (Some (Bytes bytes)) = later_itself i
+later_handed i slots ip payload (Some (Datagram udp bytes)) = later_itself i
+later_handed i slots ip payload (Some (Segment header bytes)) = later_segment i slots ip header bytes
+later_handed i slots ip payload None = later_itself i
 
-later_limited : (i : InnerValue) (places : Places) (ip : IpRepr) (payload : List ℕ) (taken : Bool) (carried : Option PayloadValue) →
-    IsLater i (limited_host i places ip payload taken carried)
-later_limited i places ip payload taken carried =
-    let after = handed_host i places ip payload carried in
-    let same = later_handed i places ip payload carried in
-    counted_so (IsLater i) (is_unclaimed i places ip carried) i (handed_reply i places ip payload taken carried) after same
+later_limited : (i : InnerValue) (slots : Slots) (ip : IpRepr) (payload : List ℕ) (taken : Bool) (carried : Option PayloadValue) →
+    IsLater i (limited_host i slots ip payload taken carried)
+later_limited i slots ip payload taken carried =
+    let after = handed_host i slots ip payload carried in
+    let same = later_handed i slots ip payload carried in
+    counted_so (IsLater i) (is_unclaimed i slots ip carried) i (handed_reply i slots ip payload taken carried) after same
     (later_then i after (with_error after) same (later_error after))
 
 later_renewed : (i : InnerValue) (link : Option EthernetRepr) (ip : IpRepr) → IsLater i (renewed i link ip)
@@ -268,22 +268,22 @@ later_renewed i link ip =
     by None = later_itself i
     by (Some link) = later_same i (renewed_by i (Some link) (sender_of ip)) refl refl
 
-later_in : (i : InnerValue) (places : Places) (link : Option EthernetRepr) (ip : IpRepr) (payload : List ℕ) (taken : Bool) (a : Arrived) →
-    Hands (renewed i link ip) places ip payload taken a → IsLater i a.inner
-later_in i places link ip payload taken a (carried, is, handed) =
-    later_at i (limited_host (renewed i link ip) places ip payload taken carried) a.inner handed.inner
-    (later_then i (renewed i link ip) (limited_host (renewed i link ip) places ip payload taken carried) (later_renewed i link ip)
-    (later_limited (renewed i link ip) places ip payload taken carried))
+later_in : (i : InnerValue) (slots : Slots) (link : Option EthernetRepr) (ip : IpRepr) (payload : List ℕ) (taken : Bool) (a : Arrived) →
+    Hands (renewed i link ip) slots ip payload taken a → IsLater i a.inner
+later_in i slots link ip payload taken a (carried, is, handed) =
+    later_at i (limited_host (renewed i link ip) slots ip payload taken carried) a.inner handed.inner
+    (later_then i (renewed i link ip) (limited_host (renewed i link ip) slots ip payload taken carried) (later_renewed i link ip)
+    (later_limited (renewed i link ip) slots ip payload taken carried))
 
-later_v4 : (ours : Bool) (i : InnerValue) (places : Places) (link : Option EthernetRepr) (ip : IpRepr) (payload : List ℕ) (a : Arrived) →
-    ArrivesV4 ours i places link ip payload a → IsLater i a.inner
-later_v4 true i places link ip payload a h = later_in i (packet_delivered ip payload places) link ip payload (is_taken_raw ip places) a h
-later_v4 false i places link ip payload a h = later_at i i a.inner h.inner (later_itself i)
+later_v4 : (ours : Bool) (i : InnerValue) (slots : Slots) (link : Option EthernetRepr) (ip : IpRepr) (payload : List ℕ) (a : Arrived) →
+    ArrivesV4 ours i slots link ip payload a → IsLater i a.inner
+later_v4 true i slots link ip payload a h = later_in i (packet_delivered ip payload slots) link ip payload (is_taken_raw ip slots) a h
+later_v4 false i slots link ip payload a h = later_at i i a.inner h.inner (later_itself i)
 
-later_v6 : (ours : Bool) (i : InnerValue) (places : Places) (link : Option EthernetRepr) (ip : IpRepr) (payload : List ℕ) (a : Arrived) →
-    ArrivesV6 ours i places link ip payload a → IsLater i a.inner
-later_v6 true i places link ip payload a h = later_in i (packet_delivered ip payload places) link ip payload (is_taken_raw ip places) a h
-later_v6 false i places link ip payload a h = later_at i i a.inner h.inner (later_itself i)
+later_v6 : (ours : Bool) (i : InnerValue) (slots : Slots) (link : Option EthernetRepr) (ip : IpRepr) (payload : List ℕ) (a : Arrived) →
+    ArrivesV6 ours i slots link ip payload a → IsLater i a.inner
+later_v6 true i slots link ip payload a h = later_in i (packet_delivered ip payload slots) link ip payload (is_taken_raw ip slots) a h
+later_v6 false i slots link ip payload a h = later_at i i a.inner h.inner (later_itself i)
 
 later_learned : (i : InnerValue) (packet : ArpRepr) → IsLater i (learned i packet)
 later_learned i (Arps.EthernetIpv4 operation source_hardware source target_hardware target) =
@@ -293,18 +293,18 @@ later_arp : (i : InnerValue) (packet : ArpRepr) → IsLater i (arp_arrived i pac
 later_arp i packet =
     elim (teaches i packet) as (λ b. IsLater i (if b then learned i packet else i)) [ true ↦ later_learned i packet | false ↦ later_itself i ]
 
-pub brings_later : (i : InnerValue) (places : Places) (content : Option IncomingValue) (a : Arrived) → Brings i places content a → IsLater i a.inner
-brings_later i places None a h = later_at i i a.inner h.inner (later_itself i)
-brings_later i places (Some (Arp link packet)) a h = later_at i (arp_arrived i packet) a.inner h.inner (later_arp i packet)
-brings_later i places (Some (Ip4 link header piece payload)) a h = later_v4 _ i places link (Ip.Ipv4 header) payload a h
-brings_later i places (Some (Ip6 link header payload)) a h = later_v6 _ i places link (Ip.Ipv6 header) payload a h
+pub brings_later : (i : InnerValue) (slots : Slots) (content : Option IncomingValue) (a : Arrived) → Brings i slots content a → IsLater i a.inner
+brings_later i slots None a h = later_at i i a.inner h.inner (later_itself i)
+brings_later i slots (Some (Arp link packet)) a h = later_at i (arp_arrived i packet) a.inner h.inner (later_arp i packet)
+brings_later i slots (Some (Ip4 link header fragment payload)) a h = later_v4 _ i slots link (Ip.Ipv4 header) payload a h
+brings_later i slots (Some (Ip6 link header payload)) a h = later_v6 _ i slots link (Ip.Ipv6 header) payload a h
 
 -- BACK
 
 no_way : (a b c : ℤ) → a ≤ℤ b → b ≤ℤ c → c ≡ a → b ≡ a
 no_way a b c one other is = omega (arith, ints, one, other, is)
 
--- what is still behind an arrival was so before it
+-- what is still after an arrival was so before it
 pub stayed : (i0 i i' : InnerValue) → i0.errors_until ≤ℤ i.errors_until → IsLater i i' → Stays i0 i' → Stays i0 i
 stayed i0 i i' low later still = (later.1 still.0, no_way i0.errors_until i.errors_until i'.errors_until low later.0 still.1)
 
@@ -317,7 +317,7 @@ pub since_itself : (i : InnerValue) → IsSince i i
 since_itself i =
     (record { hardware = refl; mtu = refl; checksums = refl; addresses = refl; isn_key = refl; any_ip = refl; routes = refl }, no_earlier i.errors_until)
 
-pub since_begun : (i0 i : InnerValue) (t : ℤ) → IsSince i0 i → IsSince i0 (at_moment t i)
+pub since_begun : (i0 i : InnerValue) (t : ℤ) → IsSince i0 i → IsSince i0 (at_instant t i)
 since_begun i0 i t since = (
   record {
     hardware = since.0.hardware;
@@ -359,5 +359,5 @@ since_out i0 i i' same since = (
   subst (λ (u : ℤ). i0.errors_until ≤ℤ u) (sym (ap (λ (x : InnerValue). x.errors_until) same)) since.1,
 )
 
-pub as_since : (i0 i : InnerValue) (t : ℤ) → i.moment ≡ t → IsSince i0 i → (i0.ident < 2 ^ 16 → i.ident < 2 ^ 16) → IsAsAt i0 t i
-as_since i0 i t is since ident = record { settings = since.0; moment = is; low = since.1; ident = ident }
+pub as_since : (i0 i : InnerValue) (t : ℤ) → i.instant ≡ t → IsSince i0 i → (i0.ident < 2 ^ 16 → i.ident < 2 ^ 16) → IsAsAt i0 t i
+as_since i0 i t is since ident = record { settings = since.0; instant = is; low = since.1; ident = ident }

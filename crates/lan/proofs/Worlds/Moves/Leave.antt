@@ -1,27 +1,27 @@
--- What a socket offers in a poll goes, where its device gives leave behind the poll, and there is a way.
+-- What a socket offers in a poll goes, where its device gives leave after the poll, and there is a way.
 use Rattle.std.proofs.Common.{◌≡◌, ◌⊎◌, inl, inr, ℕ, ℤ, Bool, true, false, if◌then◌else◌, List, [], ◌∷◌, ◌++◌, Option, Some, None, IfSome, refl, sym, ap}
 use Rattle.interface.specs.Host.{Sender}
 use Rattle.interface.specs.Ip.{source_of, destination_of}
 use Rattle.interface.specs.IpRepr.{IpRepr}
-use Rattle.interface.specs.Turn.{Leaves, is_done, is_given_up, is_out_of_turn, plan_at, with_source}
-use Rattle.interface_ingress.specs.HardwareAddress.{HardwareAddress}
-use Rattle.interface_ingress.specs.IpAddress.{IpAddress}
-use Rattle.interface_egress.specs.Fragments.{LeftValue}
-use Rattle.interface_egress.specs.GoesOut.{GoesOut, WasCut, Went, cut_of, numbered}
-use Rattle.interface_egress.specs.Departure.{Departure, Whole}
-use Rattle.interface_egress.specs.Plan.{plan_of}
-use Rattle.interface_egress.specs.declared.plan.Plan.{Plan}
-use Rattle.interface_egress.specs.declared.plan.Plan.TheVariants as Way
-use Rattle.interface_egress.specs.declared.socket_meta.Meta.{Meta}
-use Rattle.interface_egress.specs.declared.way_out.Sent.{Sent}
-use Rattle.interface_egress.specs.declared.way_out.Sent.TheVariants as Outcome
-use Rattle.interface_tables.specs.Inner.{InnerValue, link_address, may_come_from}
-use Rattle.interface_tables.specs.Source.{source_for}
-use Rattle.interface_tables.specs.declared.link.LinkAddress.TheVariants as Link
-use Rattle.lan_base.specs.Device.{Move, Allowed, Denied}
+use Rattle.interface.specs.Serve.{Leaves, is_done, is_given_up, is_out_of_turn, plan_at, with_source}
+use Rattle.iface_ingress.specs.HardwareAddress.{HardwareAddress}
+use Rattle.iface_ingress.specs.IpAddress.{IpAddress}
+use Rattle.iface_egress.specs.Fragments.{LeftValue}
+use Rattle.iface_egress.specs.IsTransmitted.{IsTransmitted, WasCut, WasSent, cut_of, numbered}
+use Rattle.iface_egress.specs.Departure.{Departure, Whole}
+use Rattle.iface_egress.specs.Plan.{plan_of}
+use Rattle.iface_egress.specs.declared.plan.Plan.{Plan}
+use Rattle.iface_egress.specs.declared.plan.Plan.TheVariants as Way
+use Rattle.iface_egress.specs.declared.socket_meta.Meta.{Meta}
+use Rattle.iface_egress.specs.declared.egress_path.Sent.{Sent}
+use Rattle.iface_egress.specs.declared.egress_path.Sent.TheVariants as Outcome
+use Rattle.iface_tables.specs.Inner.{InnerValue, link_address, may_be_source}
+use Rattle.iface_tables.specs.Source.{source_for}
+use Rattle.iface_tables.specs.declared.link.LinkAddress.TheVariants as Link
+use Rattle.sim_link.specs.Device.{Move, Allowed, Denied}
 use Rattle.sockets.specs.Packet.{PacketValue}
-use Rattle.tcp_model.specs.OpenOffer.{OpenOffer}
-use Rattle.tcp_model.specs.Offers.{offer_of}
+use Rattle.tcp_block.specs.OpenOffer.{OpenOffer}
+use Rattle.tcp_block.specs.Offers.{offer_of}
 use Rattle.lan.specs.Worlds.AtLink.Moves as Moves
 use Rattle.lan.specs.Worlds.AtLink.Moves.{Step}
 use Rattle.lan.specs.Worlds.AtLink.Moves.Move.{Invokes, Passes, Offers, Gives, Takes, Receives, Resets, Changes}
@@ -47,14 +47,14 @@ IsHindrance plan = ⊥
 
 -- the header that a segment leaves with
 abbrev pub leaving_by : InnerValue → IpRepr → IpRepr
-leaving_by i h = if may_come_from i (source_of h) (destination_of h) then h else with_source h (source_for i.addresses (destination_of h))
+leaving_by i h = if may_be_source i (source_of h) (destination_of h) then h else with_source h (source_for i.addresses (destination_of h))
 
 -- So was the host in the poll when a packet that left it with this header had to stay, though it knew, as N says, where frames for a destination go.
 pub record IsHindered (i0 : InnerValue) (t : ℤ) (N : IpAddress → HardwareAddress → Type 0) (leaving : InnerValue → IpRepr) : Type 0 where
   pub i : InnerValue
   pub like : IsAsAt i0 t i
   pub paths : i.paths ≡ []
-  pub hops : (remote : IpAddress) (to : HardwareAddress) → N remote to → link_address i remote ≡ Link.Known to
+  pub hop_limit : (remote : IpAddress) (to : HardwareAddress) → N remote to → link_address i remote ≡ Link.Known to
   pub busy : Bool
   pub plan : IsHindrance (plan_of i busy (leaving i))
 
@@ -79,7 +79,7 @@ module _ (i0 : InnerValue) (t : ℤ) (N N' : IpAddress → HardwareAddress → T
     i = h.i;
     like = h.like;
     paths = h.paths;
-    hops = λ remote to n. h.hops remote to (knew remote to n);
+    hop_limit = λ remote to n. h.hop_limit remote to (knew remote to n);
     busy = h.busy;
     plan = h.plan;
   }
@@ -126,13 +126,13 @@ held_so false turn (Way.Go to) sent is = absurd (cc)
 held_so false turn (Way.Cut to) sent is = absurd (cc)
 
 module _ {D : Type 0} (moves : D → Move → D → Type 0) (Since Gives : D → Type 0) (giving : IsGiving moves Since Gives) where
-  went_so : (plan : Plan) (d d' : D) (i i' : InnerValue) (h : IpRepr) (p : Departure) (sent : Sent) → Went moves d i h p sent d' i' → Since d → Gives d' →
+  was_sent_so : (plan : Plan) (d d' : D) (i i' : InnerValue) (h : IpRepr) (p : Departure) (sent : Sent) → WasSent moves d i h p sent d' i' → Since d → Gives d' →
       Ends sent plan
-  went_so plan d d' i i' h p Outcome.Gone goes since gives = inl refl
-  went_so plan d d' i i' h p Outcome.Refused goes since gives = absurd (giving.takes d d' _ goes.0 since gives)
-  went_so plan d d' i i' h p Outcome.Waits goes since gives = absurd goes
-  went_so plan d d' i i' h p Outcome.Dropped goes since gives = absurd goes
-  went_so plan d d' i i' h p Outcome.Busy goes since gives = absurd goes
+  was_sent_so plan d d' i i' h p Outcome.Gone goes since gives = inl refl
+  was_sent_so plan d d' i i' h p Outcome.Refused goes since gives = absurd (giving.takes d d' _ goes.0 since gives)
+  was_sent_so plan d d' i i' h p Outcome.Waits goes since gives = absurd goes
+  was_sent_so plan d d' i i' h p Outcome.Dropped goes since gives = absurd goes
+  was_sent_so plan d d' i i' h p Outcome.Busy goes since gives = absurd goes
 
   cut_so : (plan : Plan) (d d' : D) (i i' : InnerValue) (l l' : Option LeftValue) (c : LeftValue) (sent : Sent) → WasCut moves d i l c sent d' i' l' →
       Since d → Gives d' → Ends sent plan
@@ -143,23 +143,23 @@ module _ {D : Type 0} (moves : D → Move → D → Type 0) (Since Gives : D →
   cut_so plan d d' i i' l l' c Outcome.Busy goes since gives = absurd goes
 
   out_so : (d d' : D) (i i' : InnerValue) (l l' : Option LeftValue) (p : PacketValue) (plan : Plan) (sent : Sent) →
-      GoesOut moves d i l p plan sent d' i' l' → Since d → Gives d' → Ends sent plan
+      IsTransmitted moves d i l p plan sent d' i' l' → Since d → Gives d' → Ends sent plan
   out_so d d' i i' l l' p Way.Drop sent goes since gives = inl (ap is_done goes.0)
   out_so d d' i i' l l' p Way.NoRoute sent goes since gives = inr tt
   out_so d d' i i' l l' p Way.Wait sent goes since gives = inr tt
   out_so d d' i i' l l' p Way.Busy sent goes since gives = inr tt
   out_so d d' i i' l l' p (Way.Ask question) sent goes since gives = inr tt
   out_so d d' i i' l l' p (Way.Go to) sent goes since gives =
-      went_so (Way.Go to) d d' i i' p.header (Whole to (numbered i p)) sent goes.0 since gives
+      was_sent_so (Way.Go to) d d' i i' p.header (Whole to (numbered i p)) sent goes.0 since gives
   out_so d d' i i' l l' p (Way.Cut to) sent goes since gives = cut_so (Way.Cut to) d d' i i' l l' (cut_of i to p) sent goes since gives
 
-  -- where the device gives leave behind it, it is done with, or has to stay
+  -- where the device gives leave after it, it is done with, or has to stay
   pub leaves_so : (turn : Option IpAddress) (x x' : Sender D) (m : Meta) (p : PacketValue) (sent : Sent) → Leaves moves turn x m p sent x' → Since x.device →
       Gives x'.device → (is_done sent ≡ true) ⊎ IsHindrance (plan_at x p)
   leaves_so turn x x' m p sent (inl (false, refused, inner, left, so)) since gives =
-      absurd (giving.leave x.device x'.device x.inner.moment refused since gives)
+      absurd (giving.leave x.device x'.device x.inner.instant refused since gives)
   leaves_so turn x x' m p sent (inl (true, allowed, inner, left, so)) since gives =
       held_so (is_given_up m x.inner (destination_of p.header) (plan_at x p)) turn (plan_at x p) sent so
   leaves_so turn x x' m p sent (inr (mid, allowed, goes, free)) since gives =
       out_so mid x'.device x.inner x'.inner x.left x'.left p (plan_at x p) sent goes
-      (giving.since x.device mid (Allowed x.inner.moment true) allowed since) gives
+      (giving.since x.device mid (Allowed x.inner.instant true) allowed since) gives

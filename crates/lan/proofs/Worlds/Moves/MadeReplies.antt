@@ -1,5 +1,5 @@
 -- A reply of what was made.
-use Rattle.interface_ingress.specs.Arrives.{ReplyValue, Tells, Answers}
+use Rattle.iface_ingress.specs.Arrives.{ReplyValue, Tells, Answers}
 use Rattle.lan.specs.Worlds.AtLink.Parties.{Party}
 use Rattle.lan.specs.Worlds.Moves.Made.{IsMade}
 

@@ -1,28 +1,28 @@
--- Who makes what is rebuilt: a host that never had a UDP socket makes no datagram, and nobody one that is short of its header.
+-- Who makes what is reassembled: a host that never had a UDP socket makes no datagram, and nobody one that is short of its header.
 use Rattle.std.proofs.Common.{◌≡◌, ℕ, zero, suc, ◌+◌, ◌≤◌, Bool, List, [], ◌∷◌, length, Option, Some, None, refl, sym, ap, ◌∙◌, subst, arith}
 use Rattle.std.specs.List.{AllByRecursion}
 use Rattle.std.specs.Prelude.{slice_get, slice_set, slice_index_or}
-use Rattle.lan_base.specs.Carried.{names_tcp_or_udp}
-use Rattle.lan_base.specs.Medium.TheVariants as Medium
-use Rattle.ip_address.specs.declared.ipv4.Ipv4FragKey.{Ipv4FragKey}
-use Rattle.interface_tables.specs.declared.key.FragKey.{FragKey}
-use Rattle.interface_tables.specs.declared.key.FragKey.TheVariants as Keys
-use Rattle.interface_tables.specs.declared.key.Ipv6FragKey.{Ipv6FragKey}
+use Rattle.sim_link.specs.PacketInFrame.{names_tcp_or_udp}
+use Rattle.sim_link.specs.Medium.TheVariants as Medium
+use Rattle.wire_address.specs.declared.ipv4.Ipv4FragKey.{Ipv4FragKey}
+use Rattle.iface_tables.specs.declared.key.FragKey.{FragKey}
+use Rattle.iface_tables.specs.declared.key.FragKey.TheVariants as Keys
+use Rattle.iface_tables.specs.declared.key.Ipv6FragKey.{Ipv6FragKey}
 use Rattle.interface.specs.Ip.{carried_in}
 use Rattle.interface.specs.IpRepr.{IpRepr}
-use Rattle.interface_ingress.specs.IpProtocol.TheVariants as Protocol
-use Rattle.interface_ingress.specs.Sent.{CanBeRead, normal_payload}
+use Rattle.iface_ingress.specs.IpProtocol.TheVariants as Protocol
+use Rattle.iface_ingress.specs.Sent.{CanBeRead, normal_payload}
 use Rattle.sockets.specs.Packet.{PayloadValue, ControlV4, ControlV6, Bytes, Datagram, Segment, payload_written}
 use Rattle.sockets.specs.declared.socket.Socket as Sockets
 use Rattle.sockets.specs.declared.socket.Socket.TheVariants as Is
-use Rattle.interface_egress.specs.declared.socket_set.Item.{Item}
-use Rattle.interface_egress.specs.declared.socket_set.SocketStorage.{SocketStorage}
+use Rattle.iface_egress.specs.declared.socket_set.Item.{Item}
+use Rattle.iface_egress.specs.declared.socket_set.SocketStorage.{SocketStorage}
 use Rattle.sockets.specs.Context.{ContextValue}
 use Rattle.lan.specs.Worlds.AtLink.Side.{Side}
 use Rattle.lan.specs.Worlds.AtLink.Side.TheVariants.{A, B}
 use Rattle.lan.specs.Worlds.AtLink.Answer.{Answer}
 use Rattle.lan.specs.Worlds.AtLink.Call.{SocketCall}
-use Rattle.tcp_model.specs.State.{State}
+use Rattle.tcp_block.specs.State.{State}
 use Rattle.lan.specs.Worlds.AtLink.Moves.Move.{Invokes, Passes, Offers, Gives, Takes, Receives, Resets, Changes}
 use Rattle.lan.specs.Worlds.AtLink.Moves.{Move, Does, LooksSame, May, Step, IsRun, run, after, party_after}
 use Rattle.lan.specs.Worlds.AtLink.Parties as Parties
@@ -31,13 +31,13 @@ use Rattle.lan.specs.Worlds.AtLink.Parties.Socket.{Tcp, Udp, Icmp, Raw}
 use Rattle.lan.specs.Worlds.AtLink.Kinds.{other}
 use Rattle.lan.specs.Worlds.AtLink.Safe.{seen_in}
 use Rattle.lan.specs.Worlds.AtLink.Runs.{Starts, WorldValue, start}
-use Rattle.lan.specs.Worlds.AtLink.Station.{station}
+use Rattle.lan.specs.Worlds.AtLink.Node.{node}
 use Rattle.lan.specs.Worlds.Link.Made.{sealed, bytes_of}
-use Rattle.lan.specs.Worlds.Moves.Follows.{seen_place, sockets_of}
+use Rattle.lan.specs.Worlds.Moves.Follows.{seen_slot, sockets_of}
 use Rattle.lan.specs.Worlds.Moves.Joined.{first_net}
 use Rattle.lan.specs.Worlds.Moves.Raws.{OfItem, OfEach, HasNoUdp}
 use Rattle.lan.proofs.Worlds.Moves.Named.{told, not_udp, not_tcp}
-use Rattle.lan.specs.Worlds.Rebuilt.{HasMade, IsOfMadeV4, IsOfMadeV6, IsOfMade, protocol_in, room_before, Rebuilds, RebuiltWasMade}
+use Rattle.lan.specs.Worlds.ReassembledDatagram.{HasMade, IsOfMadeV4, IsOfMadeV6, IsOfMade, protocol_in, room_before, Rebuilds, ReassembledWasMade}
 use Rattle.lan.proofs.Worlds.Link.Fragments.{length_whole}
 
 abbrev IsNoUdp : Option Socket → Type 0
@@ -82,29 +82,29 @@ none_changed (Udp v) new same none = absurd none
 none_changed old new same none = absurd same
 
 module _ (names : List ℕ → Bool) (net : Net) (side : Side) where
-  here : (place : ℕ) (s : Socket) → MakesNone (party net side) → socket_at (party net side) place ≡ Some s → IsNoUdp (Some s)
-  here place s none is = subst IsNoUdp is (none_at (party net side).sockets place none.sockets)
+  here : (slot : ℕ) (s : Socket) → MakesNone (party net side) → socket_at (party net side) slot ≡ Some s → IsNoUdp (Some s)
+  here slot s none is = subst IsNoUdp is (none_at (party net side).sockets slot none.sockets)
 
   moved : (move : Move) → May names net side move → MakesNone (party net side) → MakesNone (party_after (party net side) move)
-  moved (Invokes place cx old entry call new) may none = record {
-    sockets = none_set (party net side).sockets place (Some new)
-        (none_called cx old call entry.answer entry.found new may.3 (here place old none may.0)) none.sockets;
+  moved (Invokes slot cx old entry call new) may none = record {
+    sockets = none_set (party net side).sockets slot (Some new)
+        (none_called cx old call entry.answer entry.found new may.3 (here slot old none may.0)) none.sockets;
     datagrams = none.datagrams;
   }
   moved (Passes entry) may none = none
-  moved (Offers place cx v from sent) may none = record {
-    sockets = none_set (party net side).sockets place _ tt none.sockets;
+  moved (Offers slot cx v from sent) may none = record {
+    sockets = none_set (party net side).sockets slot _ tt none.sockets;
     datagrams = none.datagrams;
   }
-  moved (Gives place cx v answer v' sent) may none = absurd (here place (Udp v) none may.0)
-  moved (Takes place cx v ip header bytes) may none = record {
-    sockets = none_set (party net side).sockets place _ tt none.sockets;
+  moved (Gives slot cx v answer v' sent) may none = absurd (here slot (Udp v) none may.0)
+  moved (Takes slot cx v ip header bytes) may none = record {
+    sockets = none_set (party net side).sockets slot _ tt none.sockets;
     datagrams = none.datagrams;
   }
-  moved (Receives place cx v ip udp bytes) may none = absurd (here place (Udp v) none may.0)
+  moved (Receives slot cx v ip udp bytes) may none = absurd (here slot (Udp v) none may.0)
   moved (Resets x) may none = record { sockets = none.sockets; datagrams = none.datagrams }
-  moved (Changes place old new) may none = record {
-    sockets = none_set (party net side).sockets place (Some new) (none_changed old new may.1 (here place old none may.0)) none.sockets;
+  moved (Changes slot old new) may none = record {
+    sockets = none_set (party net side).sockets slot (Some new) (none_changed old new may.1 (here slot old none may.0)) none.sockets;
     datagrams = none.datagrams;
   }
 
@@ -123,9 +123,9 @@ none_made names net (step ∷ steps) side may none =
     none_made names (after net step) steps side may.1 (stepped names net step.side step.move side may.0 none)
 
 -- the sockets of a host, as moves see them
-place_seen : (inner : Option (Item Sockets.Socket)) → OfItem HasNoUdp inner → IsNoUdp (seen_place (record { inner = inner }))
-place_seen None none = tt
-place_seen (Some item) none = of item.socket none where
+slot_seen : (inner : Option (Item Sockets.Socket)) → OfItem HasNoUdp inner → IsNoUdp (seen_slot (record { inner = inner }))
+slot_seen None none = tt
+slot_seen (Some item) none = of item.socket none where
   of : (s : Sockets.Socket) → HasNoUdp s → IsNoUdp (seen_in (Some s))
   of (Is.Raw v) none = tt
   of (Is.Icmp v) none = tt
@@ -134,9 +134,9 @@ place_seen (Some item) none = of item.socket none where
   of (Is.Dhcpv4 v) none = absurd none
   of (Is.Dns v) none = absurd none
 
-pub none_seen : (places : List (SocketStorage Sockets.Socket)) → OfEach HasNoUdp places → NoneIs (sockets_of places)
+pub none_seen : (slots : List (SocketStorage Sockets.Socket)) → OfEach HasNoUdp slots → NoneIs (sockets_of slots)
 none_seen [] none = tt
-none_seen (place ∷ places) none = (place_seen place.inner none.0, none_seen places none.1)
+none_seen (slot ∷ slots) none = (slot_seen slot.inner none.0, none_seen slots none.1)
 
 -- WHAT WAS REBUILT
 
@@ -202,14 +202,14 @@ module _ (q : Party) where
 
 -- WHERE EVENTS LED
 
-first_none : (starts : Starts) (side : Side) → OfEach HasNoUdp (start starts side).places → MakesNone (party (first_net starts) side)
-first_none starts A none = record { sockets = none_seen starts.a.places none; datagrams = refl }
-first_none starts B none = record { sockets = none_seen starts.b.places none; datagrams = refl }
+first_none : (starts : Starts) (side : Side) → OfEach HasNoUdp (start starts side).slots → MakesNone (party (first_net starts) side)
+first_none starts A none = record { sockets = none_seen starts.a.slots none; datagrams = refl }
+first_none starts B none = record { sockets = none_seen starts.b.slots none; datagrams = refl }
 
-pub made_by_hosts : (w : WorldValue) (side : Side) (key : FragKey) (bytes : List ℕ) → Rebuilds (station w.hosts side) key bytes →
-    protocol_in key bytes ≡ Protocol.Udp → OfEach HasNoUdp (start w.starts (other side)).places → RebuiltWasMade w → ⊥
+pub made_by_hosts : (w : WorldValue) (side : Side) (key : FragKey) (bytes : List ℕ) → Rebuilds (node w.hosts side) key bytes →
+    protocol_in key bytes ≡ Protocol.Udp → OfEach HasNoUdp (start w.starts (other side)).slots → ReassembledWasMade w → ⊥
 made_by_hosts w side key bytes r udp none made =
     let ended : MakesNone (party (run (first_net w.starts) made.steps) (other side)) =
     none_made (names_tcp_or_udp Medium.Ip) (first_net w.starts) made.steps (other side) made.may (first_none w.starts (other side) none) in
     let there : MakesNone (party made.net (other side)) = subst (λ (net : Net). MakesNone (party net (other side))) made.ends ended in
-    made_needs_socket (party made.net (other side)) key bytes (made.rebuilt side key bytes r) udp there.datagrams
+    made_needs_socket (party made.net (other side)) key bytes (made.reassembled side key bytes r) udp there.datagrams

@@ -1,8 +1,8 @@
 -- The protocol that a header names, and the same as a reader tells it.
 use Rattle.std.proofs.Common.{◌≡◌, ◌⊎◌, inl, inr, sym, ap, ◌∙◌}
-use Rattle.ip_address.specs.Protocol.{protocol_of, protocol_number}
-use Rattle.interface_ingress.specs.IpProtocol.{IpProtocol}
-use Rattle.interface_ingress.specs.IpProtocol.TheVariants as Protocol
+use Rattle.wire_address.specs.Protocol.{protocol_of, protocol_number}
+use Rattle.iface_ingress.specs.IpProtocol.{IpProtocol}
+use Rattle.iface_ingress.specs.IpProtocol.TheVariants as Protocol
 
 -- by its number
 abbrev pub told : IpProtocol → IpProtocol

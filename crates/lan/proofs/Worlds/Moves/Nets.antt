@@ -6,19 +6,19 @@ use Rattle.lan.specs.Worlds.AtLink.Side.TheVariants.{A, B}
 use Rattle.lan.specs.Worlds.AtLink.Kinds.{other}
 use Rattle.lan.specs.Worlds.AtLink.Moves.{Move, party_after, history_after, May, Step, after, IsRun}
 use Rattle.lan.specs.Worlds.AtLink.Parties.{Socket, Datagram, Party, Net, party}
-use Rattle.tcp_tie.specs.Host.{Made}
+use Rattle.tcp_refinement.specs.Host.{Made}
 use Rattle.lan.proofs.Worlds.AtLink.Extended.{run-append, IsRun-append}
-use Rattle.interface_ingress.specs.HardwareAddress.{HardwareAddress}
-use Rattle.interface_ingress.specs.IpAddress.{IpAddress}
-use Rattle.interface_tables.specs.Inner.{InnerValue}
+use Rattle.iface_ingress.specs.HardwareAddress.{HardwareAddress}
+use Rattle.iface_ingress.specs.IpAddress.{IpAddress}
+use Rattle.iface_tables.specs.Inner.{InnerValue}
 use Rattle.lan.proofs.Worlds.Moves.Following.{Reaches}
 use Rattle.lan.proofs.Worlds.Moves.Frames.{Frames, all_moved_on, answered-append, left-append, no_frames}
 use Rattle.lan.proofs.Worlds.Moves.Held.{AreHeld, IsHeld, held-append}
 use Rattle.lan.proofs.Worlds.Moves.Leave.{IsLet, let-append}
 use Rattle.lan.specs.Worlds.Moves.Made.{Grows}
 use Rattle.lan.specs.Worlds.Moves.Answered.{HasAnswered}
-use Rattle.lan.specs.Worlds.Moves.Went.{HasLeft}
-use Rattle.lan.proofs.Worlds.Moves.Places.{get_more}
+use Rattle.lan.specs.Worlds.Moves.WasSent.{HasLeft}
+use Rattle.lan.proofs.Worlds.Moves.Slots.{get_more}
 
 abbrev pub step_of : Side → Move → Step
 step_of side move = record { side = side; move = move }
@@ -38,7 +38,7 @@ either_side A Q this that B = that
 either_side B Q this that A = that
 either_side B Q this that B = this
 
--- what holds of the party behind a move
+-- what holds of the party after a move
 pub there : (net : Net) (side : Side) (move : Move) (Q : Party → Type 0) → Q (party_after (party net side) move) →
     Q (party (after net (step_of side move)) side)
 there net side move Q holds = subst Q (sym (mine net side move)) holds
@@ -77,17 +77,17 @@ module _ (names : List ℕ → Bool) (side : Side) (C G : Type 0) (N : IpAddress
     history = refl;
     grows = grows_not (party net side);
     held = λ c. tt;
-    went = λ c g. tt;
+    was_sent = λ c g. tt;
     took = tt;
     left = tt;
     answered = λ g. tt;
   }
 
 module _ (names : List ℕ → Bool) (side : Side) (C G : Type 0) (N : IpAddress → HardwareAddress → Type 0) (F : Frames) (i0 : InnerValue) (t : ℤ) where
-  abbrev pub goes_on : (net now : Net) (move : Move) → Reaches names side C G N F i0 t net now → May names now side move → history_after now.history move ≡ now.history
+  abbrev pub proceeds : (net now : Net) (move : Move) → Reaches names side C G N F i0 t net now → May names now side move → history_after now.history move ≡ now.history
       → Grows (party now side) (party_after (party now side) move) → (C → IsHeld i0 t now side move) → (C → G → IsLet i0 t N move) →
       HasLeft i0 t C N F.gone move → (G → HasAnswered i0 N F.gone move) → Reaches names side C G N F i0 t net (after now (step_of side move))
-  goes_on net now move r may same grows held goes left answered = record {
+  proceeds net now move r may same grows held goes left answered = record {
     steps = r.steps ++ step_of side move ∷ [];
     may = IsRun-append names net r.steps (step_of side move ∷ []) r.may (subst (λ n. IsRun names n (step_of side move ∷ [])) (sym r.ends) (may, tt));
     ends = run-append net r.steps (step_of side move ∷ []) ∙ ap (λ n. after n (step_of side move)) r.ends;
@@ -97,7 +97,7 @@ module _ (names : List ℕ → Bool) (side : Side) (C G : Type 0) (N : IpAddress
         (there now side move (Grows (party now side)) grows);
     held = λ c. held-append i0 t side net r.steps (step_of side move ∷ []) (r.held c)
         (subst (λ n. AreHeld i0 t side n (step_of side move ∷ [])) (sym r.ends) ((refl, held c), tt));
-    went = λ c g. let-append i0 t N r.steps (step_of side move ∷ []) (r.went c g) (goes c g, tt);
+    was_sent = λ c g. let-append i0 t N r.steps (step_of side move ∷ []) (r.was_sent c g) (goes c g, tt);
     took = all_moved_on side i0 t net F.taken r.steps (step_of side move ∷ []) r.took;
     left = left-append i0 t C N F.gone r.steps (step_of side move ∷ []) r.left (left, tt);
     answered = λ g. answered-append i0 N F.gone r.steps (step_of side move ∷ []) (r.answered g) (answered g, tt);
@@ -122,7 +122,7 @@ module _ (names : List ℕ → Bool) (side : Side) (C G : Type 0) (N : IpAddress
       Moved names side C G N F i0 t net now sockets
   moves_by move sockets may same sockets_are grows held goes left answered = record {
     next = after now (step_of side move);
-    reaches = goes_on names side C G N F i0 t net now move r may same grows held goes left answered;
+    reaches = proceeds names side C G N F i0 t net now move r may same grows held goes left answered;
     sockets_are = ap (λ (p : Party). p.sockets) (mine now side move) ∙ sockets_are;
     grows = there now side move (Grows (party now side)) grows;
   }

@@ -4,24 +4,24 @@ use Rattle.std.specs.Prelude.{[], ◌∷◌, ◌++◌, slice_get}
 use Rattle.interface.specs.Ip.{destination_of}
 use Rattle.interface.specs.UdpRepr.{UdpRepr}
 use Rattle.sockets.specs.Context.{ContextValue}
-use Rattle.interface_ingress.specs.IpAddress.{IpAddress}
-use Rattle.interface_ingress.specs.IpAddress.TheVariants as Address
+use Rattle.iface_ingress.specs.IpAddress.{IpAddress}
+use Rattle.iface_ingress.specs.IpAddress.TheVariants as Address
 use Rattle.sockets.specs.Packet.{PacketValue, PayloadValue, ControlV4, ControlV6, Bytes, Datagram, Segment, packet_of}
 use Rattle.sockets.specs.Offer as Answer
-use Rattle.sockets.specs.Icmp.{IsMessage, IsPacketFrom}
-use Rattle.sockets.specs.Offers.{IsFound, IsOnly, OffersFirst}
-use Rattle.sockets.specs.SocketValue.{SocketValue}
-use Rattle.sockets.specs.Udp as Udps
-use Rattle.sockets.specs.declared.udp.UdpMetadata.{UdpMetadata}
-use Rattle.tcp_tie.specs.Host.{Made, made_of, and_offer}
-use Rattle.tcp_model.specs.OpenOffer.{OpenOffer}
-use Rattle.tcp_model.specs.Offers.{offer_of, payload_of, packet_with, offered_packet}
-use Rattle.tcp_model.specs.Value.{TcpValue}
+use Rattle.socket_datagram.specs.Icmp.{IsMessage, IsPacketFrom}
+use Rattle.socket_datagram.specs.Offers.{IsFound, IsOnly, OffersFirst}
+use Rattle.socket_datagram.specs.SocketValue.{SocketValue}
+use Rattle.socket_datagram.specs.Udp as Udps
+use Rattle.socket_datagram.specs.declared.udp.UdpMetadata.{UdpMetadata}
+use Rattle.tcp_refinement.specs.Host.{Made, made_of, and_offer}
+use Rattle.tcp_block.specs.OpenOffer.{OpenOffer}
+use Rattle.tcp_block.specs.Offers.{offer_of, payload_of, packet_with, offered_packet}
+use Rattle.tcp_block.specs.Value.{TcpValue}
 use Rattle.lan.specs.Worlds.AtLink.Parties as Parties
 use Rattle.lan.specs.Worlds.AtLink.Parties.{Party, datagrams_in}
-use Rattle.interface_ingress.specs.Sent.{normal_payload}
+use Rattle.iface_ingress.specs.Sent.{normal_payload}
 use Rattle.lan.specs.Worlds.Moves.Made.{MadeBy, datagram_of}
-use Rattle.lan.proofs.Worlds.Moves.Places.{get_last}
+use Rattle.lan.proofs.Worlds.Moves.Slots.{get_last}
 
 pub if_some : {X : Type 0} (o : Option X) (Q : X → Type 0) → ((x : X) → o ≡ Some x → Q x) → IfSome o Q
 if_some None Q f = tt

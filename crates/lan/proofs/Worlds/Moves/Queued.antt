@@ -1,11 +1,11 @@
 -- What an offer and its settling leave of a queue: all, or all but the first.
 use Rattle.std.proofs.Common.{◌≡◌, inl, inr, ℕ, Bool, true, false, List, Option, Some, None, is_some, refl, ap, ◌∙◌}
 use Rattle.std.specs.Prelude.{◌&&◌}
-use Rattle.net_containers.specs.Packets.{contents}
+use Rattle.base_buffer.specs.Packets.{contents}
 use Rattle.sockets.specs.Packet.{PacketValue}
 use Rattle.sockets.specs.Offer as Answer
-use Rattle.sockets.specs.Offers.{OffersFirst, left_with}
-use Rattle.sockets.specs.SocketValue.{SocketValue, left_by, settled}
+use Rattle.socket_datagram.specs.Offers.{OffersFirst, left_with}
+use Rattle.socket_datagram.specs.SocketValue.{SocketValue, left_by, settled}
 use Rattle.lan.proofs.Worlds.AtLink.Queues.{IsLeft, contents_unpadded, contents_without_first}
 
 module _ {H S : Type 0} where

@@ -2,45 +2,45 @@
 use Rattle.std.proofs.Common.{◌≡◌, ℕ, Bool, true, false, if◌then◌else◌, List, ◌++◌, length, Option, Some, None, refl, sym, ap, ◌∙◌, subst}
 use Rattle.std.specs.Prelude.{◌+◌, ◌/◌, ◌&&◌, ◌==◌, slice_index, is_ok}
 use Rattle.std.specs.List.{AllByRecursion}
-use Rattle.interface_ingress.specs.Icmpv4Header.{Icmpv4Header}
-use Rattle.interface_ingress.specs.Icmpv6.{MessageValue}
+use Rattle.iface_ingress.specs.Icmpv4Header.{Icmpv4Header}
+use Rattle.iface_ingress.specs.Icmpv6.{MessageValue}
 use Rattle.interface.specs.Ip.{header_len_in, normal, written, IsIp}
-use Rattle.ip_address.proofs.Numbers.{protocol_number-protocol_of}
-use Rattle.ip_address.specs.Protocol.{protocol_number, protocol_of}
-use Rattle.interface_ingress.specs.IpProtocol.{IpProtocol}
+use Rattle.wire_address.proofs.Numbers.{protocol_number-protocol_of}
+use Rattle.wire_address.specs.Protocol.{protocol_number, protocol_of}
+use Rattle.iface_ingress.specs.IpProtocol.{IpProtocol}
 use Rattle.interface.specs.IpRepr.{IpRepr}
 use Rattle.interface.specs.IpRepr.TheVariants as Ip
 use Rattle.interface.specs.Ipv4Repr.{Ipv4Repr}
 use Rattle.interface.specs.Ipv6Repr.{Ipv6Repr}
-use Rattle.ip_tcp.specs.declared.header.TcpHeader.{TcpHeader}
+use Rattle.wire_tcp.specs.declared.header.TcpHeader.{TcpHeader}
 use Rattle.interface.specs.UdpRepr.{UdpRepr}
 use Rattle.interface.specs.Delivered.{NamesNoPorts}
-use Rattle.lan_base.specs.Medium.TheVariants as Medium
-use Rattle.net_containers.specs.Packets.{contents, first}
+use Rattle.sim_link.specs.Medium.TheVariants as Medium
+use Rattle.base_buffer.specs.Packets.{contents, first}
 use Rattle.sockets.specs.Context.{ContextValue}
 use Rattle.sockets.specs.Packet.{PacketValue, PayloadValue, payload_written}
 use Rattle.interface.specs.Ipv6.{payload_of}
-use Rattle.interface_ingress.specs.Headers.{go_through}
+use Rattle.iface_ingress.specs.Headers.{go_through}
 use Rattle.lan.specs.Worlds.Link.Made.{sealed, CarriesNone, bytes_of}
 use Rattle.sockets.specs.Offer as Answer
-use Rattle.sockets.specs.Offers.{IsFound, IsOnly, OffersFirst}
-use Rattle.sockets.specs.Raw as Raws
-use Rattle.sockets.specs.Raw.{RawValue, carried_by}
-use Rattle.sockets.specs.SocketValue as Datagrams
-use Rattle.sockets.specs.SocketValue.{arrived}
+use Rattle.socket_datagram.specs.Offers.{IsFound, IsOnly, OffersFirst}
+use Rattle.socket_datagram.specs.Raw as Raws
+use Rattle.socket_datagram.specs.Raw.{RawValue, carried_by}
+use Rattle.socket_datagram.specs.SocketValue as Datagrams
+use Rattle.socket_datagram.specs.SocketValue.{arrived}
 use Rattle.sockets.specs.Socket.{Offers, settled}
 use Rattle.sockets.specs.declared.socket.Socket.{Socket}
 use Rattle.sockets.specs.declared.socket.Socket.TheVariants as Is
-use Rattle.interface_ingress.specs.Datagrams.{TakesDatagram}
-use Rattle.interface_ingress.specs.Delivered.{with_packet, with_icmpv4, with_icmpv6, with_segment}
-use Rattle.lan_base.specs.Carried.{IsNeitherBehind, names_tcp_or_udp, is_tcp_or_udp, has_ports_behind}
-use Rattle.lan_base.proofs.Named.{neither_first, neither_second, behind_named}
+use Rattle.iface_ingress.specs.Datagrams.{TakesDatagram}
+use Rattle.iface_ingress.specs.Delivered.{with_packet, with_icmpv4, with_icmpv6, with_segment}
+use Rattle.sim_link.specs.PacketInFrame.{IsNeitherFollowing, names_tcp_or_udp, is_tcp_or_udp, has_ports_following}
+use Rattle.sim_link.proofs.Named.{neither_first, neither_second, following_named}
 use Rattle.lan.specs.Worlds.AtLink.Call as Call
 use Rattle.lan.specs.Worlds.AtLink.Call.{SocketCall}
 use Rattle.lan.specs.Worlds.AtLink.Calls.{tcp_does, udp_does}
 use Rattle.lan.proofs.Worlds.AtLink.Queues.{each_left, each_appended, each_first}
 use Rattle.lan.specs.Worlds.AtLink.Does.{does, icmp_does, raw_does}
-use Rattle.lan.specs.Worlds.AtLink.Fresh.{IsUnused}
+use Rattle.lan.specs.Worlds.AtLink.Initial.{IsUnused}
 use Rattle.lan.specs.Worlds.Moves.Fit.{AreNamed}
 use Rattle.lan.specs.Worlds.Moves.Raws.{QueuesForeign}
 use Rattle.lan.proofs.Worlds.Moves.EachRun.{IsOfRuns, SendsForeign, Keeps, kept_as, all_as}
@@ -165,13 +165,13 @@ foreign_header : (h : IpRepr) (bytes : List ℕ) → names_tcp_or_udp Medium.Ip 
     CarriesNone (normal h) (carried_by h bytes)
 foreign_header (Ip.Ipv4 v) bytes none is = (
   subst NamesNoPorts (sym (read_so v.next_header (slice_index bytes 9) is.protocol))
-      (neither_first (slice_index bytes 0 / 16) 4 (slice_index bytes 9) ((slice_index bytes 0 / 16 == 6) && has_ports_behind bytes) v.next_header
+      (neither_first (slice_index bytes 0 / 16) 4 (slice_index bytes 9) ((slice_index bytes 0 / 16 == 6) && has_ports_following bytes) v.next_header
       is.version none is.protocol),
   tt,
 )
 foreign_header (Ip.Ipv6 v) bytes none is =
-    subst (λ (q : IpProtocol). IsNeitherBehind (go_through q (payload_of bytes))) (sym (read_so v.next_header (slice_index bytes 6) is.protocol))
-    (behind_named bytes v.next_header is.protocol
+    subst (λ (q : IpProtocol). IsNeitherFollowing (go_through q (payload_of bytes))) (sym (read_so v.next_header (slice_index bytes 6) is.protocol))
+    (following_named bytes v.next_header is.protocol
     (neither_second (slice_index bytes 0 / 16) 6 ((slice_index bytes 0 / 16 == 4) && is_tcp_or_udp (slice_index bytes 9)) _ is.version none))
 
 foreign_first : (o : Option (Unit {0} × List ℕ)) (v v' : RawValue) (answer : Answer.Offer) (p : PacketValue) → first v.queued ≡ o → QueuesForeign (Is.Raw v) →

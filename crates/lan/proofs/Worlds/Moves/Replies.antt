@@ -1,40 +1,40 @@
 -- What a host answers but for segments are control messages.
 use Rattle.std.specs.Prelude.{◌&&◌, ◌||◌}
 use Rattle.std.proofs.Common.{◌≡◌, refl, [], ℕ, Bool, true, false, if◌then◌else◌, List, Option, Some, None, IfSome}
-use Rattle.interface_ingress.specs.Icmpv4Header.{Icmpv4Header}
-use Rattle.interface_ingress.specs.Icmpv4Header.TheVariants as V4
-use Rattle.interface_ingress.specs.Icmpv6 as Icmpv6
-use Rattle.interface_ingress.specs.Icmpv6.{MessageValue}
+use Rattle.iface_ingress.specs.Icmpv4Header.{Icmpv4Header}
+use Rattle.iface_ingress.specs.Icmpv4Header.TheVariants as V4
+use Rattle.iface_ingress.specs.Icmpv6 as Icmpv6
+use Rattle.iface_ingress.specs.Icmpv6.{MessageValue}
 use Rattle.lan.specs.Worlds.AtLink.Icmpv6DstUnreachable.TheVariants as V6Reason
 use Rattle.lan.specs.Worlds.AtLink.Ndisc.{NeighborMessage, Solicitation, Advertisement}
-use Rattle.interface_ingress.specs.HardwareAddress.{HardwareAddress}
-use Rattle.interface_ingress.specs.HardwareAddress.TheVariants as Hardware
-use Rattle.interface_ingress.specs.EthernetAddress.{EthernetAddress}
-use Rattle.interface_ingress.specs.IpProtocol.TheVariants as Protocol
+use Rattle.iface_ingress.specs.HardwareAddress.{HardwareAddress}
+use Rattle.iface_ingress.specs.HardwareAddress.TheVariants as Hardware
+use Rattle.iface_ingress.specs.EthernetAddress.{EthernetAddress}
+use Rattle.iface_ingress.specs.IpProtocol.TheVariants as Protocol
 use Rattle.interface.specs.IpRepr.{IpRepr}
 use Rattle.interface.specs.IpRepr.TheVariants as Ip
-use Rattle.interface_ingress.specs.Ipv4Address.{Ipv4Address}
+use Rattle.iface_ingress.specs.Ipv4Address.{Ipv4Address}
 use Rattle.interface.specs.Ipv4Repr.{Ipv4Repr}
-use Rattle.interface_ingress.specs.Ipv6Address.{Ipv6Address}
+use Rattle.iface_ingress.specs.Ipv6Address.{Ipv6Address}
 use Rattle.interface.specs.Ipv6Repr.{Ipv6Repr}
-use Rattle.interface_ingress.specs.ArpRepr.{ArpRepr}
+use Rattle.iface_ingress.specs.ArpRepr.{ArpRepr}
 use Rattle.sockets.specs.Packet.{PacketValue, ControlV4, ControlV6, packet_of}
-use Rattle.interface_tables.specs.Inner.{InnerValue}
-use Rattle.interface_ingress.specs.Arrives.{told, answered}
-use Rattle.interface_ingress.specs.Handed.{control_v4_reply, control_v6_reply, message_reply, is_known_v4, is_unknown, unread_v6, unread_reply}
-use Rattle.interface_ingress.specs.Reassembled.{is_control_v6}
-use Rattle.interface_ingress.specs.Headers.{go_through, carries_error}
-use Rattle.interface_ingress.specs.Behind.{Behind}
-use Rattle.interface_ingress.specs.Behind.TheVariants as End
-use Rattle.interface_ingress.specs.Heard.{neighbor_heard, Heard, heard, heard_on, counts, tells, learned, advertised, answer, advertisement, is_asked}
-use Rattle.interface_ingress.specs.Replies.{sent_v4, echo_v4, port_unreachable, protocol_unreachable, parameter_problem}
-use Rattle.interface_ingress.specs.Replies.{is_told, reason_of, source_of_reply, reply_v6, is_between_hosts, quoted_v4}
-use Rattle.interface_ingress.specs.Replies.{quoted_v6}
+use Rattle.iface_tables.specs.Inner.{InnerValue}
+use Rattle.iface_ingress.specs.Arrives.{told, answered}
+use Rattle.iface_ingress.specs.Processed.{control_v4_reply, control_v6_reply, message_reply, is_known_v4, is_unknown, unread_v6, unread_reply}
+use Rattle.iface_ingress.specs.Reassembled.{is_control_v6}
+use Rattle.iface_ingress.specs.Headers.{go_through, carries_error}
+use Rattle.iface_ingress.specs.Following.{Following}
+use Rattle.iface_ingress.specs.Following.TheVariants as End
+use Rattle.iface_ingress.specs.Ndisc.{neighbor_learned, Heard, heard, heard_on, asks_host, tells, learned, advertised, answer, advertisement, is_asked}
+use Rattle.iface_ingress.specs.Replies.{sent_v4, echo_v4, port_unreachable, protocol_unreachable, parameter_problem}
+use Rattle.iface_ingress.specs.Replies.{is_told, reason_of, source_of_reply, reply_v6, is_between_hosts, quoted_v4}
+use Rattle.iface_ingress.specs.Replies.{quoted_v6}
 use Rattle.lan.specs.Worlds.AtLink.Parties.{Party}
 use Rattle.lan.specs.Worlds.Moves.Made.{IsMade}
 use Rattle.lan.proofs.Worlds.Moves.MadeReplies.{IsMadeReply}
 
--- what holds of each control message behind a header that names it
+-- what holds of each control message after a header that names it
 module _ (Q : PacketValue → Type 0)
     (four : (header : Ipv4Repr) (message : Icmpv4Header) (bytes : List ℕ) → header.next_header ≡ Protocol.Icmp →
     Q (packet_of (Ip.Ipv4 header) (ControlV4 message bytes)))
@@ -78,14 +78,14 @@ module _ (Q : PacketValue → Type 0)
   heard_free : (hardware : HardwareAddress) (i : InnerValue) (header : Ipv6Repr) (message : NeighborMessage) → IsFree (heard_on hardware i header message)
   heard_free Hardware.Ip i header message = tt
   heard_free (Hardware.Ethernet own) i header (Solicitation target link) =
-      heard_if (counts header target link) (heard (learned i header.src_addr link) (answer own i header target)) i
+      heard_if (asks_host i header target link) (heard (learned i header.src_addr link) (answer own i header target)) i
       (answer_free (is_asked i header target) own target header.src_addr)
   heard_free (Hardware.Ethernet own) i header (Advertisement flags target link) =
       heard_if (tells header flags target link) (heard (advertised i flags target link) None) i tt
 
   message_free : (i : InnerValue) (header : Ipv6Repr) (message : MessageValue) (bytes : List ℕ) → Free (message_reply i header message bytes)
   message_free i header (Icmpv6.Ndisc message) bytes =
-      kept_if (is_control_v6 header.next_header) (neighbor_heard i header message).reply (heard_free i.hardware i header message)
+      kept_if (is_control_v6 header.next_header) (neighbor_learned i header message).reply (heard_free i.hardware i header message)
   message_free i header (Icmpv6.EchoRequest ident seq_no) bytes = six _ _ bytes refl
   message_free i header message bytes = tt
 
@@ -106,11 +106,11 @@ module _ (Q : PacketValue → Type 0)
   protocol_free : (i : InnerValue) (header : Ipv4Repr) (payload : List ℕ) → Free (protocol_unreachable i header payload)
   protocol_free i header payload = sent_free _ header.src_addr _ (quoted_v4 payload)
 
-  headers_free : (i : InnerValue) (header : Ipv6Repr) (payload : List ℕ) (taken : Bool) (behind : Behind) → Free (unread_v6 i header payload taken behind)
+  headers_free : (i : InnerValue) (header : Ipv6Repr) (payload : List ℕ) (taken : Bool) (following : Following) → Free (unread_v6 i header payload taken following)
   headers_free i header payload taken (End.Problem problem pointer) =
       free_if ((is_unknown problem && taken) || carries_error header.next_header payload) (parameter_problem i header payload problem pointer)
       (error_free (is_told problem header) i header (Icmpv6.ParamProblem (reason_of problem) pointer header) (quoted_v6 payload))
-  headers_free i header payload taken behind = tt
+  headers_free i header payload taken following = tt
 
   pub port_error_free : (quiet : Bool) (i : InnerValue) (ip : IpRepr) (payload : List ℕ) → Free (if quiet then None else port_unreachable i ip payload)
   port_error_free quiet i ip payload = free_if quiet (port_unreachable i ip payload) (port_free i ip payload)

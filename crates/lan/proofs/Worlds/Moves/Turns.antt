@@ -3,47 +3,47 @@ use Rattle.std.proofs.Common.{◌≡◌, ◌⊎◌, is_some, ℕ, ℤ, Bool, tru
 use Rattle.std.proofs.Common.{append-nil, ◌+◌}
 use Rattle.std.specs.Prelude.{slice_set, slice_index_or}
 use Rattle.interface.specs.Ip.{source_of, destination_of}
-use Rattle.interface_ingress.specs.HardwareAddress.{HardwareAddress}
-use Rattle.interface_ingress.specs.IpAddress.{IpAddress}
-use Rattle.interface_ingress.specs.IpAddress.TheVariants as Address
-use Rattle.interface_ingress.specs.Sent.{normal_payload}
-use Rattle.lan_base.specs.Device.{Move}
+use Rattle.iface_ingress.specs.HardwareAddress.{HardwareAddress}
+use Rattle.iface_ingress.specs.IpAddress.{IpAddress}
+use Rattle.iface_ingress.specs.IpAddress.TheVariants as Address
+use Rattle.iface_ingress.specs.Sent.{normal_payload}
+use Rattle.sim_link.specs.Device.{Move}
 use Rattle.sockets.specs.Context.{ContextValue}
 use Rattle.sockets.specs.Packet.{PacketValue, PayloadValue}
 use Rattle.sockets.specs.WellFormed.{IsWellFormed}
 use Rattle.sockets.specs.Offer as Answer
 use Rattle.sockets.specs.Offer.TheVariants as Offer
-use Rattle.sockets.specs.Offers.{HasPacket}
-use Rattle.net_containers.specs.Packets.{first}
-use Rattle.sockets.specs.Header.{hops}
-use Rattle.sockets.specs.Icmp as Icmps
-use Rattle.sockets.specs.Icmp.{IcmpValue}
-use Rattle.sockets.specs.Raw as Raws
-use Rattle.sockets.specs.Raw.{RawValue}
-use Rattle.sockets.specs.Udp as Udps
-use Rattle.sockets.specs.Udp.{UdpValue}
-use Rattle.tcp_tie.specs.Host.{made_of, and_offer}
-use Rattle.tcp_model.specs.OpenOffer.{OpenOffer}
-use Rattle.tcp_model.specs.Offers.{offer_of, payload_of, packet_with, offered_packet}
-use Rattle.tcp_model.specs.Value.{TcpValue}
+use Rattle.socket_datagram.specs.Offers.{HasPacket}
+use Rattle.base_buffer.specs.Packets.{first}
+use Rattle.socket_datagram.specs.Header.{hop_limit_or_default}
+use Rattle.socket_datagram.specs.Icmp as Icmps
+use Rattle.socket_datagram.specs.Icmp.{IcmpValue}
+use Rattle.socket_datagram.specs.Raw as Raws
+use Rattle.socket_datagram.specs.Raw.{RawValue}
+use Rattle.socket_datagram.specs.Udp as Udps
+use Rattle.socket_datagram.specs.Udp.{UdpValue}
+use Rattle.tcp_refinement.specs.Host.{made_of, and_offer}
+use Rattle.tcp_block.specs.OpenOffer.{OpenOffer}
+use Rattle.tcp_block.specs.Offers.{offer_of, payload_of, packet_with, offered_packet}
+use Rattle.tcp_block.specs.Value.{TcpValue}
 use Rattle.sockets.specs.DhcpValue as Dhcps
 use Rattle.sockets.specs.DnsValue as Dnss
 use Rattle.sockets.specs.Socket.{Offers, offered_by, settled}
 use Rattle.sockets.specs.declared.socket.Socket.{Socket}
 use Rattle.sockets.specs.declared.socket.Socket.TheVariants as Is
 use Rattle.sockets.proofs.AnyKind.{has_packet}
-use Rattle.interface_egress.specs.Meta.{unmarked}
-use Rattle.interface_egress.specs.Plan.{plan_of}
-use Rattle.interface_egress.specs.declared.socket_meta.Meta.{Meta}
-use Rattle.interface_egress.specs.declared.socket_set.Item.{Item}
-use Rattle.interface_egress.specs.declared.socket_set.SocketStorage.{SocketStorage}
-use Rattle.interface_egress.specs.declared.way_out.Sent.{Sent}
+use Rattle.iface_egress.specs.Meta.{unmarked}
+use Rattle.iface_egress.specs.Plan.{plan_of}
+use Rattle.iface_egress.specs.declared.socket_meta.Meta.{Meta}
+use Rattle.iface_egress.specs.declared.socket_set.Item.{Item}
+use Rattle.iface_egress.specs.declared.socket_set.SocketStorage.{SocketStorage}
+use Rattle.iface_egress.specs.declared.egress_path.Sent.{Sent}
 use Rattle.interface.specs.Host.{HostValue, Sender}
 use Rattle.interface.specs.State.{State, state}
 use Rattle.interface.specs.Remote.{context_for, remote_of}
-use Rattle.interface.specs.Turn.{PlaceTurns, ItemTurns, TurnsIf, Answers, SendsBy, Leaves, is_waiting, let_through, is_done, marked, plan_at, waits_until}
-use Rattle.interface.specs.Turn.{SendsAs, sourced}
-use Rattle.interface.specs.declared.turn.Turned.{Turned}
+use Rattle.interface.specs.Serve.{ServesSlot, ItemTurns, TurnsIf, Answers, SendsBy, Leaves, is_waiting, let_through, is_done, marked, plan_at, waits_until}
+use Rattle.interface.specs.Serve.{SendsAs, sourced}
+use Rattle.interface.specs.declared.serve.Served.{Served}
 use Rattle.interface.specs.State.{sending_as}
 use Rattle.lan.specs.Worlds.AtLink.Side.{Side}
 use Rattle.lan.specs.Worlds.AtLink.Moves as Moves
@@ -51,30 +51,30 @@ use Rattle.lan.specs.Worlds.AtLink.Moves.{LeavesFrom}
 use Rattle.lan.specs.Worlds.AtLink.Parties as Parties
 use Rattle.lan.specs.Worlds.AtLink.Parties.{Party, Net, party, datagrams_of}
 use Rattle.lan.specs.Worlds.AtLink.Safe.{seen}
-use Rattle.lan.specs.Worlds.Moves.Follows.{seen_place, sockets_of}
-use Rattle.interface.proofs.SameHost.{place_same}
+use Rattle.lan.specs.Worlds.Moves.Follows.{seen_slot, sockets_of}
+use Rattle.interface.proofs.SameHost.{slot_same}
 use Rattle.interface.specs.SameHost.{IsSameHost}
-use Rattle.interface_tables.specs.Inner.{InnerValue}
+use Rattle.iface_tables.specs.Inner.{InnerValue}
 use Rattle.lan.proofs.Worlds.Moves.Devices.{leaves as device_leaves}
 use Rattle.lan.proofs.Worlds.Moves.Following.{Reaches, Follows, narrowed, sent_more}
 use Rattle.lan.proofs.Worlds.Moves.Frames.{Frames, IsTaking, and_gone}
-use Rattle.lan.proofs.Worlds.Moves.Hops.{Hops, hop_now, hops_out, knew_out}
+use Rattle.lan.proofs.Worlds.Moves.HopLimit.{HopLimit, hop_now, hop_limit_out, knew_out}
 use Rattle.lan.proofs.Worlds.Moves.Leaving.{Left, left_by}
 use Rattle.lan.proofs.Worlds.Moves.Held.{IsAsAt, IsShownAt, Stays, seen_at, shows_towards, source_by, sources, stays_before}
 use Rattle.lan.proofs.Worlds.Moves.Leave.{IsGiving, IsHindered, IsHindrance, leaves_so, leaving_by}
 use Rattle.lan.specs.Worlds.Moves.Fit.{IsFit}
-use Rattle.lan.specs.Worlds.Moves.Hops.{KnowsHop}
+use Rattle.lan.specs.Worlds.Moves.HopLimit.{KnowsHop}
 use Rattle.lan.specs.Worlds.Moves.Link.{IsLink}
 use Rattle.lan.specs.Worlds.Moves.Made.{Grows, MadeBy, IsMade, IsWide}
 use Rattle.lan.specs.Worlds.Moves.Raws.{OfItem}
-use Rattle.lan.specs.Worlds.Moves.Went.{LeftFrom, WentBy}
+use Rattle.lan.specs.Worlds.Moves.WasSent.{LeftFrom, WasSentBy}
 use Rattle.lan.proofs.Worlds.Moves.Nets.{Moved, stays, moves_by, there, grows_to, grows_not, grows_by}
 use Rattle.lan.proofs.Worlds.Moves.Sourced.{sourced_wide, leaves_from, sourced_made}
 use Rattle.lan.proofs.Worlds.Moves.Offering.{IsMadeFrom, if_some, some_so, takes_one, message_made, udp_made, tcp_made}
-use Rattle.lan.proofs.Worlds.Moves.Places.{Places, get-middle, set-middle, same-middle}
+use Rattle.lan.proofs.Worlds.Moves.Slots.{Slots, get-middle, set-middle, same-middle}
 use Rattle.lan.proofs.Worlds.Moves.Wide.{offered_wide}
 
--- a place with this mark and this socket
+-- a slot with this mark and this socket
 abbrev pub holding : Meta → Socket → SocketStorage Socket
 holding m s = record { inner = Some (record { meta = m; socket = s }) }
 
@@ -90,8 +90,8 @@ pub record Gives (names : List ℕ →
   pub moved : Moved names side C G N F i0 t net now sockets
   pub made : sent ≡ true → IfSome packet (IsMadeFrom (party moved.next side) from)
 
-module _ (names : List ℕ → Bool) (side : Side) (C G : Type 0) (N : IpAddress → HardwareAddress → Type 0) (F : Frames) (i0 : InnerValue) (t : ℤ) (net now : Net) (r : Reaches names side C G N F i0 t net now) (before after : Places) (from : IpAddress) where
-  -- the party has the sockets of the places, of which one holds this socket
+module _ (names : List ℕ → Bool) (side : Side) (C G : Type 0) (N : IpAddress → HardwareAddress → Type 0) (F : Frames) (i0 : InnerValue) (t : ℤ) (net now : Net) (r : Reaches names side C G N F i0 t net now) (before after : Slots) (from : IpAddress) where
+  -- the party has the sockets of the slots, of which one holds this socket
   abbrev Has : Meta → Socket → Type 0
   Has m s = (party now side).sockets ≡ sockets_of (before ++ holding m s ∷ after)
 
@@ -100,18 +100,18 @@ module _ (names : List ℕ → Bool) (side : Side) (C G : Type 0) (N : IpAddress
 
   found : (m : Meta) (s : Socket) → Has m s → Parties.socket_at (party now side) (length before) ≡ seen s
   found m s has =
-      ap (λ (xs : List (Option Parties.Socket)). slice_index_or xs (length before) None) has ∙ get-middle seen_place before (holding m s) after None
+      ap (λ (xs : List (Option Parties.Socket)). slice_index_or xs (length before) None) has ∙ get-middle seen_slot before (holding m s) after None
 
   changed : (m m' : Meta) (s s' : Socket) → Has m s →
       slice_set (party now side).sockets (length before) (seen s') ≡ sockets_of (before ++ holding m' s' ∷ after)
   changed m m' s s' has =
       ap (λ (xs : List (Option Parties.Socket)). slice_set xs (length before) (seen s')) has ∙
-      set-middle seen_place before (holding m s) (holding m' s') after
+      set-middle seen_slot before (holding m s) (holding m' s') after
 
   abbrev looks_same : (m m' : Meta) (s s' : Socket) → seen s' ≡ seen s → Has m s → Moved names side C G N F i0 t net now (sockets_of (before ++ holding m' s' ∷ after))
   looks_same m m' s s' same has =
       stays names side C G N F i0 t net now r (sockets_of (before ++ holding m' s' ∷ after)) (has ∙
-      sym (same-middle seen_place before (holding m s) (holding m' s') after same))
+      sym (same-middle seen_slot before (holding m s) (holding m' s') after same))
 
   -- a raw packet and a control message are neither segments nor datagrams
   raw_gives : (m m' : Meta) (cx : ContextValue) (v v' : RawValue) (answer : Answer.Offer) (sent : Bool) → Raws.Offers cx v answer v' → Has m (Is.Raw v) →
@@ -130,7 +130,7 @@ module _ (names : List ℕ → Bool) (side : Side) (C G : Type 0) (N : IpAddress
     moved = looks_same m m' (Is.Icmp v) (settled sent (Is.Icmp v')) refl has;
     made = λ done. if_some v'.offered (IsMadeFrom (party now side) from) (λ x is.
         let took = takes_one (Icmps.TakesMessage cx) v (first v.queued) answer v' x offers is in
-        message_made (party now side) from (cx.source_for took.0.0) took.0.0 took.0.1 (hops v.settings.hop_limit) x took.1);
+        message_made (party now side) from (cx.source_for took.0.0) took.0.0 took.0.1 (hop_limit_or_default v.settings.hop_limit) x took.1);
   }
 
   udp_gives : (m m' : Meta) (cx : ContextValue) (v v' : UdpValue) (answer : Answer.Offer) (sent : Bool) → Udps.Offers cx v answer v' → Has m (Is.Udp v) →
@@ -265,11 +265,11 @@ nowhere = Address.Ipv4 (record { 0 = [] })
 
 module _ {D : Type 0} (moves : D → Move → D → Type 0) (turn_of : Option IpAddress) (names : List ℕ → Bool) (side : Side) (i0 : InnerValue) (t : ℤ) (net : Net) (q : Party) (L : ℕ →
     State D → Party → Type 0) (link : IsLink moves q L) (Since Gives : D → Type 0) (giving : IsGiving moves Since Gives)
-    (Taken : Frames → D → Type 0) (taking : IsTaking moves Taken) (n : ℕ) (h : HostValue) (before after : Places) where
+    (Taken : Frames → D → Type 0) (taking : IsTaking moves Taken) (n : ℕ) (h : HostValue) (before after : Slots) where
   abbrev At : Sender D → Option (Item Socket) → State D
   At x o = sending_as h x (before ++ record { inner = o } ∷ after)
 
-  -- before the turn, and behind it
+  -- before the turn, and after it
   abbrev Now : State D → Type 0
   Now s = Follows names side Gives Taken i0 t (L n) net s
 
@@ -277,52 +277,52 @@ module _ {D : Type 0} (moves : D → Move → D → Type 0) (turn_of : Option Ip
   Next s = Follows names side Gives Taken i0 t (L (n + 1)) net s
 
   uncounted : (s : State D) → Now s → Next s
-  uncounted s f = record { now = f.now; frames = f.frames; taken = f.taken; reaches = f.reaches; hops = f.hops; sockets = f.sockets; link = link.more n (n + 1) s (party f.now side) (omega arith) f.link }
+  uncounted s f = record { now = f.now; frames = f.frames; taken = f.taken; reaches = f.reaches; hop_limit = f.hop_limit; sockets = f.sockets; link = link.more n (n + 1) s (party f.now side) (omega arith) f.link }
 
   -- a packet goes its way, with its sockets told already
-  leaves : (x x' : Sender D) (places : Places) (party : Party) (meta : Meta) (packet : PacketValue) (sent : Sent) → IsWide packet →
+  leaves : (x x' : Sender D) (slots : Slots) (party : Party) (meta : Meta) (packet : PacketValue) (sent : Sent) → IsWide packet →
       (is_done sent ≡ true → IsMade party packet) → Leaves moves turn_of x meta packet sent x'
-      → L n (sending_as h x places) party → L (n + 1) (sending_as h x' places) party
-  leaves x x' places party meta packet sent wide made (inl rests) holds =
-      let there : state x'.device (record h { inner = x.inner; left = x.left }) places ≡ sending_as h x' places =
-      λ k. state x'.device (record h { inner = sym rests.2 k; left = sym rests.3 k }) places in
-      link.more n (n + 1) (sending_as h x' places) party (omega arith)
-      (subst (λ (s : State D). L n s party) there (link.leave n (sending_as h x places) party rests.0 x'.device rests.1 holds))
-  leaves x x' places party meta packet sent wide made (inr goes) holds =
-      link.goes n (state goes.0 (record h { inner = x.inner; left = x.left }) places) party packet sent x'.device x'.inner x'.left wide made goes.2
-      (link.leave n (sending_as h x places) party true goes.0 goes.1 holds)
+      → L n (sending_as h x slots) party → L (n + 1) (sending_as h x' slots) party
+  leaves x x' slots party meta packet sent wide made (inl rests) holds =
+      let there : state x'.device (record h { inner = x.inner; left = x.left }) slots ≡ sending_as h x' slots =
+      λ k. state x'.device (record h { inner = sym rests.2 k; left = sym rests.3 k }) slots in
+      link.more n (n + 1) (sending_as h x' slots) party (omega arith)
+      (subst (λ (s : State D). L n s party) there (link.leave n (sending_as h x slots) party rests.0 x'.device rests.1 holds))
+  leaves x x' slots party meta packet sent wide made (inr goes) holds =
+      link.goes n (state goes.0 (record h { inner = x.inner; left = x.left }) slots) party packet sent x'.device x'.inner x'.left wide made goes.2
+      (link.leave n (sending_as h x slots) party true goes.0 goes.1 holds)
 
   -- nothing goes, and the sockets look the same
-  stays_put : (x x' : Sender D) (o o' : Option (Item Socket)) → x' ≡ x → seen_place (record { inner = o' }) ≡ seen_place (record { inner = o }) → Now (At x o) →
+  stays_put : (x x' : Sender D) (o o' : Option (Item Socket)) → x' ≡ x → seen_slot (record { inner = o' }) ≡ seen_slot (record { inner = o }) → Now (At x o) →
       Now (At x' o')
   stays_put x x' o o' is same f = subst (λ (y : Sender D). Now (At y o')) (sym is) (record {
     now = f.now;
     frames = f.frames;
     taken = f.taken;
     reaches = f.reaches;
-    hops = f.hops;
-    sockets = f.sockets ∙ sym (same-middle seen_place before (record { inner = o }) (record { inner = o' }) after same);
+    hop_limit = f.hop_limit;
+    sockets = f.sockets ∙ sym (same-middle seen_slot before (record { inner = o }) (record { inner = o' }) after same);
     link = link.grown n (At x o) (before ++ record { inner = o' } ∷ after) (party f.now side) (party f.now side) (grows_not (party f.now side)) f.link;
   })
 
   -- moves lead on, while nothing goes
-  abbrev moved_on : (x : Sender D) (o : Option (Item Socket)) (places : Places) (f : Now (At x o)) → (m : Moved names side (Stays i0 x.inner) (Gives x.device) (KnowsHop i0 t f.frames.taken x.inner) f.frames i0 t net f.now (sockets_of places)) →
-      Now (sending_as h x places)
-  moved_on x o places f m = record {
+  abbrev moved_on : (x : Sender D) (o : Option (Item Socket)) (slots : Slots) (f : Now (At x o)) → (m : Moved names side (Stays i0 x.inner) (Gives x.device) (KnowsHop i0 t f.frames.taken x.inner) f.frames i0 t net f.now (sockets_of slots)) →
+      Now (sending_as h x slots)
+  moved_on x o slots f m = record {
     now = m.next;
     frames = f.frames;
     taken = f.taken;
     reaches = m.reaches;
-    hops = f.hops;
+    hop_limit = f.hop_limit;
     sockets = m.sockets_are;
-    link = link.grown n (At x o) places (party f.now side) (party m.next side) m.grows f.link;
+    link = link.grown n (At x o) slots (party f.now side) (party m.next side) m.grows f.link;
   }
 
   -- what a socket is asked with, where no path is known to carry less
   abbrev Shown : Sender D → Type 0
   Shown x = IsAsAt i0 t x.inner
 
-  silent : (x x' : Sender D) (item item' : Item Socket) (offered : Socket) (changed : Bool) (turned : Turned) → Shown x → IsFit item.socket →
+  silent : (x x' : Sender D) (item item' : Item Socket) (offered : Socket) (changed : Bool) (turned : Served) → Shown x → IsFit item.socket →
       Offers (context_for x.inner item.socket) item.socket (Offer.Silent changed) offered
       → Answers moves turn_of (Offer.Silent changed) x (record item { socket = offered }) turned x' item' → Now (At x (Some item)) → Now (At x' (Some item'))
   silent x x' item item' offered changed turned like fit offers answers f =
@@ -345,19 +345,19 @@ module _ {D : Type 0} (moves : D → Move → D → Type 0) (turn_of : Option Ip
 
   -- its packet is done with, or the host had no way for it
   or_hindered : (x : Sender D) (frames : Frames) (leaving packet : PacketValue) (done : Bool) → leaving ≡ sourced x.inner packet → Shown x → x.inner.paths ≡ []
-      → Hops i0 t frames.taken x.inner → (done ≡ true) ⊎ IsHindrance (plan_at x leaving)
+      → HopLimit i0 t frames.taken x.inner → (done ≡ true) ⊎ IsHindrance (plan_at x leaving)
       → (done ≡ true) ⊎ IsHindered i0 t (KnowsHop i0 t frames.taken x.inner) (λ j. (sourced j packet).header)
-  or_hindered x frames leaving packet done is like none hops (inl so) = inl so
-  or_hindered x frames leaving packet done is like none hops (inr stays) = inr (record {
+  or_hindered x frames leaving packet done is like none hop_limit (inl so) = inl so
+  or_hindered x frames leaving packet done is like none hop_limit (inr stays) = inr (record {
     i = x.inner;
     like = like;
     paths = none;
-    hops = λ remote to knows. hop_now x.inner t remote to like.moment (hops remote to knows);
+    hop_limit = λ remote to knows. hop_now x.inner t remote to like.instant (hop_limit remote to knows);
     busy = is_some x.left;
     plan = subst (λ (p : PacketValue). IsHindrance (plan_at x p)) is stays;
   })
 
-  sends : (x x' : Sender D) (item item' : Item Socket) (offered : Socket) (changed : Bool) (turned : Turned) (packet : Option PacketValue) →
+  sends : (x x' : Sender D) (item item' : Item Socket) (offered : Socket) (changed : Bool) (turned : Served) (packet : Option PacketValue) →
       Since x.device → Shown x → IsSameHost x.inner x'.inner → packet ≡ offered_by offered → IfSome packet CanBeWide → IsFit item.socket
       → Offers (context_for x.inner item.socket) item.socket (Offer.Packet changed) offered →
       SendsBy moves turn_of packet x (record item { socket = offered }) changed turned x' item'
@@ -367,8 +367,8 @@ module _ {D : Type 0} (moves : D → Move → D → Type 0) (turn_of : Option Ip
       let leaving = sending.0 in
       let goes : SendsAs moves turn_of leaving x (record item { socket = offered }) changed turned x' item' = sending.3 in
       let sent = goes.0 in
-      let meta = marked sent x.inner.moment (waits_until (plan_at x leaving) x'.inner) (destination_of leaving.header) item.meta in
-      let places = before ++ holding meta (settled (is_done sent) offered) ∷ after in
+      let meta = marked sent x.inner.instant (waits_until (plan_at x leaving) x'.inner) (destination_of leaving.header) item.meta in
+      let slots = before ++ holding meta (settled (is_done sent) offered) ∷ after in
       let cx = context_for x.inner item.socket in
       let from = source_of (sourced x.inner packet).header in
       let from_it : LeavesFrom cx from packet.header = leaves_from x.inner packet in
@@ -388,35 +388,35 @@ module _ {D : Type 0} (moves : D → Move → D → Type 0) (turn_of : Option Ip
         subst (λ (o : Option PacketValue). IfSome o (λ y. from ≡ source_of (sourced x.inner y).header)) is refl,
       ))
       (λ c g. subst (λ (o : Option PacketValue). IfSome o (λ y. (is_done sent ≡ true) ⊎ IsHindered i0 t Knows (λ j. (sourced j y).header))) is
-      (or_hindered x f.frames leaving packet (is_done sent) sending.1 like c.0 f.hops (leaves_so moves Since Gives giving turn_of x x' item.meta leaving sent goes.1 since g)))
+      (or_hindered x f.frames leaving packet (is_done sent) sending.1 like c.0 f.hop_limit (leaves_so moves Since Gives giving turn_of x x' item.meta leaving sent goes.1 since g)))
       (λ done. subst (λ (o : Option PacketValue). IfSome o (λ y. LeftFrom i0 t (Stays i0 x.inner) Knows frames.gone cx item.socket from y)) is (record {
         i = x.inner;
         settings = like.settings;
-        moment = like.moment;
+        instant = like.instant;
         ident = like.ident;
         paths = λ c. c.0;
-        hops = λ remote to knows. hop_now x.inner t remote to like.moment (f.hops remote to knows);
+        hop_limit = λ remote to knows. hop_now x.inner t remote to like.instant (f.hop_limit remote to knows);
         shown = refl;
         formed = sending.2;
         wide = wide sending.2;
         source = refl;
         leaving_formed = subst IsWellFormed sending.1 goes.4;
         busy = is_some x.left;
-        went = subst (λ (q : PacketValue). WentBy frames.gone x.inner q (plan_of x.inner (is_some x.left) q.header)) sending.1 (way.went done);
+        was_sent = subst (λ (q : PacketValue). WasSentBy frames.gone x.inner q (plan_of x.inner (is_some x.left) q.header)) sending.1 (way.was_sent done);
       }))
       f.sockets in
-      let linked : L n (sending_as h x places) (party given.moved.next side) =
-      link.grown n (At x (Some item)) places (party f.now side) (party given.moved.next side) given.moved.grows f.link in
-      let told : Next (sending_as h x' places) = record {
+      let linked : L n (sending_as h x slots) (party given.moved.next side) =
+      link.grown n (At x (Some item)) slots (party f.now side) (party given.moved.next side) given.moved.grows f.link in
+      let told : Next (sending_as h x' slots) = record {
         now = given.moved.next;
         frames = frames;
         taken = way.out.taken;
         reaches = narrowed names side (Stays i0 x.inner) (Stays i0 x'.inner) (Gives x'.device) (Gives x'.device) Knows
             (KnowsHop i0 t f.frames.taken x'.inner) frames i0 t net given.moved.next (stays_before i0 x.inner x'.inner same) (λ g. g)
             (knew_out i0 t f.frames.taken x.inner x'.inner same) given.moved.reaches;
-        hops = hops_out i0 t f.frames.taken x.inner x'.inner same f.hops;
+        hop_limit = hop_limit_out i0 t f.frames.taken x.inner x'.inner same f.hop_limit;
         sockets = given.moved.sockets_are;
-        link = leaves x x' places (party given.moved.next side) item.meta leaving sent
+        link = leaves x x' slots (party given.moved.next side) item.meta leaving sent
             (subst IsWide (sym sending.1) (sourced_wide x.inner packet (wide sending.2) (subst IsWellFormed sending.1 goes.4)))
             (λ done. subst (IsMade (party given.moved.next side)) (sym sending.1)
             (sourced_made (party given.moved.next side) x.inner packet
@@ -424,7 +424,7 @@ module _ {D : Type 0} (moves : D → Move → D → Type 0) (turn_of : Option Ip
       } in
       subst (λ (i : Item Socket). Next (At x' (Some i))) (sym goes.3) told
 
-  asks : (x x' : Sender D) (item item' : Item Socket) (answer : Answer.Offer) (offered : Socket) (turned : Turned) → Since x.device → Shown x → IsSameHost x.inner x'.inner
+  asks : (x x' : Sender D) (item item' : Item Socket) (answer : Answer.Offer) (offered : Socket) (turned : Served) → Since x.device → Shown x → IsSameHost x.inner x'.inner
       → IfSome (offered_by offered) CanBeWide → IsFit item.socket
       → Offers (context_for x.inner item.socket) item.socket answer offered → Answers moves turn_of answer x (record item { socket = offered }) turned x' item'
       → Now (At x (Some item)) → Next (At x' (Some item'))
@@ -433,7 +433,7 @@ module _ {D : Type 0} (moves : D → Move → D → Type 0) (turn_of : Option Ip
   asks x x' item item' (Offer.Packet changed) offered turned since like same wide fit offers answers f =
       sends x x' item item' offered changed turned (offered_by offered) since like same refl wide fit offers answers f
 
-  turns : (waits : Bool) (x x' : Sender D) (item item' : Item Socket) (turned : Turned) →
+  turns : (waits : Bool) (x x' : Sender D) (item item' : Item Socket) (turned : Served) →
       TurnsIf moves turn_of waits x (let_through x.inner item) turned x' item' → Since x.device → Shown x → IsSameHost x.inner x'.inner → IsFit item.socket
       → Now (At x (Some item)) → Next (At x' (Some item'))
   turns true x x' item item' turned waits since like same fit f =
@@ -446,7 +446,7 @@ module _ {D : Type 0} (moves : D → Move → D → Type 0) (turn_of : Option Ip
       fit asked.2 asked.3
       (stays_put x x (Some item) (Some through) refl refl f)
 
-  items : (x x' : Sender D) (o o' : Option (Item Socket)) (turned : Turned) → ItemTurns moves turn_of o x turned x' o' → Since x.device → Shown x → IsSameHost x.inner x'.inner → OfItem IsFit o → Now (At x o) →
+  items : (x x' : Sender D) (o o' : Option (Item Socket)) (turned : Served) → ItemTurns moves turn_of o x turned x' o' → Since x.device → Shown x → IsSameHost x.inner x'.inner → OfItem IsFit o → Now (At x o) →
       Next (At x' o')
   items x x' None None turned turn since like same fit f = uncounted (At x' None) (stays_put x x' None None turn.1 refl f)
   items x x' (Some item) (Some item') turned turn since like same fit f =
@@ -454,7 +454,7 @@ module _ {D : Type 0} (moves : D → Move → D → Type 0) (turn_of : Option Ip
   items x x' None (Some item') turned turn since like same fit f = absurd turn
   items x x' (Some item) None turned turn since like same fit f = absurd turn
 
-  pub turn_follows : (p p' : SocketStorage Socket) (x x' : Sender D) (turned : Turned) → PlaceTurns moves turn_of x p turned x' p' → Since x.device → Shown x → OfItem IsFit p.inner
+  pub turn_follows : (p p' : SocketStorage Socket) (x x' : Sender D) (turned : Served) → ServesSlot moves turn_of x p turned x' p' → Since x.device → Shown x → OfItem IsFit p.inner
       → Now (sending_as h x (before ++ p ∷ after)) → Next (sending_as h x' (before ++ p' ∷ after))
   turn_follows p p' x x' turned turn since like fit f =
-      items x x' p.inner p'.inner turned turn since like (place_same moves turn_of x x' p p' turned turn) fit f
+      items x x' p.inner p'.inner turned turn since like (slot_same moves turn_of x x' p p' turned turn) fit f

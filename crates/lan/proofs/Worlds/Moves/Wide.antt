@@ -1,20 +1,20 @@
 -- What a fit socket offers, and what answers a packet, another host can read, where its fields are of their widths.
 use Rattle.std.proofs.Common.{◌≡◌, ℕ, Bool, true, false, List, length, Option, Some, None, IfSome, refl, sym, ap, ◌∙◌, subst}
-use Rattle.interface_ingress.specs.Icmpv4Header.{Icmpv4Header}
-use Rattle.interface_ingress.specs.Icmpv6.{MessageValue}
-use Rattle.interface_ingress.specs.EthernetRepr.{EthernetRepr}
-use Rattle.interface_ingress.specs.IpAddress.{IpAddress}
-use Rattle.interface_ingress.specs.IpAddress.TheVariants as Address
-use Rattle.interface_ingress.specs.IpProtocol.TheVariants as Protocol
+use Rattle.iface_ingress.specs.Icmpv4Header.{Icmpv4Header}
+use Rattle.iface_ingress.specs.Icmpv6.{MessageValue}
+use Rattle.iface_ingress.specs.EthernetRepr.{EthernetRepr}
+use Rattle.iface_ingress.specs.IpAddress.{IpAddress}
+use Rattle.iface_ingress.specs.IpAddress.TheVariants as Address
+use Rattle.iface_ingress.specs.IpProtocol.TheVariants as Protocol
 use Rattle.interface.specs.IpRepr.{IpRepr}
 use Rattle.interface.specs.IpRepr.TheVariants as Ip
 use Rattle.interface.specs.Ipv4Repr.{Ipv4Repr}
 use Rattle.interface.specs.Ipv6Repr.{Ipv6Repr}
-use Rattle.ip_tcp.specs.Tcp as Tcp
-use Rattle.ip_tcp.specs.declared.header.TcpHeader.{TcpHeader}
+use Rattle.wire_tcp.specs.Tcp as Tcp
+use Rattle.wire_tcp.specs.declared.header.TcpHeader.{TcpHeader}
 use Rattle.interface.specs.UdpRepr.{UdpRepr}
-use Rattle.interface_ingress.specs.ArpRepr.{ArpRepr}
-use Rattle.net_containers.specs.Packets.{first}
+use Rattle.iface_ingress.specs.ArpRepr.{ArpRepr}
+use Rattle.base_buffer.specs.Packets.{first}
 use Rattle.sockets.specs.Context.{ContextValue}
 use Rattle.sockets.specs.Packet.{PacketValue, PayloadValue, ControlV4, ControlV6, Bytes, Datagram, Segment, packet_of, payload_written}
 use Rattle.interface.specs.Ip as Ips
@@ -22,40 +22,40 @@ use Rattle.lan.specs.Worlds.Link.Made.{sealed, CarriesNone}
 use Rattle.interface.specs.Widths.{IsPayload}
 use Rattle.sockets.specs.Offer as Answer
 use Rattle.sockets.specs.WellFormed.{AreFields, HasWidths, IsWellFormed}
-use Rattle.sockets.specs.Icmp as Icmps
-use Rattle.sockets.specs.Offers.{IsFound, IsOnly, OffersFirst}
-use Rattle.sockets.specs.Raw as Raws
-use Rattle.sockets.specs.Udp as Udps
-use Rattle.sockets.specs.Udp.{UdpValue}
-use Rattle.sockets.specs.Header.{hops}
-use Rattle.sockets.specs.declared.udp.UdpMetadata.{UdpMetadata}
-use Rattle.tcp_tie.proofs.NameLaws.{answer_back, offer_between_ends, reset_back}
-use Rattle.tcp_tie.specs.Endpoints.{GoesBack}
-use Rattle.tcp_model.specs.Arrival.{arrives}
-use Rattle.tcp_model.specs.Offers.{offer_of, payload_of, packet_with, offered_packet}
-use Rattle.tcp_model.specs.OpenOffer.{OpenOffer}
-use Rattle.tcp_model.specs.Reply.{Reply}
-use Rattle.tcp_model.specs.Segments.{rst_reply}
-use Rattle.tcp_model.specs.Value.{TcpValue}
+use Rattle.socket_datagram.specs.Icmp as Icmps
+use Rattle.socket_datagram.specs.Offers.{IsFound, IsOnly, OffersFirst}
+use Rattle.socket_datagram.specs.Raw as Raws
+use Rattle.socket_datagram.specs.Udp as Udps
+use Rattle.socket_datagram.specs.Udp.{UdpValue}
+use Rattle.socket_datagram.specs.Header.{hop_limit_or_default}
+use Rattle.socket_datagram.specs.declared.udp.UdpMetadata.{UdpMetadata}
+use Rattle.tcp_refinement.proofs.NameLaws.{answer_back, offer_between_ends, reset_back}
+use Rattle.tcp_refinement.specs.Endpoints.{GoesBack}
+use Rattle.tcp_block.specs.Arrival.{arrives}
+use Rattle.tcp_block.specs.Offers.{offer_of, payload_of, packet_with, offered_packet}
+use Rattle.tcp_block.specs.OpenOffer.{OpenOffer}
+use Rattle.tcp_block.specs.Reply.{Reply}
+use Rattle.tcp_block.specs.Segments.{rst_reply}
+use Rattle.tcp_block.specs.Value.{TcpValue}
 use Rattle.sockets.specs.Socket.{Offers, offered_by}
 use Rattle.sockets.specs.declared.socket.Socket.{Socket}
 use Rattle.sockets.specs.declared.socket.Socket.TheVariants as Is
-use Rattle.interface_tables.specs.Inner.{InnerValue, context_of, is_for_us}
-use Rattle.interface_ingress.specs.Arrives.{Arrived, ArrivesV4, ArrivesV6, Brings, Hands, ReplyValue, Tells, Answers, told, answered, renewed}
-use Rattle.interface_ingress.specs.Arp.{arp_answer}
-use Rattle.interface_ingress.specs.Delivered.{packet_by, packet_delivered, is_taken_raw}
-use Rattle.interface_ingress.specs.Handed.{handed_reply, is_unclaimed, limited_reply}
-use Rattle.interface_ingress.proofs.Limit.{let_go_so}
-use Rattle.interface_ingress.specs.Incoming.{IncomingValue, Arp, Ip4, Ip6}
-use Rattle.interface_ingress.specs.Upper.{upper_header, upper_payload, IsBrought}
+use Rattle.iface_tables.specs.Inner.{InnerValue, context_of, is_for_us}
+use Rattle.iface_ingress.specs.Arrives.{Arrived, ArrivesV4, ArrivesV6, Brings, Hands, ReplyValue, Tells, Answers, told, answered, renewed}
+use Rattle.iface_ingress.specs.Arp.{arp_answer}
+use Rattle.iface_ingress.specs.Delivered.{packet_by, packet_delivered, is_taken_raw}
+use Rattle.iface_ingress.specs.Processed.{handed_reply, is_unclaimed, limited_reply}
+use Rattle.iface_ingress.proofs.Limit.{let_go_so}
+use Rattle.iface_ingress.specs.Incoming.{IncomingValue, Arp, Ip4, Ip6}
+use Rattle.iface_ingress.specs.Upper.{upper_header, upper_payload, IsBrought}
 use Rattle.lan.proofs.Worlds.AtLink.Queues.{each_first}
 use Rattle.lan.specs.Worlds.Moves.Fit.{AreNamed, NamesPorts, IsFit}
-use Rattle.lan.specs.Worlds.Moves.Made.{FitsBehind, IsWide}
-use Rattle.lan.specs.Worlds.Moves.Protocols.{NamesBehind, NamesItsPayload}
+use Rattle.lan.specs.Worlds.Moves.Made.{FitsFollowing, IsWide}
+use Rattle.lan.specs.Worlds.Moves.Protocols.{NamesFollowing, NamesItsPayload}
 use Rattle.lan.proofs.Worlds.Moves.Answering.{AnswersSegments, replied_all}
 use Rattle.lan.proofs.Worlds.Moves.EachSocket.{segment_named}
 use Rattle.lan.proofs.Worlds.Moves.Offering.{takes_one}
-use Rattle.lan.proofs.Worlds.Moves.Places.{Places}
+use Rattle.lan.proofs.Worlds.Moves.Slots.{Slots}
 use Rattle.lan.proofs.Worlds.Moves.Ports.{IsNamed}
 use Rattle.lan.proofs.Worlds.Moves.Protocols.{offered_names, replied_names}
 use Rattle.lan.proofs.Worlds.Moves.RawQueues.{offered_foreign}
@@ -69,7 +69,7 @@ payload_widths (Bytes bytes) widths = tt
 payload_widths (Datagram udp bytes) widths = tt
 payload_widths (Segment header bytes) widths = tt
 
-formed_wide : (p : PacketValue) → IsWellFormed p → FitsBehind p.header p.payload → IsWide p
+formed_wide : (p : PacketValue) → IsWellFormed p → FitsFollowing p.header p.payload → IsWide p
 formed_wide p formed fits = record {
   offered = record {
     packet = record { len = formed.sendable.len; payload = λ short. formed.sendable.payload };
@@ -99,7 +99,7 @@ IsPlain (Bytes bytes) = ⊥
 IsPlain (Datagram udp bytes) = ⊥
 IsPlain (Segment header bytes) = AreNamed header.src_port header.dst_port
 
-plain_fits : (h : IpRepr) (x : PayloadValue) → IsPlain x → NamesBehind h x → HasWidths x → FitsBehind h x
+plain_fits : (h : IpRepr) (x : PayloadValue) → IsPlain x → NamesFollowing h x → HasWidths x → FitsFollowing h x
 plain_fits h (ControlV4 message bytes) plain named widths = (named.0, widths, named.1)
 plain_fits h (ControlV6 message bytes) plain named widths = (named, widths.0, widths.1)
 plain_fits h (Bytes bytes) plain named widths = absurd plain
@@ -123,7 +123,7 @@ icmp_plain (Some source) remote bytes limit p is = message_plain source remote b
 
 udp_first : (cx : ContextValue) (o : Option (UdpMetadata × List ℕ)) (v v' : UdpValue) (answer : Answer.Offer) (p : PacketValue) → first v.queued ≡ o →
     NamesPorts (Is.Udp v)
-    → OffersFirst (Udps.TakesDatagram cx) v o answer v' → v'.offered ≡ Some p → NamesItsPayload p → HasWidths p.payload → FitsBehind p.header p.payload
+    → OffersFirst (Udps.TakesDatagram cx) v o answer v' → v'.offered ≡ Some p → NamesItsPayload p → HasWidths p.payload → FitsFollowing p.header p.payload
 udp_first cx None v v' answer p is holds offers open_so named widths =
     let none : v'.offered ≡ None = ap (λ (w : UdpValue). w.offered) offers.1 in
     absurd (let clash : None ≡ Some p = sym none ∙ open_so in cc)
@@ -132,8 +132,8 @@ udp_first cx (Some q) v v' answer p is holds offers open_so named widths =
     let udp : UdpRepr = record { src_port = v.settings.endpoint.port; dst_port = q.0.endpoint.port } in
     let carried : p.payload ≡ Datagram udp q.1 = ap (λ (x : PacketValue). x.payload) only.takes.1 in
     let fields : HasWidths (Datagram udp q.1) = subst HasWidths carried widths in
-    subst (FitsBehind p.header) (sym carried) (
-      subst (NamesBehind p.header) carried named,
+    subst (FitsFollowing p.header) (sym carried) (
+      subst (NamesFollowing p.header) carried named,
       record { source_port = fields.source_port; destination_port = fields.destination_port; nonzero = each_first IsNamed v.queued q is holds },
     )
 
@@ -153,16 +153,16 @@ tcp_plain cx v p holds is = segment_plain (offer_of cx v).socket.offered (offer_
       (λ zero. ends.0 (sym goes.2.source_port ∙ zero), λ zero. ends.1 (sym goes.2.destination_port ∙ zero))
 
 offered_fits : (cx : ContextValue) (s s' : Socket) (answer : Answer.Offer) (p : PacketValue) → IsFit s → Offers cx s answer s' → offered_by s' ≡ Some p →
-    NamesItsPayload p → HasWidths p.payload → FitsBehind p.header p.payload
+    NamesItsPayload p → HasWidths p.payload → FitsFollowing p.header p.payload
 offered_fits cx (Is.Raw v) (Is.Raw v') answer p fit offers is named widths =
     let took = takes_one Raws.TakesPacket v (first v.queued) answer v' p offers is in
     let carried = ap (λ (x : PacketValue). x.payload) took.1.carried in
-    subst (FitsBehind p.header) (sym carried)
+    subst (FitsFollowing p.header) (sym carried)
     (subst (λ (x : PayloadValue). CarriesNone (Ips.normal p.header) (payload_written sealed p.header x)) carried
     (offered_foreign cx v v' answer p fit.0 offers is))
 offered_fits cx (Is.Icmp v) (Is.Icmp v') answer p fit offers is named widths =
     let took = takes_one (Icmps.TakesMessage cx) v (first v.queued) answer v' p offers is in
-    plain_fits p.header p.payload (icmp_plain (cx.source_for took.0.0) took.0.0 took.0.1 (hops v.settings.hop_limit) p took.1) named widths
+    plain_fits p.header p.payload (icmp_plain (cx.source_for took.0.0) took.0.0 took.0.1 (hop_limit_or_default v.settings.hop_limit) p took.1) named widths
 offered_fits cx (Is.Udp v) (Is.Udp v') answer p fit offers is named widths = udp_first cx (first v.queued) v v' answer p refl fit.1 offers is named widths
 offered_fits cx (Is.Tcp v) (Is.Tcp v') answer p fit offers is named widths =
     plain_fits p.header p.payload (tcp_plain cx v p fit.1 (ap (λ (w : TcpValue). offered_packet w) (sym offers.1) ∙ is)) named widths
@@ -203,10 +203,10 @@ six : (header : Ipv6Repr) (message : MessageValue) (bytes : List ℕ) → header
     GoesPlain (packet_of (Ip.Ipv6 header) (ControlV6 message bytes))
 six header message bytes named = tt
 
-replied_plain : (i : InnerValue) (places : Places) (ip : IpRepr) (payload : List ℕ) (taken : Bool) (carried : Option PayloadValue) →
-    IsBrought i.checksums ip payload carried → IfSome (handed_reply i places ip payload taken carried) GoesPlain
-replied_plain i places ip payload taken carried is =
-    replied_all GoesPlain four six i places ip payload taken carried (λ header bytes same.
+replied_plain : (i : InnerValue) (slots : Slots) (ip : IpRepr) (payload : List ℕ) (taken : Bool) (carried : Option PayloadValue) →
+    IsBrought i.checksums ip payload carried → IfSome (handed_reply i slots ip payload taken carried) GoesPlain
+replied_plain i slots ip payload taken carried is =
+    replied_all GoesPlain four six i slots ip payload taken carried (λ header bytes same.
     segments_plain (context_of i) ip header bytes (segment_named i.checksums (upper_header ip payload) (upper_payload ip payload) header bytes
     (subst (IsBrought i.checksums ip payload) same is)))
 
@@ -226,29 +226,29 @@ told_wide (Some packet) = tt
 abbrev RepliesWide : Option ReplyValue → Type 0
 RepliesWide reply = IfSome reply CanBeWide
 
-hands_wide : (i : InnerValue) (places : Places) (ip : IpRepr) (payload : List ℕ) (taken : Bool) (a : Arrived) → Hands i places ip payload taken a →
+hands_wide : (i : InnerValue) (slots : Slots) (ip : IpRepr) (payload : List ℕ) (taken : Bool) (a : Arrived) → Hands i slots ip payload taken a →
     RepliesWide a.reply
-hands_wide i places ip payload taken a (carried, is, so) =
+hands_wide i slots ip payload taken a (carried, is, so) =
     subst RepliesWide (sym so.reply)
-    (answered_wide (limited_reply i places ip payload taken carried)
-    (let_go_so GoesPlain (is_unclaimed i places ip carried) i (handed_reply i places ip payload taken carried)
-    (replied_plain i places ip payload taken carried is))
-    (let_go_so NamesItsPayload (is_unclaimed i places ip carried) i (handed_reply i places ip payload taken carried)
-    (replied_names i places ip payload taken carried)))
+    (answered_wide (limited_reply i slots ip payload taken carried)
+    (let_go_so GoesPlain (is_unclaimed i slots ip carried) i (handed_reply i slots ip payload taken carried)
+    (replied_plain i slots ip payload taken carried is))
+    (let_go_so NamesItsPayload (is_unclaimed i slots ip carried) i (handed_reply i slots ip payload taken carried)
+    (replied_names i slots ip payload taken carried)))
 
-v4_wide : (ours : Bool) (i : InnerValue) (places : Places) (link : Option EthernetRepr) (ip : IpRepr) (payload : List ℕ) (a : Arrived) →
-    ArrivesV4 ours i places link ip payload a → RepliesWide a.reply
-v4_wide true i places link ip payload a is = hands_wide (renewed i link ip) (packet_delivered ip payload places) ip payload (is_taken_raw ip places) a is
-v4_wide false i places link ip payload a is = subst RepliesWide (sym is.reply) tt
+v4_wide : (ours : Bool) (i : InnerValue) (slots : Slots) (link : Option EthernetRepr) (ip : IpRepr) (payload : List ℕ) (a : Arrived) →
+    ArrivesV4 ours i slots link ip payload a → RepliesWide a.reply
+v4_wide true i slots link ip payload a is = hands_wide (renewed i link ip) (packet_delivered ip payload slots) ip payload (is_taken_raw ip slots) a is
+v4_wide false i slots link ip payload a is = subst RepliesWide (sym is.reply) tt
 
-v6_wide : (ours : Bool) (i : InnerValue) (places : Places) (link : Option EthernetRepr) (ip : IpRepr) (payload : List ℕ) (a : Arrived) →
-    ArrivesV6 ours i places link ip payload a → RepliesWide a.reply
-v6_wide true i places link ip payload a is = hands_wide (renewed i link ip) (packet_delivered ip payload places) ip payload (is_taken_raw ip places) a is
-v6_wide false i places link ip payload a is = subst RepliesWide (sym is.reply) tt
+v6_wide : (ours : Bool) (i : InnerValue) (slots : Slots) (link : Option EthernetRepr) (ip : IpRepr) (payload : List ℕ) (a : Arrived) →
+    ArrivesV6 ours i slots link ip payload a → RepliesWide a.reply
+v6_wide true i slots link ip payload a is = hands_wide (renewed i link ip) (packet_delivered ip payload slots) ip payload (is_taken_raw ip slots) a is
+v6_wide false i slots link ip payload a is = subst RepliesWide (sym is.reply) tt
 
-pub brings_wide : (i : InnerValue) (places : Places) (content : Option IncomingValue) (a : Arrived) → Brings i places content a → RepliesWide a.reply
-brings_wide i places None a is = subst RepliesWide (sym is.reply) tt
-brings_wide i places (Some (Arp link packet)) a is = subst RepliesWide (sym is.reply) (told_wide (arp_answer i packet))
-brings_wide i places (Some (Ip4 link header piece payload)) a is =
-    v4_wide (is_for_us i (Address.Ipv4 header.dst_addr)) i places link (Ip.Ipv4 header) payload a is
-brings_wide i places (Some (Ip6 link header payload)) a is = v6_wide (is_for_us i (Address.Ipv6 header.dst_addr)) i places link (Ip.Ipv6 header) payload a is
+pub brings_wide : (i : InnerValue) (slots : Slots) (content : Option IncomingValue) (a : Arrived) → Brings i slots content a → RepliesWide a.reply
+brings_wide i slots None a is = subst RepliesWide (sym is.reply) tt
+brings_wide i slots (Some (Arp link packet)) a is = subst RepliesWide (sym is.reply) (told_wide (arp_answer i packet))
+brings_wide i slots (Some (Ip4 link header fragment payload)) a is =
+    v4_wide (is_for_us i (Address.Ipv4 header.dst_addr)) i slots link (Ip.Ipv4 header) payload a is
+brings_wide i slots (Some (Ip6 link header payload)) a is = v6_wide (is_for_us i (Address.Ipv6 header.dst_addr)) i slots link (Ip.Ipv6 header) payload a is

@@ -11,7 +11,7 @@ returns-clause-cut c = cut_is_host
 
 pub returns-clause-damaged : goal.returns-clause-damaged
 returns-clause-damaged c =
-    λ made hardware out frame padding part place word all is there damage. damaged_brings (IsIn made) hardware out all frame part place word padding is
+    λ made hardware out frame padding part slot word all is there damage. damaged_brings (IsIn made) hardware out all frame part slot word padding is
     there damage
 
 pub returns-clause-noise : goal.returns-clause-noise

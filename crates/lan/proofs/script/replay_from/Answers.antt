@@ -3,7 +3,7 @@ use Rattle.std.proofs.lemmas.List.{length-take}
 use Rattle.std.proofs.KnownBytes.{Appends-trans, Appends-kept, Consumes-trans, Consumes-kept}
 use Rattle.lan.specs.declared.session.Session.TheVariants.{Begun}
 use Rattle.lan.proofs.RunLemmas.{all_read}
-use Rattle.lan.proofs.PieceLemmas.{script_ends, script_ends_early, pieces_run, reads_on, nothing_behind, runs_so_far}
+use Rattle.lan.proofs.FragmentLemmas.{script_ends, script_ends_early, fragments_run, reads_on, nothing_following, runs_so_far}
 use Rattle.lan.proofs.script.replay_from.Goals as goal
 use Rattle.lan.proofs.script.replay_from.Goals.{in-Ok+in_ok-led-in-Ok+in_ok-flush-in-Ok+else-not-led, in-Err}
 
@@ -70,7 +70,7 @@ pub returns-in-Err-2-clause-reads : goal.returns-in-Err-2-clause-reads
 returns-in-Err-2-clause-reads g c =
     let before = c.loop-count.invariant.runs in
     let read = rw c.in-Err-2.is at c.read.ensures.bytes in
-    nothing_behind _ _ before.0 before.1 c.loop-count.run.begun.items c.loop-count.run.number c.loop-count.run.session (Consumes-kept _ _ _ _ before.2 read)
+    nothing_following _ _ before.0 before.1 c.loop-count.run.begun.items c.loop-count.run.number c.loop-count.run.session (Consumes-kept _ _ _ _ before.2 read)
     before.4 c.loop-count.run.unbroken
 
 -- or came to no end
@@ -86,10 +86,10 @@ returns-clause-unended g c =
 pub returns-clause-reads : goal.returns-clause-reads
 returns-clause-reads g c =
     let before = c.loop-count.invariant.runs in
-    nothing_behind _ _ before.0 before.1 c.loop-count.run.begun.items c.loop-count.run.number c.loop-count.run.session before.2 before.4
+    nothing_following _ _ before.0 before.1 c.loop-count.run.begun.items c.loop-count.run.number c.loop-count.run.session before.2 before.4
     c.loop-count.run.unbroken
 
--- a piece was run, or the read is tried again
+-- a fragment was run, or the read is tried again
 pub loop-count-preserved : goal.loop-count-preserved
 loop-count-preserved g c =
     let before = c.loop-count.invariant.runs in
@@ -105,8 +105,8 @@ loop-count-preserved g c =
               before.1 ++ ran.0,
               Consumes-trans _ _ _ _ _ before.2 read.0,
               Appends-kept _ _ _ _ (Appends-trans _ _ _ _ _ before.3 ran.1) w.flush-in-Ok.ensures.bytes,
-              pieces_run 1 w.take_piece.new.self.number Begun w.take_piece.new.self.session before.0 c.loop-count.run.begun.items _
-                  w.take_piece.new.self.begun.items before.1 ran.0
+              fragments_run 1 w.take_fragment.new.self.number Begun w.take_fragment.new.self.session before.0 c.loop-count.run.begun.items _
+                  w.take_fragment.new.self.begun.items before.1 ran.0
                   c.loop-count.run.number c.loop-count.run.session before.4 ran.2,
             );
             number = omega (arith, number, length-take w.in-Ok.len c.read.new.buf, c.read.auto.buf, c.loop-count.invariant.number, c.loop-count.invariant.room);

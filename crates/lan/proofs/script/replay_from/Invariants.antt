@@ -2,7 +2,7 @@
 use Rattle.std.proofs.Common.{◌≡◌, ℕ, ◌+◌, ◌*◌, ◌≤◌, List, length}
 use Rattle.std.specs.Io.KnownBytes.{Appends, Consumes}
 use Rattle.lan.specs.declared.session.Session.TheVariants.{Begun}
-use Rattle.lan.specs.Pieces.{RunsOn}
+use Rattle.lan.specs.FragmentList.{RunsOn}
 use Rattle.lan.proofs.script.replay_from.Given as goal
 
 abbrev pub invariant-loop-count : goal.invariant-loop-count
@@ -12,5 +12,5 @@ invariant-loop-count g l = record {
       × Appends (g.W.Write.contents l.initial.writer) (g.W.Write.contents l.writer) output
       × RunsOn 1 Begun read output l.run.number l.run.session l.run.begun.items;
   number : l.run.number ≤ 1 + 4096 * l.count;
-  room : length l.piece ≡ 4096;
+  room : length l.fragment ≡ 4096;
 }

@@ -1,14 +1,14 @@
 -- Answers that are given twice: one goes to the caller, and one is kept.
 use Rattle.std.specs.Prelude.{◌≡◌, Option, None, Some}
-use Rattle.sockets.specs.declared.error.RecvError.{RecvError}
-use Rattle.sockets.specs.declared.error.RecvError.TheVariants as Recv
+use Rattle.socket_datagram.specs.declared.error.RecvError.{RecvError}
+use Rattle.socket_datagram.specs.declared.error.RecvError.TheVariants as Recv
 use Rattle.lan.specs.declared.at_link.history.answer.Answer.{Answer}
 use Rattle.lan.specs.declared.at_link.history.answer.Answer.TheVariants as To
 use Rattle.lan.specs.declared.at_link.history.answer.Fault.{Fault}
 use Rattle.lan.specs.declared.at_link.history.answer.Fault.TheVariants as For
 use Rattle.sockets.specs.declared.socket.Socket.{Socket}
 use Rattle.lan.specs.Worlds.AtLink.Calls.{Did}
-use Rattle.tcp_model.specs.State.{State}
+use Rattle.tcp_block.specs.State.{State}
 use Rattle.lan.specs.declared.at_link.answer.Brief.{Brief}
 use Rattle.lan.specs.declared.at_link.answer.Brief.TheVariants as Short
 use Rattle.lan.specs.declared.at_link.answer.Taken.{Taken}

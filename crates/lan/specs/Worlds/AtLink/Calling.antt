@@ -3,10 +3,10 @@ use Rattle.std.specs.Prelude.{◌≡◌, ℕ, Bool, true, false, if◌then◌els
 use Rattle.sockets.specs.Context.{ContextValue}
 use Rattle.interface.specs.Host.{HostValue}
 use Rattle.interface.specs.Made.{with_inner}
-use Rattle.interface_egress.specs.Inner.{context_of, drawn}
-use Rattle.interface_egress.specs.Set.{with_socket}
-use Rattle.interface_egress.specs.declared.socket_set.Item.{Item}
-use Rattle.interface_egress.specs.declared.socket_set.SocketStorage.{SocketStorage}
+use Rattle.iface_egress.specs.Inner.{context_of, drawn}
+use Rattle.iface_egress.specs.Set.{with_socket}
+use Rattle.iface_egress.specs.declared.socket_set.Item.{Item}
+use Rattle.iface_egress.specs.declared.socket_set.SocketStorage.{SocketStorage}
 use Rattle.sockets.specs.declared.socket.Socket.{Socket}
 use Rattle.lan.specs.Worlds.AtLink.Call.{SocketCall}
 use Rattle.lan.specs.Worlds.AtLink.Tables.{has_call}
@@ -17,7 +17,7 @@ use Rattle.lan.specs.Worlds.AtLink.Kinds.Kind.{OfHost}
 use Rattle.lan.specs.Worlds.AtLink.Calls.{Did}
 use Rattle.lan.specs.Worlds.AtLink.Answers.{HasTaken}
 use Rattle.lan.specs.Worlds.AtLink.Does.{does, draws}
-use Rattle.lan.specs.Worlds.AtLink.Station.{kind_at}
+use Rattle.lan.specs.Worlds.AtLink.Node.{kind_at}
 use Rattle.lan.specs.declared.at_link.answer.Taken.{Taken}
 
 -- what an event does to a socket, where it is a call that a socket of its kind has
@@ -45,13 +45,13 @@ ItemCalls h ps i kind (Some item) said h' ps' =
     × (h' ≡ (if draws_by (context_of h.inner) item.socket kind then with_inner h (drawn h.inner) else h))
     × (ps' ≡ slice_set ps i (with_socket item socket))
 
--- what an event does to the socket at a place; nothing where the place is free
-abbrev pub PlaceCalls : HostValue → List (SocketStorage Socket) → ℕ → Kind → Option (SocketStorage Socket) → Option Taken → HostValue →
+-- what an event does to the socket at a slot; nothing where the slot is free
+abbrev pub SlotCalls : HostValue → List (SocketStorage Socket) → ℕ → Kind → Option (SocketStorage Socket) → Option Taken → HostValue →
     List (SocketStorage Socket) → Type 0
-PlaceCalls h ps i kind None said h' ps' = (said ≡ None) × (h' ≡ h) × (ps' ≡ ps)
-PlaceCalls h ps i kind (Some place) said h' ps' = ItemCalls h ps i kind place.inner said h' ps'
+SlotCalls h ps i kind None said h' ps' = (said ≡ None) × (h' ≡ h) × (ps' ≡ ps)
+SlotCalls h ps i kind (Some slot) said h' ps' = ItemCalls h ps i kind slot.inner said h' ps'
 
--- the event is a call of the socket at this place, and a socket of its kind has it
+-- the event is a call of the socket at this slot, and a socket of its kind has it
 abbrev pub IsCall : List (SocketStorage Socket) → ℕ → Kind → Type 0
 IsCall ps i (OfHost side (Calls j call)) = (j ≡ i) × (is_called (kind_at ps i) call ≡ true)
 IsCall ps i kind = ⊥

@@ -3,28 +3,28 @@ use Rattle.std.specs.Prelude.{◌≡◌, ℕ, nat_lt, if◌then◌else◌, List,
 use Rattle.ip_wire.specs.IpListenEndpoint.{IpListenEndpoint}
 use Rattle.net_base.specs.Packets.{first}
 use Rattle.sockets.specs.Context.{ContextValue}
-use Rattle.sockets.specs.SocketValue as Datagrams
-use Rattle.sockets.specs.Udp as Udps
-use Rattle.sockets.specs.Udp.{UdpValue, metadata_to}
-use Rattle.sockets.specs.declared.error.BindError.{BindError}
-use Rattle.sockets.specs.declared.error.BindError.TheVariants as Bind
-use Rattle.sockets.specs.declared.error.SendError.{SendError}
-use Rattle.sockets.specs.declared.error.SendError.TheVariants as SendTo
-use Rattle.sockets.specs.declared.udp.UdpMetadata.{UdpMetadata}
-use Rattle.tcp_model.specs.ConnectError.{ConnectError}
-use Rattle.tcp_model.specs.ConnectError.TheVariants as Connect
-use Rattle.tcp_model.specs.ListenError.{ListenError}
-use Rattle.tcp_model.specs.ListenError.TheVariants as Listen
-use Rattle.tcp_model.specs.RecvError.{RecvError}
-use Rattle.tcp_model.specs.RecvError.TheVariants as Recv
-use Rattle.tcp_model.specs.SendError as Writes
-use Rattle.tcp_model.specs.SendError.TheVariants as Send
-use Rattle.tcp_model.specs.State.{State}
-use Rattle.tcp_model.specs.Calls.{listen_answer, listen_after, connect_answer, connect_after, send_answer, send_after, recv_answer, recv_after, close_after}
-use Rattle.tcp_model.specs.Calls.{abort_after}
-use Rattle.tcp_model.specs.Settings.{set_timeout, set_ack_delay, set_keep_alive, set_nagle_enabled, set_hop_limit, set_congestion_control, set_tsval_generator}
-use Rattle.tcp_model.specs.Settings.{pause_synack}
-use Rattle.tcp_model.specs.Value.{TcpValue, unoffered}
+use Rattle.socket_datagram.specs.SocketValue as Datagrams
+use Rattle.socket_datagram.specs.Udp as Udps
+use Rattle.socket_datagram.specs.Udp.{UdpValue, metadata_to}
+use Rattle.socket_datagram.specs.declared.error.BindError.{BindError}
+use Rattle.socket_datagram.specs.declared.error.BindError.TheVariants as Bind
+use Rattle.socket_datagram.specs.declared.error.SendError.{SendError}
+use Rattle.socket_datagram.specs.declared.error.SendError.TheVariants as SendTo
+use Rattle.socket_datagram.specs.declared.udp.UdpMetadata.{UdpMetadata}
+use Rattle.tcp_block.specs.ConnectError.{ConnectError}
+use Rattle.tcp_block.specs.ConnectError.TheVariants as Connect
+use Rattle.tcp_block.specs.ListenError.{ListenError}
+use Rattle.tcp_block.specs.ListenError.TheVariants as Listen
+use Rattle.tcp_block.specs.RecvError.{RecvError}
+use Rattle.tcp_block.specs.RecvError.TheVariants as Recv
+use Rattle.tcp_block.specs.SendError as Writes
+use Rattle.tcp_block.specs.SendError.TheVariants as Send
+use Rattle.tcp_block.specs.State.{State}
+use Rattle.tcp_block.specs.Calls.{listen_answer, listen_after, connect_answer, connect_after, send_answer, send_after, recv_answer, recv_after, close_after}
+use Rattle.tcp_block.specs.Calls.{abort_after}
+use Rattle.tcp_block.specs.Settings.{set_timeout, set_ack_delay, set_keep_alive, set_nagle_enabled, set_hop_limit, set_congestion_control, set_tsval_generator}
+use Rattle.tcp_block.specs.Settings.{pause_synack}
+use Rattle.tcp_block.specs.Value.{TcpValue, unoffered}
 use Rattle.lan.specs.declared.at_link.history.answer.Answer.{Answer}
 use Rattle.lan.specs.declared.at_link.history.answer.Answer.TheVariants as To
 use Rattle.lan.specs.declared.at_link.history.answer.Fault.{Fault}
@@ -83,16 +83,16 @@ read_by v (Ok count) = recv_after v count
 read_by v (Err e) = unoffered v
 
 -- a hop limit of 0 counts as none
-abbrev pub hops_or_none : Option ℕ → Option ℕ
-hops_or_none None = None
-hops_or_none (Some n) = if nat_lt 0 n then Some n else None
+abbrev pub hop_limit_or_none : Option ℕ → Option ℕ
+hop_limit_or_none None = None
+hop_limit_or_none (Some n) = if nat_lt 0 n then Some n else None
 
 abbrev pub setting_after : TcpValue → TcpSetting → TcpValue
 setting_after v (Changed.Timeout duration) = set_timeout v duration
 setting_after v (Changed.AckDelay duration) = set_ack_delay v duration
 setting_after v (Changed.KeepAlive interval) = set_keep_alive v interval
 setting_after v (Changed.NagleEnabled enabled) = set_nagle_enabled v enabled
-setting_after v (Changed.HopLimit hops) = set_hop_limit v (hops_or_none hops)
+setting_after v (Changed.HopLimit hop_limit) = set_hop_limit v (hop_limit_or_none hop_limit)
 setting_after v (Changed.CongestionControl control) = set_congestion_control v control
 setting_after v (Changed.TsvalGenerator generator) = set_tsval_generator v generator
 setting_after v (Changed.PauseSynack paused) = pause_synack v paused
@@ -113,9 +113,9 @@ tcp_does cx v (Call.Connect remote port) =
     Some (did (done_or connect_fault (connect_answer cx v remote (at_port port))) (connect_after cx v remote (at_port port)))
 tcp_does cx v (Call.Send bytes) = Some (did (count_or write_fault (send_answer v (length bytes))) (send_after v bytes))
 tcp_does cx v (Call.Recv limit) = Some (did (bytes_or v (recv_answer v limit)) (read_by v (recv_answer v limit)))
-tcp_does cx v Call.Close = Some (record { answer = To.Done; found = Some v.block.state; socket = close_after v })
+tcp_does cx v Call.Close = Some (record { answer = To.Done; found = Some v.tcb.state; socket = close_after v })
 tcp_does cx v Call.Abort = Some (did To.Done (abort_after v))
-tcp_does cx v Call.State = Some (did (To.State v.block.state) v)
+tcp_does cx v Call.State = Some (did (To.State v.tcb.state) v)
 tcp_does cx v (Call.Set setting) = Some (did To.Done (setting_after v setting))
 tcp_does cx v call = None
 

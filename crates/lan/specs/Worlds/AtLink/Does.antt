@@ -1,23 +1,23 @@
--- What a call of an application makes of the socket at a place, whatever kind it is of.
+-- What a call of an application makes of the socket at a slot, whatever kind it is of.
 use Rattle.std.specs.Prelude.{◌≡◌, ℕ, nat_lt, if◌then◌else◌, Bool, false, List, length, slice_get, slice_set, Option, None, Some}
 use Rattle.ip_wire.specs.IpAddress.{IpAddress}
 use Rattle.net_base.specs.Packets.{first}
 use Rattle.sockets.specs.Context.{ContextValue}
-use Rattle.sockets.specs.SocketValue as Datagrams
-use Rattle.sockets.specs.Icmp as Icmps
-use Rattle.sockets.specs.Icmp.{IcmpValue}
-use Rattle.sockets.specs.Raw as Raws
-use Rattle.sockets.specs.Raw.{RawValue}
-use Rattle.sockets.specs.declared.icmp.Endpoint.TheVariants as Bound
-use Rattle.sockets.specs.declared.raw.SendError as RawErrors
-use Rattle.sockets.specs.declared.raw.SendError.TheVariants as RawSend
-use Rattle.tcp_model.specs.Calls.{connect_draws}
-use Rattle.tcp_model.specs.State as States
+use Rattle.socket_datagram.specs.SocketValue as Datagrams
+use Rattle.socket_datagram.specs.Icmp as Icmps
+use Rattle.socket_datagram.specs.Icmp.{IcmpValue}
+use Rattle.socket_datagram.specs.Raw as Raws
+use Rattle.socket_datagram.specs.Raw.{RawValue}
+use Rattle.socket_datagram.specs.declared.icmp.Endpoint.TheVariants as Bound
+use Rattle.socket_datagram.specs.declared.raw.SendError as RawErrors
+use Rattle.socket_datagram.specs.declared.raw.SendError.TheVariants as RawSend
+use Rattle.tcp_block.specs.Calls.{connect_draws}
+use Rattle.tcp_block.specs.State as States
 use Rattle.interface.specs.Host.{HostValue}
-use Rattle.interface_egress.specs.Inner.{context_of, drawn}
-use Rattle.interface_egress.specs.Set.{with_socket}
-use Rattle.interface_egress.specs.declared.socket_set.Item.{Item}
-use Rattle.interface_egress.specs.declared.socket_set.SocketStorage.{SocketStorage}
+use Rattle.iface_egress.specs.Inner.{context_of, drawn}
+use Rattle.iface_egress.specs.Set.{with_socket}
+use Rattle.iface_egress.specs.declared.socket_set.Item.{Item}
+use Rattle.iface_egress.specs.declared.socket_set.SocketStorage.{SocketStorage}
 use Rattle.sockets.specs.declared.socket.Socket.{Socket}
 use Rattle.sockets.specs.declared.socket.Socket.TheVariants as Is
 use Rattle.lan.specs.Worlds.AtLink.Call as Call
@@ -27,7 +27,7 @@ use Rattle.lan.specs.declared.at_link.history.answer.Answer.TheVariants as To
 use Rattle.lan.specs.declared.at_link.history.answer.Fault.{Fault}
 use Rattle.lan.specs.declared.at_link.history.answer.Fault.TheVariants as For
 use Rattle.lan.specs.Worlds.AtLink.Calls.{Did, did, done_or, bind_fault, send_fault, at_port, tcp_does, udp_does}
-use Rattle.lan.specs.Worlds.AtLink.Station.{StationValue}
+use Rattle.lan.specs.Worlds.AtLink.Node.{NodeValue}
 
 -- AN ICMP SOCKET
 
@@ -87,21 +87,21 @@ host_after h socket call = if draws (context_of h.inner) socket call then record
 -- THE CALL OF A PLACE
 
 -- what a call did to its host, which answered so and found so
-abbrev pub DidAt : StationValue → ℕ → Item Socket → SocketCall → Option (Did Socket) → Answer → Option States.State → StationValue → Type 0
+abbrev pub DidAt : NodeValue → ℕ → Item Socket → SocketCall → Option (Did Socket) → Answer → Option States.State → NodeValue → Type 0
 DidAt s i item call None answer found s' = ⊥
 DidAt s i item call (Some d) answer found s' =
     (answer ≡ d.answer) × (found ≡ d.found)
-    × (s' ≡ record s { host = host_after s.host item.socket call; places = slice_set s.places i (with_socket item d.socket) })
+    × (s' ≡ record s { host = host_after s.host item.socket call; slots = slice_set s.slots i (with_socket item d.socket) })
 
-abbrev pub ItemDoes : StationValue → ℕ → Option (Item Socket) → SocketCall → Answer → Option States.State → StationValue → Type 0
+abbrev pub ItemDoes : NodeValue → ℕ → Option (Item Socket) → SocketCall → Answer → Option States.State → NodeValue → Type 0
 ItemDoes s i None call answer found s' = ⊥
 ItemDoes s i (Some item) call answer found s' =
     DidAt s i item call (does (context_of s.host.inner) item.socket call) answer found s'
 
-abbrev pub PlaceDoes : StationValue → ℕ → Option (SocketStorage Socket) → SocketCall → Answer → Option States.State → StationValue → Type 0
-PlaceDoes s i None call answer found s' = ⊥
-PlaceDoes s i (Some place) call answer found s' = ItemDoes s i place.inner call answer found s'
+abbrev pub SlotDoes : NodeValue → ℕ → Option (SocketStorage Socket) → SocketCall → Answer → Option States.State → NodeValue → Type 0
+SlotDoes s i None call answer found s' = ⊥
+SlotDoes s i (Some slot) call answer found s' = ItemDoes s i slot.inner call answer found s'
 
--- the socket at a place does what the call says, and nothing else of its host changes
-abbrev pub Does : StationValue → ℕ → SocketCall → Answer → Option States.State → StationValue → Type 0
-Does s i call answer found s' = PlaceDoes s i (slice_get s.places i) call answer found s'
+-- the socket at a slot does what the call says, and nothing else of its host changes
+abbrev pub Does : NodeValue → ℕ → SocketCall → Answer → Option States.State → NodeValue → Type 0
+Does s i call answer found s' = SlotDoes s i (slice_get s.slots i) call answer found s'

@@ -1,7 +1,7 @@
 -- What a history of events and answers says of a socket.
 use Rattle.std.specs.Prelude.{ℕ, ◌==◌, ◌&&◌, ◌||◌, Bool, true, false, if◌then◌else◌, List, [], ◌∷◌, ◌++◌, take, Option, Some, None}
-use Rattle.tcp_tie.specs.History.{closes_in}
-use Rattle.tcp_model.specs.State as States
+use Rattle.tcp_refinement.specs.History.{closes_in}
+use Rattle.tcp_block.specs.State as States
 use Rattle.lan.specs.declared.at_link.history.answer.Answer.{Answer}
 use Rattle.lan.specs.declared.at_link.history.answer.Answer.TheVariants as To
 use Rattle.lan.specs.declared.at_link.history.event.Event.{Event}

@@ -30,19 +30,19 @@ pub data Setting : Type 0 where
 
 -- what one host does
 pub data Act : Type 0 where
-  Calls : (place : ℕ) (call : SocketCall) → Act
+  Calls : (slot : ℕ) (call : SocketCall) → Act
   Sets : (setting : Setting) → Act
   -- room for so many frames more in its device
   Opens : (room : ℕ) → Act
   -- it is asked when it wants to be polled
-  Asks : (moment : ℤ) → Act
-  Polls : (moment : ℤ) (budget : ℕ) → Act
+  Asks : (instant : ℤ) → Act
+  Polls : (instant : ℤ) (budget : ℕ) → Act
 
--- where a frame comes from that the link hands to a host: a sent frame of a place with padding behind it, the same with the word at a
+-- where a frame comes from that the link hands to a host: a sent frame of a slot with padding after it, the same with the word at a
 -- place of its TCP segment exchanged, or bytes
 pub data Origin : Type 0 where
   Delivered : (from : Side) (frame : ℕ) (padding : List ℕ) → Origin
-  Damaged : (from : Side) (frame place word : ℕ) (padding : List ℕ) → Origin
+  Damaged : (from : Side) (frame slot word : ℕ) (padding : List ℕ) → Origin
   Noisy : (to : Side) (bytes : List ℕ) → Origin
 
 -- what the link does: it hands a frame over, or cuts a sent one
@@ -55,7 +55,7 @@ pub data Kind : Type 0 where
   OfLink : (act : LinkAct) → Kind
 
 abbrev pub calls : Side → ℕ → SocketCall → Kind
-calls side place call = OfHost side (Calls place call)
+calls side slot call = OfHost side (Calls slot call)
 
 abbrev pub kind_of : Event → Kind
 kind_of (E.Listen side i port) = calls side i (Call.Listen port)
@@ -77,10 +77,10 @@ kind_of (E.Addrs side blocks) = OfHost side (Sets (Addrs blocks.items))
 kind_of (E.Route side router) = OfHost side (Sets (Route router))
 kind_of (E.AnyIp side any) = OfHost side (Sets (AnyIp any))
 kind_of (E.ReassemblyTimeout side timeout) = OfHost side (Sets (ReassemblyTimeout timeout))
-kind_of (E.Poll side moment budget) = OfHost side (Polls moment budget)
-kind_of (E.PollAt side moment) = OfHost side (Asks moment)
+kind_of (E.Poll side instant budget) = OfHost side (Polls instant budget)
+kind_of (E.PollAt side instant) = OfHost side (Asks instant)
 kind_of (E.Room side room) = OfHost side (Opens room)
 kind_of (E.Deliver from k padding) = OfLink (Hands (Delivered from k padding))
-kind_of (E.Damage from k place word padding) = OfLink (Hands (Damaged from k place word padding))
+kind_of (E.Damage from k slot word padding) = OfLink (Hands (Damaged from k slot word padding))
 kind_of (E.Noise to bytes) = OfLink (Hands (Noisy to bytes))
 kind_of (E.Cut from k at) = OfLink (Cuts from k at)

@@ -8,18 +8,18 @@ use Rattle.ip_wire.specs.UdpRepr.{UdpRepr}
 use Rattle.net_base.specs.Packets.{contents}
 use Rattle.sockets.specs.Context.{ContextValue}
 use Rattle.sockets.specs.Offer as Answers
-use Rattle.sockets.specs.SocketValue as Datagrams
-use Rattle.sockets.specs.Udp as Udps
-use Rattle.sockets.specs.Udp.{UdpValue}
-use Rattle.tcp_tie.specs.Segment.Control.{Rst}
-use Rattle.tcp_tie.specs.Host.{Made, seen_of, IsSeenAmong, and_answer, and_offer}
-use Rattle.tcp_tie.specs.Tie.{core_of}
-use Rattle.tcp_model.specs.Arrival.{arrives}
-use Rattle.tcp_model.specs.Names.{accepts}
-use Rattle.tcp_model.specs.Offers.{offer_of}
-use Rattle.tcp_model.specs.Settled.{settled}
-use Rattle.tcp_model.specs.Value.{TcpValue}
-use Rattle.tcp_model.specs.State.{State}
+use Rattle.socket_datagram.specs.SocketValue as Datagrams
+use Rattle.socket_datagram.specs.Udp as Udps
+use Rattle.socket_datagram.specs.Udp.{UdpValue}
+use Rattle.tcp_refinement.specs.Segment.Control.{Rst}
+use Rattle.tcp_refinement.specs.Host.{Made, seen_of, IsSeenAmong, and_answer, and_offer}
+use Rattle.tcp_refinement.specs.Tie.{core_of}
+use Rattle.tcp_block.specs.Arrival.{arrives}
+use Rattle.tcp_block.specs.Names.{accepts}
+use Rattle.tcp_block.specs.Offers.{offer_of}
+use Rattle.tcp_block.specs.Settled.{settled}
+use Rattle.tcp_block.specs.Value.{TcpValue}
+use Rattle.tcp_block.specs.State.{State}
 use Rattle.lan.specs.declared.at_link.history.answer.Answer.{Answer}
 use Rattle.lan.specs.declared.at_link.history.answer.Answer.TheVariants as To
 use Rattle.lan.specs.declared.at_link.history.event.Side.{Side}
@@ -31,27 +31,27 @@ use Rattle.lan.specs.Worlds.AtLink.Call as Call
 use Rattle.lan.specs.Worlds.AtLink.History.{Entry}
 use Rattle.lan.specs.Worlds.AtLink.Tables.{IsAllowed}
 use Rattle.lan.specs.Worlds.AtLink.Calls.{Did, tcp_does, udp_does}
-use Rattle.lan.specs.Worlds.AtLink.Parties.{Socket, Party, socket_at, WasMade, datagrams_of, Net, party, with_party, places_of}
+use Rattle.lan.specs.Worlds.AtLink.Parties.{Socket, Party, socket_at, WasMade, datagrams_of, Net, party, with_party, slots_of}
 use Rattle.lan.specs.Worlds.AtLink.Parties.Socket.{Tcp, Udp, Icmp, Raw}
 
--- A move of a host, which names the socket at the place as it is, and of a call what it is afterwards.
+-- A move of a host, which names the socket at the slot as it is, and of a call what it is afterwards.
 pub data Move : Type 0 where
   -- an application's call of a socket, as the history has it
-  Invokes : (place : ℕ) (cx : ContextValue) (old : Socket) (entry : Entry) (call : SocketCall) (new : Socket) → Move
+  Invokes : (slot : ℕ) (cx : ContextValue) (old : Socket) (entry : Entry) (call : SocketCall) (new : Socket) → Move
   -- an event that is no call of a TCP or UDP socket
   Passes : (entry : Entry) → Move
   -- a TCP socket is asked for a segment, and the offer is settled; one that is sent leaves from this address
-  Offers : (place : ℕ) (cx : ContextValue) (v : TcpValue) (from : IpAddress) (sent : Bool) → Move
+  Offers : (slot : ℕ) (cx : ContextValue) (v : TcpValue) (from : IpAddress) (sent : Bool) → Move
   -- a UDP socket is asked for a datagram, and the offer is settled
-  Gives : (place : ℕ) (cx : ContextValue) (v : UdpValue) (answer : Answers.Offer) (v' : UdpValue) (sent : Bool) → Move
+  Gives : (slot : ℕ) (cx : ContextValue) (v : UdpValue) (answer : Answers.Offer) (v' : UdpValue) (sent : Bool) → Move
   -- a TCP segment that is seen as one that the other host made comes to a socket that accepts it
-  Takes : (place : ℕ) (cx : ContextValue) (v : TcpValue) (ip : IpRepr) (header : TcpHeader) (bytes : List ℕ) → Move
+  Takes : (slot : ℕ) (cx : ContextValue) (v : TcpValue) (ip : IpRepr) (header : TcpHeader) (bytes : List ℕ) → Move
   -- a UDP datagram that the other host made comes to a socket that accepts it
-  Receives : (place : ℕ) (cx : ContextValue) (v : UdpValue) (ip : IpRepr) (udp : UdpRepr) (bytes : List ℕ) → Move
+  Receives : (slot : ℕ) (cx : ContextValue) (v : UdpValue) (ip : IpRepr) (udp : UdpRepr) (bytes : List ℕ) → Move
   -- the host itself makes a reset
   Resets : (x : Made) → Move
   -- nothing that is looked at changes
-  Changes : (place : ℕ) (old new : Socket) → Move
+  Changes : (slot : ℕ) (old new : Socket) → Move
 
 -- CALLS
 
@@ -77,7 +77,7 @@ Does cx Raw call answer found Raw = IsOfOthers call answer × (found ≡ None)
 Does cx old call answer found new = ⊥
 
 abbrev pub IsNoCall : Kind → Type 0
-IsNoCall (OfHost side (Calls place call)) = ⊥
+IsNoCall (OfHost side (Calls slot call)) = ⊥
 IsNoCall kind = Unit {0}
 
 -- SAME
@@ -105,41 +105,41 @@ offered_segments true p from v = and_offer p.segments from v.offered v.queued.qu
 offered_segments false p from v = p.segments
 
 abbrev pub party_after : Party → Move → Party
-party_after p (Invokes place cx old entry call new) = with_socket p place new
+party_after p (Invokes slot cx old entry call new) = with_socket p slot new
 party_after p (Passes entry) = p
-party_after p (Offers place cx v from sent) =
-    record (with_socket p place (Tcp (settled sent (offer_of cx v).socket))) { segments = offered_segments sent p from (offer_of cx v).socket }
-party_after p (Gives place cx v answer v' sent) =
-    record (with_socket p place (Udp (Datagrams.settled sent v'))) { datagrams = p.datagrams ++ datagrams_of v'.offered }
-party_after p (Takes place cx v ip header bytes) =
-    record (with_socket p place (Tcp (arrives cx v ip header bytes).socket)) { segments = and_answer p.segments (arrives cx v ip header bytes).answer }
-party_after p (Receives place cx v ip udp bytes) = with_socket p place (Udp (Udps.process_after v ip udp bytes))
+party_after p (Offers slot cx v from sent) =
+    record (with_socket p slot (Tcp (settled sent (offer_of cx v).socket))) { segments = offered_segments sent p from (offer_of cx v).socket }
+party_after p (Gives slot cx v answer v' sent) =
+    record (with_socket p slot (Udp (Datagrams.settled sent v'))) { datagrams = p.datagrams ++ datagrams_of v'.offered }
+party_after p (Takes slot cx v ip header bytes) =
+    record (with_socket p slot (Tcp (arrives cx v ip header bytes).socket)) { segments = and_answer p.segments (arrives cx v ip header bytes).answer }
+party_after p (Receives slot cx v ip udp bytes) = with_socket p slot (Udp (Udps.process_after v ip udp bytes))
 party_after p (Resets x) = record p { segments = p.segments ++ x ∷ [] }
-party_after p (Changes place old new) = with_socket p place new
+party_after p (Changes slot old new) = with_socket p slot new
 
 abbrev pub history_after : List Entry → Move → List Entry
-history_after history (Invokes place cx old entry call new) = entry ∷ history
+history_after history (Invokes slot cx old entry call new) = entry ∷ history
 history_after history (Passes entry) = entry ∷ history
 history_after history move = history
 
 -- WHAT MAY HAPPEN. `names` says whether an IP packet carries TCP or UDP.
 
 abbrev pub May : (List ℕ → Bool) → Net → Side → Move → Type 0
-May names net side (Invokes place cx old entry call new) =
-    (socket_at (party net side) place ≡ Some old) × (kind_of entry.event ≡ calls side place call)
-    × IsAllowed (places_of names net) net.history (kind_of entry.event) × Does cx old call entry.answer entry.found new
+May names net side (Invokes slot cx old entry call new) =
+    (socket_at (party net side) slot ≡ Some old) × (kind_of entry.event ≡ calls side slot call)
+    × IsAllowed (slots_of names net) net.history (kind_of entry.event) × Does cx old call entry.answer entry.found new
 May names net side (Passes entry) = IsNoCall (kind_of entry.event)
-May names net side (Offers place cx v from sent) =
-    (socket_at (party net side) place ≡ Some (Tcp v)) × IfSome (offer_of cx v).socket.offered (λ o. LeavesFrom cx from o.header)
-May names net side (Gives place cx v answer v' sent) = (socket_at (party net side) place ≡ Some (Udp v)) × Udps.Offers cx v answer v'
-May names net side (Takes place cx v ip header bytes) =
-    (socket_at (party net side) place ≡ Some (Tcp v)) × (accepts v.block ip header ≡ true)
+May names net side (Offers slot cx v from sent) =
+    (socket_at (party net side) slot ≡ Some (Tcp v)) × IfSome (offer_of cx v).socket.offered (λ o. LeavesFrom cx from o.header)
+May names net side (Gives slot cx v answer v' sent) = (socket_at (party net side) slot ≡ Some (Udp v)) × Udps.Offers cx v answer v'
+May names net side (Takes slot cx v ip header bytes) =
+    (socket_at (party net side) slot ≡ Some (Tcp v)) × (accepts v.tcb ip header ≡ true)
     × IsSeenAmong (party net (other side)).segments header bytes
-May names net side (Receives place cx v ip udp bytes) =
-    (socket_at (party net side) place ≡ Some (Udp v)) × (Udps.accepts cx v ip udp ≡ true)
+May names net side (Receives slot cx v ip udp bytes) =
+    (socket_at (party net side) slot ≡ Some (Udp v)) × (Udps.accepts cx v ip udp ≡ true)
     × WasMade (party net (other side)) (record { source = udp.src_port; destination = udp.dst_port; bytes = bytes })
 May names net side (Resets x) = (seen_of x).control ≡ Rst
-May names net side (Changes place old new) = (socket_at (party net side) place ≡ Some old) × LooksSame old new
+May names net side (Changes slot old new) = (socket_at (party net side) slot ≡ Some old) × LooksSame old new
 
 -- RUNS
 

@@ -3,15 +3,15 @@
 use Rattle.std.specs.Prelude.{◌≡◌, ℕ, Bool, List, [], ◌∷◌, ◌++◌, map, slice_get, slice_index_or, Option, Some, None}
 use Rattle.sockets.specs.Packet.{PacketValue, PayloadValue}
 use Rattle.sockets.specs.Packet as Carried
-use Rattle.sockets.specs.Udp.{UdpValue}
-use Rattle.tcp_tie.specs.Host.{Made}
-use Rattle.tcp_model.specs.Value.{TcpValue}
+use Rattle.socket_datagram.specs.Udp.{UdpValue}
+use Rattle.tcp_refinement.specs.Host.{Made}
+use Rattle.tcp_block.specs.Value.{TcpValue}
 use Rattle.lan.specs.declared.at_link.history.event.Side.{Side}
 use Rattle.lan.specs.declared.at_link.history.event.Side.TheVariants.{A, B}
 use Rattle.lan.specs.declared.at_link.history.record.SocketKind.{SocketKind}
 use Rattle.lan.specs.declared.at_link.history.record.SocketKind.TheVariants as Of
 use Rattle.lan.specs.Worlds.AtLink.History.{Entry}
-use Rattle.lan.specs.Worlds.AtLink.Tables.{Places}
+use Rattle.lan.specs.Worlds.AtLink.Tables.{Slots}
 
 -- a socket; one of ICMP or a raw one makes and takes neither segment nor datagram, so nothing of it is looked at
 pub data Socket : Type 0 where
@@ -36,7 +36,7 @@ pub record Datagram : Type 0 where
   pub destination : ℕ
   pub bytes : List ℕ
 
--- A host: its sockets by place, and the segments and datagrams that it ever made, oldest first, whether they left it or not. More than
+-- A host: its sockets by slot, and the segments and datagrams that it ever made, oldest first, whether they left it or not. More than
 -- what may arrive is harmless here.
 pub record Party : Type 0 where
   pub sockets : List (Option Socket)
@@ -72,5 +72,5 @@ abbrev pub with_party : Net → Side → Party → Net
 with_party net A p = record net { a = p }
 with_party net B p = record net { b = p }
 
-abbrev pub places_of : (List ℕ → Bool) → Net → Places
-places_of names net = record { a = map kind_in net.a.sockets; b = map kind_in net.b.sockets; names = names }
+abbrev pub slots_of : (List ℕ → Bool) → Net → Slots
+slots_of names net = record { a = map kind_in net.a.sockets; b = map kind_in net.b.sockets; names = names }

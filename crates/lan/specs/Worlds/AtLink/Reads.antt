@@ -10,7 +10,7 @@ use Rattle.lan.specs.Worlds.AtLink.Kinds.Act.{Calls}
 use Rattle.lan.specs.Worlds.AtLink.Kinds.Kind.{OfHost}
 use Rattle.lan.specs.Worlds.AtLink.Call as Call
 use Rattle.lan.specs.Worlds.AtLink.History.{Entry, written, read, is_closed_by, bound_port}
-use Rattle.lan.specs.Worlds.AtLink.Partners.{ArePartners}
+use Rattle.lan.specs.Worlds.AtLink.PeerSides.{ArePartners}
 
 -- DATAGRAMS. `starts` says which ports the sockets were bound to at first.
 
@@ -43,12 +43,12 @@ ReadsWereAccepted starts (e ∷ past) = ReadWasAccepted starts past (kind_of e.e
 
 -- THE END OF A STREAM
 
--- the partner was closed, and all that it wrote was read
+-- the peer was closed, and all that it wrote was read
 pub record HasEnded (past : List Entry) (side : Side) (i : ℕ) : Type 0 where
-  pub partner : ℕ
-  pub partners : ArePartners past side i partner
-  pub closed : is_closed_by past (other side) partner ≡ true
-  pub complete : read past side i ≡ written past (other side) partner
+  pub peer_side : ℕ
+  pub peer_sides : ArePartners past side i peer_side
+  pub closed : is_closed_by past (other side) peer_side ≡ true
+  pub complete : read past side i ≡ written past (other side) peer_side
 
 -- a read that is answered by the end of the stream
 abbrev pub EndWasTrue : List Entry → Kind → Answer → Type 0

@@ -14,15 +14,15 @@ use Rattle.lan.specs.declared.at_link.history.record.Opening.{Opening}
 use Rattle.lan.specs.declared.at_link.history.record.SocketRecord.{SocketRecord}
 use Rattle.lan.specs.Worlds.AtLink.Origins.{medium_of, is_cut_of, begins_datagram}
 use Rattle.lan.specs.Worlds.AtLink.Refusals.{Table}
-use Rattle.lan.specs.Worlds.AtLink.Station.{StationValue}
+use Rattle.lan.specs.Worlds.AtLink.Node.{NodeValue}
 
 -- how many datagrams a host began in an event, before which it had sent so many frames
 abbrev pub datagrams_added : Side → Kind → Medium → ℕ → List (List ℕ) → ℕ
 datagrams_added side kind medium before sent =
     if is_cut_of side kind then 0 else count_by (begins_datagram medium) (drop before sent)
 
--- a host's table behind an event that was answered so and left the host so
-abbrev pub table_next : Side → Kind → Answer → ℕ → StationValue → Table → Table
+-- a host's table after an event that was answered so and left the host so
+abbrev pub table_next : Side → Kind → Answer → ℕ → NodeValue → Table → Table
 table_next side kind answer before s t = record {
   records = table_after kind answer side t.records;
   numbered = t.numbered + datagrams_added side kind (medium_of s) before s.link.sent;
@@ -31,9 +31,9 @@ table_next side kind answer before s t = record {
 -- BY EVENT
 
 -- the place of the socket that is called, where it is this host's
-abbrev pub place_of : Side → Kind → Option ℕ
-place_of side (OfHost s (Calls i call)) = if same_side s side then Some i else None
-place_of side kind = None
+abbrev pub slot_of : Side → Kind → Option ℕ
+slot_of side (OfHost s (Calls i call)) = if same_side s side then Some i else None
+slot_of side kind = None
 
 abbrev pub opening_in : Kind → Answer → Option Opening
 opening_in (OfHost s (Calls i call)) answer = opening_by (Some call) answer
@@ -43,7 +43,7 @@ abbrev pub written_in : Kind → Answer → ℕ
 written_in (OfHost s (Calls i call)) answer = length (bytes_written (Some call) answer)
 written_in kind answer = 0
 
--- a record behind an event of its socket
+-- a record after an event of its socket
 abbrev pub record_by : SocketRecord → Kind → Answer → SocketRecord
 record_by r kind answer = record {
   opened = first_of r.opened (opening_in kind answer);

@@ -5,10 +5,10 @@ use Rattle.ip_wire.specs.Fields.{be16}
 use Rattle.interface.specs.Settings.{is_moment}
 use Rattle.interface.specs.Used.{sockets_in}
 use Rattle.net_base.specs.Medium.TheVariants as Medium
-use Rattle.lan_base.specs.Carried.{names_tcp_or_udp}
-use Rattle.lan_base.specs.Cuts.{ipv4_part}
-use Rattle.lan_base.specs.Parts.{tcp_part, bytes_at}
-use Rattle.lan_base.specs.declared.part.Part.{Part}
+use Rattle.sim_link.specs.PacketInFrame.{names_tcp_or_udp}
+use Rattle.sim_link.specs.Cuts.{ipv4_part}
+use Rattle.sim_link.specs.Parts.{tcp_part, bytes_at}
+use Rattle.sim_link.specs.declared.part.Part.{Part}
 use Rattle.lan.specs.Worlds.AtLink.Kinds.{Kind, Act, LinkAct, Delivered, Damaged, Noisy}
 use Rattle.lan.specs.Worlds.AtLink.Kinds.Kind.{OfHost, OfLink}
 use Rattle.lan.specs.Worlds.AtLink.Kinds.Act.{Calls, Asks, Polls}
@@ -19,7 +19,7 @@ use Rattle.lan.specs.declared.at_link.history.answer.Refused.TheVariants as For
 use Rattle.lan.specs.declared.at_link.history.event.Side.{Side}
 use Rattle.lan.specs.declared.at_link.history.event.Side.TheVariants.{A, B}
 use Rattle.lan.specs.declared.at_link.history.record.SocketRecord.{SocketRecord}
-use Rattle.lan.specs.Worlds.AtLink.Station.{StationValue, Stations, station, kind_at}
+use Rattle.lan.specs.Worlds.AtLink.Node.{NodeValue, Nodes, node, kind_at}
 use Rattle.lan.specs.Worlds.AtLink.Origins.{medium_of, frame_sent}
 
 -- what is kept of a host's history: a record for each place of its socket set, and how many datagrams it numbered
@@ -39,34 +39,34 @@ table tables B = tables.b
 
 -- In each pass of a poll each socket may send a datagram, and so may each frame that is taken be answered by one. One number is for
 -- one datagram, so a host stops before it has used all of them.
-abbrev pub may_run_out : StationValue → Table → ℕ → Bool
-may_run_out s t budget = nat_le (2 ^ 16) (t.numbered + budget * (1 + sockets_in s.places))
+abbrev pub may_run_out : NodeValue → Table → ℕ → Bool
+may_run_out s t budget = nat_le (2 ^ 16) (t.numbered + budget * (1 + sockets_in s.slots))
 
--- no moment, or before the host's last
-abbrev pub is_too_early : StationValue → ℤ → Bool
-is_too_early s moment = not (is_moment moment) || int_lt moment s.host.inner.moment
+-- no instant, or before the host's last
+abbrev pub is_too_early : NodeValue → ℤ → Bool
+is_too_early s instant = not (is_moment instant) || int_lt instant s.host.inner.instant
 
-abbrev pub act_tests : StationValue → Table → Act → List (Bool × Refused)
-act_tests s t (Calls i call) = call_tests (names_tcp_or_udp Medium.Ip) (kind_at s.places i) t.records i call
-act_tests s t (Polls moment budget) = (may_run_out s t budget, For.TooManyCut) ∷ (is_too_early s moment, For.Moment) ∷ []
-act_tests s t (Asks moment) = (is_too_early s moment, For.Moment) ∷ []
+abbrev pub act_tests : NodeValue → Table → Act → List (Bool × Refused)
+act_tests s t (Calls i call) = call_tests (names_tcp_or_udp Medium.Ip) (kind_at s.slots i) t.records i call
+act_tests s t (Polls instant budget) = (may_run_out s t budget, For.TooManyCut) ∷ (is_too_early s instant, For.Moment) ∷ []
+act_tests s t (Asks instant) = (is_too_early s instant, For.Moment) ∷ []
 act_tests s t act = []
 
 -- OF THE LINK
 
-abbrev pub is_no_frame : StationValue → ℕ → Bool
+abbrev pub is_no_frame : NodeValue → ℕ → Bool
 is_no_frame s k = not (nat_lt k (length s.link.sent))
 
--- the place is odd, or the word ends past the segment
-abbrev pub is_no_place : Part → ℕ → Bool
-is_no_place part place = (place % 2 == 1) || nat_lt part.len (place + 2)
+-- the slot is odd, or the word ends past the segment
+abbrev pub is_no_slot : Part → ℕ → Bool
+is_no_slot part slot = (slot % 2 == 1) || nat_lt part.len (slot + 2)
 
 abbrev pub is_same_sum : List ℕ → Part → ℕ → ℕ → Bool
-is_same_sum frame part place word = be16 (bytes_at frame part) place % 65535 == word % 65535
+is_same_sum frame part slot word = be16 (bytes_at frame part) slot % 65535 == word % 65535
 
 abbrev pub segment_tests : List ℕ → Option Part → ℕ → ℕ → List (Bool × Refused)
-segment_tests frame None place word = (true, For.NotTcp) ∷ []
-segment_tests frame (Some part) place word = (is_no_place part place, For.Place) ∷ (is_same_sum frame part place word, For.SameSum) ∷ []
+segment_tests frame None slot word = (true, For.NotTcp) ∷ []
+segment_tests frame (Some part) slot word = (is_no_slot part slot, For.Place) ∷ (is_same_sum frame part slot word, For.SameSum) ∷ []
 
 -- a cut leaves bytes on both sides, and eight of them or a multiple in front (RFC 791, section 3.2)
 abbrev pub is_no_cut : Part → ℕ → Bool
@@ -76,27 +76,27 @@ abbrev pub cut_tests : Option Part → ℕ → List (Bool × Refused)
 cut_tests None at = (true, For.NotIpv4) ∷ []
 cut_tests (Some part) at = (is_no_cut part at, For.CutPlace) ∷ []
 
-abbrev pub link_tests : Stations → LinkAct → List (Bool × Refused)
-link_tests hosts (Hands (Delivered from k padding)) = (is_no_frame (station hosts from) k, For.NoFrame) ∷ []
-link_tests hosts (Hands (Damaged from k place word padding)) =
-    (is_no_frame (station hosts from) k, For.NoFrame)
-    ∷ segment_tests (frame_sent hosts from k) (tcp_part (medium_of (station hosts from)) (frame_sent hosts from k)) place word
-link_tests hosts (Hands (Noisy to bytes)) = (names_tcp_or_udp (medium_of (station hosts to)) bytes, For.NamesTcpOrUdp) ∷ []
+abbrev pub link_tests : Nodes → LinkAct → List (Bool × Refused)
+link_tests hosts (Hands (Delivered from k padding)) = (is_no_frame (node hosts from) k, For.NoFrame) ∷ []
+link_tests hosts (Hands (Damaged from k slot word padding)) =
+    (is_no_frame (node hosts from) k, For.NoFrame)
+    ∷ segment_tests (frame_sent hosts from k) (tcp_part (medium_of (node hosts from)) (frame_sent hosts from k)) slot word
+link_tests hosts (Hands (Noisy to bytes)) = (names_tcp_or_udp (medium_of (node hosts to)) bytes, For.NamesTcpOrUdp) ∷ []
 link_tests hosts (Cuts from k at) =
-    (is_no_frame (station hosts from) k, For.NoFrame)
-    ∷ cut_tests (ipv4_part (medium_of (station hosts from)) (frame_sent hosts from k)) at
+    (is_no_frame (node hosts from) k, For.NoFrame)
+    ∷ cut_tests (ipv4_part (medium_of (node hosts from)) (frame_sent hosts from k)) at
 
 -- OF AN EVENT
 
-abbrev pub tests : Stations → Tables → Kind → List (Bool × Refused)
-tests hosts tables (OfHost side act) = act_tests (station hosts side) (table tables side) act
+abbrev pub tests : Nodes → Tables → Kind → List (Bool × Refused)
+tests hosts tables (OfHost side act) = act_tests (node hosts side) (table tables side) act
 tests hosts tables (OfLink act) = link_tests hosts act
 
--- why an event isn't taken, but for want of memory; none where it is
-abbrev pub refusal : Stations → Tables → Kind → Option Refused
+-- why an event isn't taken, but for lack of memory; none where it is
+abbrev pub refusal : Nodes → Tables → Kind → Option Refused
 refusal hosts tables kind = first_refusal (tests hosts tables kind)
 
--- a refusal of an event: that which it must have, or want of memory where it must have none
-abbrev pub MayRefuse : Stations → Tables → Kind → Refused → Type 0
+-- a refusal of an event: that which it must have, or lack of memory where it must have none
+abbrev pub MayRefuse : Nodes → Tables → Kind → Refused → Type 0
 MayRefuse hosts tables kind refused =
     (refusal hosts tables kind ≡ Some refused) ⊎ ((refusal hosts tables kind ≡ None) × (refused ≡ For.Memory))

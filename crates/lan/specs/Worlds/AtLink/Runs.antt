@@ -1,7 +1,7 @@
 -- A world of two hosts, and its runs.
 use Rattle.std.specs.Prelude.{◌≡◌, ℕ, List, [], ◌∷◌, length, map, reverse, Option, None}
 use Rattle.interface.specs.Host.{HostValue}
-use Rattle.interface_egress.specs.declared.socket_set.SocketStorage.{SocketStorage}
+use Rattle.iface_egress.specs.declared.socket_set.SocketStorage.{SocketStorage}
 use Rattle.lan.specs.Worlds.AtLink.History.{Entry, Counts}
 use Rattle.lan.specs.Worlds.AtLink.Kinds.{kind_of}
 use Rattle.lan.specs.Worlds.AtLink.Tables.{table_of}
@@ -10,10 +10,10 @@ use Rattle.lan.specs.declared.at_link.history.answer.Refused.{Refused}
 use Rattle.lan.specs.declared.at_link.history.event.Event.{Event}
 use Rattle.lan.specs.declared.at_link.history.event.Side.{Side}
 use Rattle.lan.specs.declared.at_link.history.event.Side.TheVariants.{A, B}
-use Rattle.lan_base.specs.Port.{unused_end}
+use Rattle.sim_link.specs.Port.{unused_end}
 use Rattle.net_base.specs.DeviceCapabilities.{DeviceCapabilities}
 use Rattle.sockets.specs.declared.socket.Socket.{Socket}
-use Rattle.lan.specs.Worlds.AtLink.Station.{StationValue, Stations}
+use Rattle.lan.specs.Worlds.AtLink.Node.{NodeValue, Nodes}
 use Rattle.lan.specs.Worlds.AtLink.Origins.{medium_of, numbered}
 use Rattle.lan.specs.Worlds.AtLink.Refusals.{Table, Tables, refusal}
 use Rattle.lan.specs.Worlds.AtLink.Steps.{Happens}
@@ -21,7 +21,7 @@ use Rattle.lan.specs.Worlds.AtLink.Steps.{Happens}
 -- what a host was when its world was made: nothing was sent, and nothing waited
 pub record Start : Type 0 where
   pub host : HostValue
-  pub places : List (SocketStorage Socket)
+  pub slots : List (SocketStorage Socket)
   pub capabilities : DeviceCapabilities
   pub room : ℕ
   pub refusals : ℕ
@@ -34,15 +34,15 @@ abbrev pub start : Starts → Side → Start
 start starts A = starts.a
 start starts B = starts.b
 
-abbrev pub unused : Start → StationValue
-unused s = record { host = s.host; places = s.places; link = record (unused_end s.capabilities) { room = s.room; refusals = s.refusals } }
+abbrev pub unused : Start → NodeValue
+unused s = record { host = s.host; slots = s.slots; link = record (unused_end s.capabilities) { room = s.room; refusals = s.refusals } }
 
-abbrev pub unused_both : Starts → Stations
+abbrev pub unused_both : Starts → Nodes
 unused_both starts = record { a = unused starts.a; b = unused starts.b }
 
 -- a world: its hosts at the link, what they were at first, and all that happened since, the newest first
 pub record WorldValue : Type 0 where
-  pub hosts : Stations
+  pub hosts : Nodes
   pub starts : Starts
   pub history : List Entry
 
@@ -52,21 +52,21 @@ answers_of history = reverse (map (λ (e : Entry). e.answer) history)
 
 -- TABLES of a history, which refusals read
 
-abbrev pub table_in : List Entry → Side → StationValue → Table
+abbrev pub table_in : List Entry → Side → NodeValue → Table
 table_in history side s = record {
-  records = table_of history side (length s.places);
+  records = table_of history side (length s.slots);
   numbered = numbered (medium_of s) side history s.link.sent;
 }
 
-abbrev pub tables_in : List Entry → Stations → Tables
+abbrev pub tables_in : List Entry → Nodes → Tables
 tables_in history hosts = record { a = table_in history A hosts.a; b = table_in history B hosts.b }
 
-abbrev pub refusal_in : List Entry → Stations → Event → Option Refused
+abbrev pub refusal_in : List Entry → Nodes → Event → Option Refused
 refusal_in history hosts event = refusal hosts (tables_in history hosts) (kind_of event)
 
 -- STEPS
 
-abbrev pub counts_of : Stations → Counts
+abbrev pub counts_of : Nodes → Counts
 counts_of hosts = record {
   sent_a = length hosts.a.link.sent;
   sent_b = length hosts.b.link.sent;
@@ -75,7 +75,7 @@ counts_of hosts = record {
 }
 
 -- an entry was allowed by the history before it, and leads from hosts to hosts
-pub record Leads (past : List Entry) (old : Stations) (e : Entry) (new : Stations) : Type 0 where
+pub record Leads (past : List Entry) (old : Nodes) (e : Entry) (new : Nodes) : Type 0 where
   pub allowed : refusal_in past old e.event ≡ None
   pub counted : e.before ≡ counts_of old
   pub happens : Happens old (kind_of e.event) e.answer e.found new
@@ -95,6 +95,6 @@ Steps old [] new = new ≡ old
 Steps old (event ∷ events) new = (answer : Answer) × (next : WorldValue) × Step old event answer next × Steps next events new
 
 -- the hosts and the link went from one state to the other by this history
-abbrev pub WorldRun : List Entry → Stations → Stations → Type 0
+abbrev pub WorldRun : List Entry → Nodes → Nodes → Type 0
 WorldRun [] from to = to ≡ from
-WorldRun (e ∷ past) from to = (before : Stations) × WorldRun past from before × Leads past before e to
+WorldRun (e ∷ past) from to = (before : Nodes) × WorldRun past from before × Leads past before e to

@@ -7,8 +7,8 @@ use Rattle.ip_wire.specs.IpAddress.TheVariants as Address
 use Rattle.interface.specs.Made.{with_inner, with_timeout}
 use Rattle.interface.specs.Host.{HostValue, host_at}
 use Rattle.interface.specs.Instant.{poll_instant}
-use Rattle.interface_egress.specs.Inner.{at_moment}
-use Rattle.interface_ingress.specs.Route.{RoutesValue, is_gateway_v4, is_gateway_v6, IsGateway, IsAdded, has_room}
+use Rattle.iface_egress.specs.Inner.{at_instant}
+use Rattle.iface_ingress.specs.Route.{RoutesValue, is_gateway_v4, is_gateway_v6, IsGateway, IsAdded, has_room}
 use Rattle.interface.specs.Settings.{hardware_refusal, with_hardware, is_stranger, with_addresses, with_any_ip, routes_of, with_routes}
 use Rattle.interface.specs.HardwareAddrError.{HardwareAddrError}
 use Rattle.interface.specs.HardwareAddrError.TheVariants as Set
@@ -19,7 +19,7 @@ use Rattle.lan.specs.declared.at_link.history.answer.Answer.{Answer}
 use Rattle.lan.specs.declared.at_link.history.answer.Answer.TheVariants as To
 use Rattle.lan.specs.declared.at_link.history.answer.Fault.{Fault}
 use Rattle.lan.specs.declared.at_link.history.answer.Fault.TheVariants as For
-use Rattle.lan.specs.Worlds.AtLink.Station.{StationValue}
+use Rattle.lan.specs.Worlds.AtLink.Node.{NodeValue}
 
 abbrev pub hardware_fault : HardwareAddrError → Fault
 hardware_fault Set.Medium = For.Medium
@@ -59,18 +59,18 @@ SetsTo h (Sets.Route router) h' =
 SetsTo h (Sets.AnyIp any) h' = h' ≡ with_inner h (with_any_ip h.inner any)
 SetsTo h (Sets.ReassemblyTimeout timeout) h' = h' ≡ with_timeout h timeout
 
--- the host, with nothing else of its station changed
-abbrev pub Configures : StationValue → Setting → Answer → StationValue → Type 0
+-- the host, with nothing else of its host changed
+abbrev pub Configures : NodeValue → Setting → Answer → NodeValue → Type 0
 Configures s setting answer s' =
     (h : HostValue) × SetsTo s.host setting h × (answer ≡ setting_answer s.host setting) × (s' ≡ record s { host = h })
 
 -- from now on the device takes so many frames more
-abbrev pub with_room : StationValue → ℕ → StationValue
+abbrev pub with_room : NodeValue → ℕ → NodeValue
 with_room s n = record s { link = record s.link { room = n } }
 
--- when the host wants to be polled, asked at a moment
-abbrev pub instant_at : StationValue → ℤ → Option ℤ
-instant_at s moment = poll_instant (at_moment moment s.host.inner) s.host.left s.places
+-- when the host wants to be polled, asked at an instant
+abbrev pub instant_at : NodeValue → ℤ → Option ℤ
+instant_at s instant = poll_instant (at_instant instant s.host.inner) s.host.left s.slots
 
-abbrev pub asked : StationValue → ℤ → StationValue
-asked s moment = record s { host = host_at moment s.host }
+abbrev pub asked : NodeValue → ℤ → NodeValue
+asked s instant = record s { host = host_at instant s.host }

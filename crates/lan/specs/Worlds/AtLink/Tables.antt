@@ -38,10 +38,10 @@ table_after (OfHost s (Calls i call)) answer side table =
     if same_side s side then slice_set table i (record_after (record_at table i) call answer) else table
 table_after other answer side table = table
 
--- the table that a history leads to, of so many places
+-- the table that a history leads to, of so many slots
 abbrev pub table_of : List Entry → Side → ℕ → List SocketRecord
-table_of [] side places = replicate places no_record
-table_of (e ∷ past) side places = table_after (kind_of e.event) e.answer side (table_of past side places)
+table_of [] side slots = replicate slots no_record
+table_of (e ∷ past) side slots = table_after (kind_of e.event) e.answer side (table_of past side slots)
 
 -- REFUSALS. The first test that holds says why.
 
@@ -104,39 +104,39 @@ own_tests names table i (Call.Send bytes) = (is_too_many (record_at table i) (le
 own_tests names table i (Call.SendRaw bytes) = (names bytes, For.RawProtocol) ∷ []
 own_tests names table i call = []
 
--- the tests of a call of the socket at a place, in their order
+-- the tests of a call of the socket at a slot, in their order
 abbrev pub call_tests : (List ℕ → Bool) → Option SocketKind → List SocketRecord → ℕ → SocketCall → List (Bool × Refused)
 call_tests names kind table i call =
     (not (is_some kind), For.NoSocket) ∷ (is_wrong_kind kind call, For.WrongKind) ∷ own_tests names table i call
 
--- why a call isn't taken, but for want of memory; none where it is
+-- why a call isn't taken, but for lack of memory; none where it is
 abbrev pub call_refusal : (List ℕ → Bool) → Option SocketKind → List SocketRecord → ℕ → SocketCall → Option Refused
 call_refusal names kind table i call = first_refusal (call_tests names kind table i call)
 
 -- ALLOWED HISTORIES: no call was taken that had to be refused. The sockets stay where they are, each of its kind.
 
 -- which kind of socket is at each place of both hosts, and whether an IP packet carries TCP or UDP
-pub record Places : Type 0 where
+pub record Slots : Type 0 where
   pub a : List (Option SocketKind)
   pub b : List (Option SocketKind)
   pub names : List ℕ → Bool
 
-abbrev pub kinds : Places → Side → List (Option SocketKind)
-kinds places A = places.a
-kinds places B = places.b
+abbrev pub kinds : Slots → Side → List (Option SocketKind)
+kinds slots A = slots.a
+kinds slots B = slots.b
 
-abbrev pub kind_at : Places → Side → ℕ → Option SocketKind
-kind_at places side i = slice_index_or (kinds places side) i None
+abbrev pub kind_at : Slots → Side → ℕ → Option SocketKind
+kind_at slots side i = slice_index_or (kinds slots side) i None
 
-abbrev pub IsAllowed : Places → List Entry → Kind → Type 0
-IsAllowed places past (OfHost side (Calls i call)) =
-    call_refusal places.names (kind_at places side i) (table_of past side (length (kinds places side))) i call ≡ None
-IsAllowed places past other = Unit {0}
+abbrev pub IsAllowed : Slots → List Entry → Kind → Type 0
+IsAllowed slots past (OfHost side (Calls i call)) =
+    call_refusal slots.names (kind_at slots side i) (table_of past side (length (kinds slots side))) i call ≡ None
+IsAllowed slots past other = Unit {0}
 
-abbrev pub AreAllowed : Places → List Entry → Type 0
-AreAllowed places [] = Unit {0}
-AreAllowed places (e ∷ past) = IsAllowed places past (kind_of e.event) × AreAllowed places past
+abbrev pub AreAllowed : Slots → List Entry → Type 0
+AreAllowed slots [] = Unit {0}
+AreAllowed slots (e ∷ past) = IsAllowed slots past (kind_of e.event) × AreAllowed slots past
 
--- what the history says of the socket at a place
+-- what the history says of the socket at a slot
 abbrev pub record_of : List Entry → Side → ℕ → SocketRecord
 record_of history side i = record { opened = opening history side i; accepted = length (written history side i) }

@@ -1,52 +1,52 @@
 -- A damaged frame does no harm, whenever it is taken.
 use Rattle.std.specs.Prelude.{◌≡◌, ◌<◌, ◌^◌, ℕ, true, List, [], ◌∷◌, None}
-use Rattle.interface_ingress.specs.HardwareAddress.{HardwareAddress}
+use Rattle.iface_ingress.specs.HardwareAddress.{HardwareAddress}
 use Rattle.interface.specs.IpRepr.TheVariants as Ip
-use Rattle.interface_ingress.specs.Arrives.{Arrived, Arrives}
-use Rattle.interface_ingress.specs.Delivered.{Places}
-use Rattle.interface_ingress.specs.Incoming.{IncomingValue, Arp, Ip4, Ip6, IsIncoming}
-use Rattle.interface_ingress.specs.Kept.{with_ports, IsDamaged}
-use Rattle.interface_ingress.specs.Reassembled.{Slots, uncut}
-use Rattle.interface_tables.specs.Inner.{InnerValue}
-use Rattle.interface_tables.specs.Settings.{is_of_medium}
+use Rattle.iface_ingress.specs.Arrives.{Arrived, Arrives}
+use Rattle.iface_ingress.specs.Delivered.{Slots}
+use Rattle.iface_ingress.specs.Incoming.{IncomingValue, Arp, Ip4, Ip6, IsIncoming}
+use Rattle.iface_ingress.specs.FragmentStored.{with_ports, IsDamaged}
+use Rattle.iface_ingress.specs.Reassembled.{Assemblers, uncut}
+use Rattle.iface_tables.specs.Inner.{InnerValue}
+use Rattle.iface_tables.specs.Settings.{is_of_medium}
 use Rattle.lan.specs.Worlds.AtLink.History.{Entry}
 use Rattle.lan.specs.Worlds.AtLink.Kinds.{Kind, Origin, Damaged, kind_of}
 use Rattle.lan.specs.Worlds.AtLink.Kinds.Kind.{OfLink}
 use Rattle.lan.specs.Worlds.AtLink.Kinds.LinkAct.{Hands}
 use Rattle.lan.specs.Worlds.AtLink.Origins.{medium_of, frame_of_origin}
 use Rattle.lan.specs.Worlds.AtLink.Runs.{Leads, WorldRun}
-use Rattle.lan.specs.Worlds.AtLink.Station.{Stations, station}
-use Rattle.lan_base.specs.Capabilities.{all_checksums}
-use Rattle.lan_base.specs.Checksum.TheVariants.{Both}
-use Rattle.lan_base.specs.ChecksumCapabilities.{ChecksumCapabilities}
-use Rattle.lan_base.specs.Medium.{Medium}
+use Rattle.lan.specs.Worlds.AtLink.Node.{Nodes, node}
+use Rattle.sim_link.specs.Capabilities.{all_checksums}
+use Rattle.sim_link.specs.Checksum.TheVariants.{Both}
+use Rattle.sim_link.specs.ChecksumCapabilities.{ChecksumCapabilities}
+use Rattle.sim_link.specs.Medium.{Medium}
 
--- Whichever host of the medium takes the frame, with whatever addresses, sockets and half rebuilt datagrams: if it tests all checksums,
+-- Whichever host of the medium takes the frame, with whatever addresses, sockets and half reassembled datagrams: if it tests all checksums,
 -- its TCP and UDP sockets stay as they were, and it answers nothing.
 abbrev pub IsHarmless : Medium → List ℕ → Type 0
-IsHarmless medium frame = (i : InnerValue) (timeout : ℕ) (slots after : Slots) (places : Places) (a : Arrived)
-    → is_of_medium i.hardware medium ≡ true → i.checksums ≡ all_checksums Both → Arrives i timeout slots places frame after a
-    → (with_ports a.places ≡ with_ports places) × (a.reply ≡ None)
+IsHarmless medium frame = (i : InnerValue) (timeout : ℕ) (assemblers after : Assemblers) (slots : Slots) (a : Arrived)
+    → is_of_medium i.hardware medium ≡ true → i.checksums ≡ all_checksums Both → Arrives i timeout assemblers slots frame after a
+    → (with_ports a.slots ≡ with_ports slots) × (a.reply ≡ None)
 
 -- IN A HISTORY
 
-abbrev pub IsHarmlessFrom : Stations → Origin → Type 0
-IsHarmlessFrom hosts (Damaged from k place word padding) =
-    IsHarmless (medium_of (station hosts from)) (frame_of_origin hosts (Damaged from k place word padding))
+abbrev pub IsHarmlessFrom : Nodes → Origin → Type 0
+IsHarmlessFrom hosts (Damaged from k slot word padding) =
+    IsHarmless (medium_of (node hosts from)) (frame_of_origin hosts (Damaged from k slot word padding))
 IsHarmlessFrom hosts o = Unit {0}
 
-abbrev pub IsHarmlessBy : Stations → Kind → Type 0
+abbrev pub IsHarmlessBy : Nodes → Kind → Type 0
 IsHarmlessBy hosts (OfLink (Hands o)) = IsHarmlessFrom hosts o
 IsHarmlessBy hosts kind = Unit {0}
 
 -- the frame of each damage that a history has is harmless
-abbrev pub DamageIsHarmless : Stations → List Entry → Type 0
+abbrev pub DamageIsHarmless : Nodes → List Entry → Type 0
 DamageIsHarmless hosts [] = Unit {0}
 DamageIsHarmless hosts (e ∷ past) = IsHarmlessBy hosts (kind_of e.event) × DamageIsHarmless hosts past
 
 -- a word has 16 bits
 abbrev pub HasWord : Kind → Type 0
-HasWord (OfLink (Hands (Damaged from k place word padding))) = word < 2 ^ 16
+HasWord (OfLink (Hands (Damaged from k slot word padding))) = word < 2 ^ 16
 HasWord kind = Unit {0}
 
 abbrev pub HaveWords : List Entry → Type 0
@@ -54,8 +54,8 @@ HaveWords [] = Unit {0}
 HaveWords (e ∷ past) = HasWord (kind_of e.event) × HaveWords past
 
 -- each was harmless when it was handed over
-abbrev pub WasHarmless : Stations → Type 0
-WasHarmless from = (past : List Entry) (old new : Stations) (e : Entry) → HaveWords past → HasWord (kind_of e.event) → WorldRun past from old →
+abbrev pub WasHarmless : Nodes → Type 0
+WasHarmless from = (past : List Entry) (old new : Nodes) (e : Entry) → HaveWords past → HasWord (kind_of e.event) → WorldRun past from old →
     Leads past old e new
     → IsHarmlessBy old (kind_of e.event)
 
@@ -64,7 +64,7 @@ WasHarmless from = (past : List Entry) (old new : Stations) (e : Entry) → Have
 -- a packet of TCP that nobody cut, whose payload is no segment
 abbrev pub IsNoSegment : ChecksumCapabilities → IncomingValue → Type 0
 IsNoSegment caps (Arp link packet) = ⊥
-IsNoSegment caps (Ip4 link header piece payload) = (piece ≡ uncut) × IsDamaged caps (Ip.Ipv4 header) payload
+IsNoSegment caps (Ip4 link header fragment payload) = (fragment ≡ uncut) × IsDamaged caps (Ip.Ipv4 header) payload
 IsNoSegment caps (Ip6 link header payload) = IsDamaged caps (Ip.Ipv6 header) payload
 
 -- a host of the medium that tests all checksums reads nothing else in the frame

@@ -1,12 +1,12 @@
 -- Requests for neighbours by the bytes of their frames, whatever a host calls what leaves it (RFC 826; RFC 4861, section 4.3).
 use Rattle.std.specs.Prelude.{ℕ, ◌==◌, ◌&&◌, ◌||◌, if◌then◌else◌, ℤ, Bool, false, List, [], ◌∷◌, ◌++◌, slice_index}
-use Rattle.lan_base.specs.Medium.{Medium}
-use Rattle.interface_egress.specs.declared.socket_set.SocketStorage.{SocketStorage}
-use Rattle.interface_ingress.specs.Fields.{be16}
+use Rattle.sim_link.specs.Medium.{Medium}
+use Rattle.iface_egress.specs.declared.socket_set.SocketStorage.{SocketStorage}
+use Rattle.iface_ingress.specs.Fields.{be16}
 use Rattle.sockets.specs.declared.socket.Socket.{Socket}
 use Rattle.sockets.specs.declared.socket.Socket.TheVariants as Is
-use Rattle.lan.specs.Worlds.Hosts.Asked.{AreApart}
-use Rattle.lan.specs.Worlds.Hosts.Machine.{Turn, moment_of}
+use Rattle.lan.specs.Worlds.Hosts.RequestSilence.{AreApart}
+use Rattle.lan.specs.Worlds.Hosts.Machine.{Turn, instant_of}
 use Rattle.lan.specs.Worlds.Moves.Raws.{OfEach}
 
 -- FRAMES ON ETHERNET
@@ -37,7 +37,7 @@ asked_in test t (frame ∷ frames) = if test frame then t ∷ asked_in test t fr
 -- when a host sent a frame that passes, the newest first
 abbrev pub asked : (List ℕ → Bool) → List Turn → List ℤ
 asked test [] = []
-asked test (turn ∷ past) = asked_in test (moment_of turn.act) turn.sent ++ asked test past
+asked test (turn ∷ past) = asked_in test (instant_of turn.act) turn.sent ++ asked test past
 
 -- WHAT IS PROMISED
 
@@ -52,6 +52,6 @@ HasPorts (Is.Dns v) = Unit {0}
 
 -- The frames that a host with these sockets sent in these turns: ARP requests are a second apart. So are requests and solicitations
 -- together, where all sockets are of these kinds; the others may be given any solicitation to send.
-pub record FramesAreApart (medium : Medium) (places : List (SocketStorage Socket)) (turns : List Turn) : Type 0 where
+pub record FramesAreApart (medium : Medium) (slots : List (SocketStorage Socket)) (turns : List Turn) : Type 0 where
   pub requests : AreApart (asked (on_medium medium is_request) turns)
-  pub all : OfEach HasPorts places → AreApart (asked (on_medium medium asks) turns)
+  pub all : OfEach HasPorts slots → AreApart (asked (on_medium medium asks) turns)

@@ -1,12 +1,12 @@
 -- The frames that a host sends, and those that the link makes of them.
 use Rattle.std.specs.Prelude.{◌≡◌, ◌⊎◌, ◌%◌, ◌^◌, ◌+◌, ◌<◌, ◌≤◌, ℕ, true, false, List, [], ◌∷◌, ◌++◌, length, Option, Some}
 use Rattle.std.specs.Int.{w32, to_be_bytes}
-use Rattle.lan_base.specs.Medium.{Medium}
-use Rattle.ip_address.specs.Protocol.{protocol_number}
-use Rattle.ip_address.specs.declared.ipv4.Ipv4FragKey.{Ipv4FragKey}
-use Rattle.interface_ingress.specs.HardwareAddress.{HardwareAddress}
-use Rattle.interface_ingress.specs.HardwareAddress.TheVariants as Hardware
-use Rattle.interface_ingress.specs.IpProtocol.{IpProtocol}
+use Rattle.sim_link.specs.Medium.{Medium}
+use Rattle.wire_address.specs.Protocol.{protocol_number}
+use Rattle.wire_address.specs.declared.ipv4.Ipv4FragKey.{Ipv4FragKey}
+use Rattle.iface_ingress.specs.HardwareAddress.{HardwareAddress}
+use Rattle.iface_ingress.specs.HardwareAddress.TheVariants as Hardware
+use Rattle.iface_ingress.specs.IpProtocol.{IpProtocol}
 use Rattle.interface.specs.IpRepr.{IpRepr}
 use Rattle.interface.specs.IpRepr.TheVariants as Ip
 use Rattle.interface.specs.Ipv4 as Ipv4
@@ -15,17 +15,17 @@ use Rattle.interface.specs.Ipv4Repr.{Ipv4Repr}
 use Rattle.interface.specs.Ipv6 as Ipv6
 use Rattle.interface.specs.Ipv6Repr.{Ipv6Repr}
 use Rattle.sockets.specs.Packet.{PacketValue}
-use Rattle.interface_tables.specs.Pieces as Pieces
-use Rattle.interface_tables.specs.declared.key.FragKey.{FragKey}
-use Rattle.interface_tables.specs.declared.key.FragKey.TheVariants as Keys
-use Rattle.interface_tables.specs.declared.key.Ipv6FragKey.{Ipv6FragKey}
-use Rattle.interface_egress.specs.Departure.{piece_v6, fragment_header}
-use Rattle.interface_ingress.specs.Headers.{is_extension}
-use Rattle.interface_ingress.specs.Incoming.{IncomingValue, Arp, Ip4, Ip6, IsIncoming}
-use Rattle.interface_ingress.specs.Reassembled.{PieceValue, part_v4, part_in}
-use Rattle.lan_base.specs.Parts.{may_carry}
-use Rattle.lan_base.specs.Slices.{Slice, IsSliceOf, IsLinkHeader, frame_of_slice}
-use Rattle.lan_base.specs.Capabilities.{frame_header}
+use Rattle.iface_tables.specs.FragmentList as FragmentList
+use Rattle.iface_tables.specs.declared.key.FragKey.{FragKey}
+use Rattle.iface_tables.specs.declared.key.FragKey.TheVariants as Keys
+use Rattle.iface_tables.specs.declared.key.Ipv6FragKey.{Ipv6FragKey}
+use Rattle.iface_egress.specs.Departure.{fragment_v6, fragment_header}
+use Rattle.iface_ingress.specs.Headers.{is_extension}
+use Rattle.iface_ingress.specs.Incoming.{IncomingValue, Arp, Ip4, Ip6, IsIncoming}
+use Rattle.iface_ingress.specs.Reassembled.{FragmentValue, part_v4, part_in}
+use Rattle.sim_link.specs.Parts.{may_carry}
+use Rattle.sim_link.specs.Slices.{Slice, IsSliceOf, IsLinkHeader, frame_of_slice}
+use Rattle.sim_link.specs.Capabilities.{frame_header}
 use Rattle.lan.specs.Worlds.Link.Made.{Makes, sealed, bytes_of, IsWholeMade, IsGoing}
 
 -- the medium that has such addresses
@@ -33,7 +33,7 @@ abbrev pub medium_on : HardwareAddress → Medium
 medium_on (Hardware.Ethernet own) = Medium.Ethernet
 medium_on Hardware.Ip = Medium.Ip
 
--- A packet of which a host sent the first frame at least; of IPv6, which has none in its header, the identification of its pieces,
+-- A packet of which a host sent the first frame at least; of IPv6, which has none in its header, the identification of its fragments,
 -- where it was cut
 pub record Outgoing : Type 0 where
   pub packet : PacketValue
@@ -57,7 +57,7 @@ abbrev pub IsNumbered : PacketValue → ℕ → List Outgoing → Type 0
 IsNumbered p n [] = ⊥
 IsNumbered p n (o ∷ out) = ((p ≡ o.packet) × (number_of o ≡ Some n)) ⊎ IsNumbered p n out
 
--- one of them is an IPv4 packet with this header and these bytes behind it
+-- one of them is an IPv4 packet with this header and these bytes after it
 pub record IsSentV4 (out : List Outgoing) (v : Ipv4Repr) (bytes : List ℕ) : Type 0 where
   pub packet : PacketValue
   pub among : IsAmong packet out
@@ -75,7 +75,7 @@ pub record IsSentV6 (out : List Outgoing) (v : Ipv6Repr) (bytes : List ℕ) : Ty
   pub len : v.payload_len ≡ length bytes
   pub fits : Ipv6.Fits v
 
--- one of them is an IPv6 packet with this header and these bytes behind it, without extension headers, which was cut under this number
+-- one of them is an IPv6 packet with this header and these bytes after it, without extension headers, which was cut under this number
 pub record IsCutV6 (out : List Outgoing) (v : Ipv6Repr) (number : ℕ) (bytes : List ℕ) : Type 0 where
   pub sent : IsSentV6 out v bytes
   pub numbered : IsNumbered sent.packet number out
@@ -85,7 +85,7 @@ pub record IsCutV6 (out : List Outgoing) (v : Ipv6Repr) (number : ℕ) (bytes : 
 
 -- FRAMES
 
--- a frame of a slice of an IPv4 packet: the whole of it, a piece that its host cut, or one that the link cut
+-- a frame of a slice of an IPv4 packet: the whole of it, a fragment that its host cut, or one that the link cut
 pub record IsSlice (medium : Medium) (out : List Outgoing) (frame : List ℕ) : Type 0 where
   pub link : List ℕ
   pub header : Ipv4Repr
@@ -111,20 +111,20 @@ pub record IsWhole6 (medium : Medium) (out : List Outgoing) (frame : List ℕ) :
   pub is_link : IsLinkHeader6 medium link
   pub frame_is : frame ≡ link ++ (Ipv6.written header ++ bytes)
 
--- a frame of a piece of an IPv6 packet that its host cut (RFC 8200, section 4.5)
-pub record IsPiece6 (medium : Medium) (out : List Outgoing) (frame : List ℕ) : Type 0 where
+-- a frame of a fragment of an IPv6 packet that its host cut (RFC 8200, section 4.5)
+pub record IsFragment6 (medium : Medium) (out : List Outgoing) (frame : List ℕ) : Type 0 where
   pub link : List ℕ
   pub header : Ipv6Repr
   pub number : ℕ
   pub bytes : List ℕ
-  pub piece : Pieces.Piece
+  pub fragment : FragmentList.FragmentPart
   pub cut : IsCutV6 out header number bytes
   pub is_link : IsLinkHeader6 medium link
-  pub within : Pieces.IsSliceOf bytes piece
-  pub room : piece.offset + length piece.bytes ≤ length bytes
-  pub unit : piece.offset % 8 ≡ 0
-  pub units : piece.more ≡ true → length piece.bytes % 8 ≡ 0
-  pub frame_is : frame ≡ link ++ (Ipv6.written (piece_v6 header piece) ++ (fragment_header header.next_header number piece ++ piece.bytes))
+  pub within : FragmentList.IsSliceOf bytes fragment
+  pub room : fragment.offset + length fragment.bytes ≤ length bytes
+  pub unit : fragment.offset % 8 ≡ 0
+  pub units : fragment.more ≡ true → length fragment.bytes % 8 ≡ 0
+  pub frame_is : frame ≡ link ++ (Ipv6.written (fragment_v6 header fragment) ++ (fragment_header header.next_header number fragment ++ fragment.bytes))
 
 -- DATAGRAMS as slots hold them, by their keys
 
@@ -135,17 +135,17 @@ pub record IsDatagramV4 (out : List Outgoing) (key : Ipv4FragKey) (bytes : List 
   pub key_is : key ≡ Ipv4.key_of (Ipv4.normal header)
 
 -- the fragment header of a datagram that is whole, and its payload
-abbrev pub behind_fragment : IpProtocol → (number : ℕ) → List ℕ → List ℕ
-behind_fragment carried number payload = protocol_number carried ∷ 0 ∷ 0 ∷ 0 ∷ (to_be_bytes w32 number ++ payload)
+abbrev pub following_fragment : IpProtocol → (number : ℕ) → List ℕ → List ℕ
+following_fragment carried number payload = protocol_number carried ∷ 0 ∷ 0 ∷ 0 ∷ (to_be_bytes w32 number ++ payload)
 
--- the payload of an IPv6 packet that was cut under the key's number, of its addresses, behind such a header
+-- the payload of an IPv6 packet that was cut under the key's number, of its addresses, after such a header
 pub record IsDatagramV6 (out : List Outgoing) (key : Ipv6FragKey) (bytes : List ℕ) : Type 0 where
   pub header : Ipv6Repr
   pub payload : List ℕ
   pub cut : IsCutV6 out header key.id payload
   pub source : key.src_addr ≡ header.src_addr
   pub destination : key.dst_addr ≡ header.dst_addr
-  pub bytes_are : bytes ≡ behind_fragment header.next_header key.id payload
+  pub bytes_are : bytes ≡ following_fragment header.next_header key.id payload
 
 abbrev pub IsDatagram : List Outgoing → FragKey → List ℕ → Type 0
 IsDatagram out (Keys.Ipv4 key) bytes = IsDatagramV4 out key bytes
@@ -153,26 +153,26 @@ IsDatagram out (Keys.Ipv6 key) bytes = IsDatagramV6 out key bytes
 
 -- CONTENTS
 
--- a piece, or the whole, of a datagram that was sent: its bytes at their place
-pub record IsPieceOf (out : List Outgoing) (p : PieceValue) : Type 0 where
+-- a fragment, or the whole, of a datagram that was sent: its bytes at their slot
+pub record IsFragmentOf (out : List Outgoing) (p : FragmentValue) : Type 0 where
   pub bytes : List ℕ
   pub sent : IsDatagram out p.key bytes
-  pub slice : Pieces.IsSliceOf bytes (record { offset = p.offset; more = p.more; bytes = p.bytes })
+  pub slice : FragmentList.IsSliceOf bytes (record { offset = p.offset; more = p.more; bytes = p.bytes })
 
--- such a piece of an IPv6 datagram, which isn't whole
-pub record BringsPiece (out : List Outgoing) (v : IncomingValue) : Type 0 where
-  pub part : PieceValue
+-- such a fragment of an IPv6 datagram, which isn't whole
+pub record BringsFragment (out : List Outgoing) (v : IncomingValue) : Type 0 where
+  pub part : FragmentValue
   pub part_is : part_in v ≡ Some part
-  pub of : IsPieceOf out part
+  pub of : IsFragmentOf out part
 
-abbrev pub IsPiece : List Outgoing → IncomingValue → Type 0
-IsPiece out (Arp link packet) = ⊥
-IsPiece out (Ip4 link header piece payload) = IsPieceOf out (part_v4 header piece payload)
-IsPiece out (Ip6 link header payload) = BringsPiece out (Ip6 link header payload)
+abbrev pub IsFragment : List Outgoing → IncomingValue → Type 0
+IsFragment out (Arp link packet) = ⊥
+IsFragment out (Ip4 link header fragment payload) = IsFragmentOf out (part_v4 header fragment payload)
+IsFragment out (Ip6 link header payload) = BringsFragment out (Ip6 link header payload)
 
--- what a frame brings was made, or is a piece of what was sent
+-- what a frame brings was made, or is a fragment of what was sent
 abbrev pub IsFrom : Makes → List Outgoing → IncomingValue → Type 0
-IsFrom made out v = IsWholeMade made v ⊎ IsPiece out v
+IsFrom made out v = IsWholeMade made v ⊎ IsFragment out v
 
 -- a host with such an address reads nothing else in this frame
 abbrev pub BringsFrom : Makes → List Outgoing → HardwareAddress → List ℕ → Type 0

@@ -1,7 +1,7 @@
 -- Every IPv4 packet that a host sent has a number of its own (RFC 6864), and so has every IPv6 packet that it cut (RFC 8200, section 4.5).
 use Rattle.std.specs.Prelude.{◌≡◌, ◌+◌, ◌%◌, ◌^◌, ◌<◌, ◌≤◌, ℕ, List, [], ◌∷◌, Option, None, Some}
 use Rattle.std.specs.List.{count_by}
-use Rattle.lan_base.specs.Medium.{Medium}
+use Rattle.sim_link.specs.Medium.{Medium}
 use Rattle.lan.specs.Worlds.AtLink.Origins.{begins_datagram}
 use Rattle.lan.specs.Worlds.Link.Frames.{Outgoing, number_of}
 

@@ -1,31 +1,31 @@
 -- The invariant of two hosts at a link: what each sent, and what waits for it.
 use Rattle.std.specs.Prelude.{◌≡◌, ◌≢◌, ◌⊎◌, ◌%◌, ◌^◌, ◌+◌, ◌<◌, ◌≤◌, ℕ, List, ◌++◌, length, Option, None, Some, IfSome}
 use Rattle.std.specs.List.{AllByRecursion}
-use Rattle.lan_base.specs.Medium.{Medium}
-use Rattle.interface_ingress.specs.Address.{IsIpAddress}
-use Rattle.interface_ingress.specs.HardwareAddress.{HardwareAddress}
-use Rattle.interface_ingress.specs.HardwareAddress.TheVariants as Hardware
-use Rattle.interface_ingress.specs.ArpRepr.{ArpRepr}
-use Rattle.interface_ingress.specs.ArpRepr.TheVariants as Arp
+use Rattle.sim_link.specs.Medium.{Medium}
+use Rattle.iface_ingress.specs.Address.{IsIpAddress}
+use Rattle.iface_ingress.specs.HardwareAddress.{HardwareAddress}
+use Rattle.iface_ingress.specs.HardwareAddress.TheVariants as Hardware
+use Rattle.iface_ingress.specs.ArpRepr.{ArpRepr}
+use Rattle.iface_ingress.specs.ArpRepr.TheVariants as Arp
 use Rattle.sockets.specs.Packet.{PacketValue}
-use Rattle.interface_tables.specs.Inner.{InnerValue}
-use Rattle.interface_tables.specs.declared.neighbor.Neighbor.{Neighbor}
-use Rattle.interface_tables.specs.declared.route.Route.{Route}
-use Rattle.interface_egress.specs.Fragments.{LeftValue}
-use Rattle.interface_egress.specs.declared.frame.CutHeader.{CutHeader}
-use Rattle.interface_egress.specs.declared.frame.CutHeader.TheVariants as Cut
-use Rattle.interface_ingress.specs.Incoming.{IncomingValue, IsIncoming}
-use Rattle.interface_ingress.specs.Reassembled.{Slots}
-use Rattle.interface_ingress.specs.Kept.{IsNoPieceV6}
+use Rattle.iface_tables.specs.Inner.{InnerValue}
+use Rattle.iface_tables.specs.declared.neighbor.Neighbor.{Neighbor}
+use Rattle.iface_tables.specs.declared.route.Route.{Route}
+use Rattle.iface_egress.specs.Fragments.{LeftValue}
+use Rattle.iface_egress.specs.declared.frame.CutHeader.{CutHeader}
+use Rattle.iface_egress.specs.declared.frame.CutHeader.TheVariants as Cut
+use Rattle.iface_ingress.specs.Incoming.{IncomingValue, IsIncoming}
+use Rattle.iface_ingress.specs.Reassembled.{Assemblers}
+use Rattle.iface_ingress.specs.FragmentStored.{IsNoFragmentV6}
 use Rattle.interface.specs.Delivered.{HasNoPorts}
-use Rattle.interface.specs.Taken.{HasWidths, IsHalfSent}
-use Rattle.lan_base.specs.Cuts.{ipv4_part}
-use Rattle.interface_ingress.specs.Fields.{be16}
-use Rattle.lan_base.specs.Parts.{tcp_part, bytes_at}
-use Rattle.lan_base.specs.declared.part.Part.{Part}
+use Rattle.interface.specs.TransmittedFrame.{HasWidths, IsHalfSent}
+use Rattle.sim_link.specs.Cuts.{ipv4_part}
+use Rattle.iface_ingress.specs.Fields.{be16}
+use Rattle.sim_link.specs.Parts.{tcp_part, bytes_at}
+use Rattle.sim_link.specs.declared.part.Part.{Part}
 use Rattle.lan.specs.Worlds.Link.Made.{Makes, sealed}
-use Rattle.lan.specs.Worlds.Link.Frames.{Outgoing, medium_on, IsAmong, IsNumbered, IsSentV4, IsCutV6, IsSlice, IsWhole6, IsPiece6, BringsFrom, AreOut}
-use Rattle.lan.specs.Worlds.Link.Held.{AreSlotsOf}
+use Rattle.lan.specs.Worlds.Link.Frames.{Outgoing, medium_on, IsAmong, IsNumbered, IsSentV4, IsCutV6, IsSlice, IsWhole6, IsFragment6, BringsFrom, AreOut}
+use Rattle.lan.specs.Worlds.Link.StoredFragments.{AreAssemblersOf}
 use Rattle.lan.specs.Worlds.Link.Numbers.{count_numbered, AreNumbered, IsTied}
 
 -- WHAT A HOST SENT
@@ -35,9 +35,9 @@ pub record AreSent (made : Makes) (first next : ℕ) (out : List Outgoing) : Typ
   pub packets : AreOut made out
   pub numbered : AreNumbered first out next
 
--- a content of neither TCP nor UDP, and no piece of IPv6 that may carry them
+-- a content of neither TCP nor UDP, and no fragment of IPv6 that may carry them
 abbrev pub BringsNone : IncomingValue → Type 0
-BringsNone v = HasNoPorts v × IsNoPieceV6 (Some v)
+BringsNone v = HasNoPorts v × IsNoFragmentV6 (Some v)
 
 -- a frame that can't be cut, has no TCP segment, and brings neither TCP nor UDP, whatever padding follows: an ARP packet, or a question
 -- for a neighbour
@@ -49,20 +49,20 @@ pub record IsOther (medium : Medium) (frame : List ℕ) : Type 0 where
 
 -- a frame that a host sent, or that the link made of one by a cut
 abbrev pub IsHostFrame : Medium → List Outgoing → List ℕ → Type 0
-IsHostFrame medium out frame = IsSlice medium out frame ⊎ IsWhole6 medium out frame ⊎ IsPiece6 medium out frame ⊎ IsOther medium frame
+IsHostFrame medium out frame = IsSlice medium out frame ⊎ IsWhole6 medium out frame ⊎ IsFragment6 medium out frame ⊎ IsOther medium frame
 
--- how a word is exchanged: at an even place, within the segment, for a word of another sum
-pub record IsDamage (frame : List ℕ) (part : Part) (place word : ℕ) : Type 0 where
-  pub even : place % 2 ≡ 0
-  pub within : place + 2 ≤ part.len
+-- how a word is exchanged: at an even slot, within the segment, for a word of another sum
+pub record IsDamage (frame : List ℕ) (part : Part) (slot word : ℕ) : Type 0 where
+  pub even : slot % 2 ≡ 0
+  pub within : slot + 2 ≤ part.len
   pub small : word < 2 ^ 16
-  pub other : be16 (bytes_at frame part) place % 65535 ≢ word % 65535
+  pub other : be16 (bytes_at frame part) slot % 65535 ≢ word % 65535
 
 -- WHAT COMES TO A HOST: `made` and `out` are the other host's
 
-pub record IsReceiver (made : Makes) (out : List Outgoing) (i : InnerValue) (slots : Slots) (waiting : List (List ℕ)) : Type 0 where
+pub record IsReceiver (made : Makes) (out : List Outgoing) (i : InnerValue) (assemblers : Assemblers) (waiting : List (List ℕ)) : Type 0 where
   pub checksums : i.checksums ≡ sealed
-  pub slots_are : AreSlotsOf out slots
+  pub assemblers_are : AreAssemblersOf out assemblers
   pub waits : AllByRecursion (BringsFrom made out i.hardware) waiting
 
 -- A HOST
@@ -78,23 +78,23 @@ abbrev pub HasSixBytes : HardwareAddress → Type 0
 HasSixBytes (Hardware.Ethernet own) = length own.0 ≡ 6
 HasSixBytes Hardware.Ip = Unit {0}
 
-abbrev pub IsStation : HardwareAddress → Type 0
-IsStation (Hardware.Ethernet to) = Unit {0}
-IsStation Hardware.Ip = ⊥
+abbrev pub IsNode : HardwareAddress → Type 0
+IsNode (Hardware.Ethernet to) = Unit {0}
+IsNode Hardware.Ip = ⊥
 
 -- the router of each route is an address
 abbrev pub RoutersAre : List Route → Type 0
 RoutersAre routes = AllByRecursion (λ r. IsIpAddress r.via_router) routes
 
--- its numbers and addresses are of their widths, its neighbours are stations, and it writes and tests every checksum
+-- its numbers and addresses are of their widths, its neighbours are hosts, and it writes and tests every checksum
 pub record IsSound (i : InnerValue) : Type 0 where
   pub own : HasSixBytes i.hardware
-  pub neighbors : AllByRecursion (λ (n : Neighbor). IsStation n.hardware_addr) i.neighbors.entries
+  pub neighbors : AllByRecursion (λ (n : Neighbor). IsNode n.hardware_addr) i.neighbors.entries
   pub routers : RoutersAre i.routes
   pub widths : HasWidths i
   pub checksums : i.checksums ≡ sealed
 
--- a packet with this header and these bytes behind it was sent, and cut
+-- a packet with this header and these bytes after it was sent, and cut
 abbrev pub IsCutFrom : List Outgoing → CutHeader → List ℕ → Type 0
 IsCutFrom out (Cut.Ipv4 v) bytes = IsSentV4 out v bytes
 IsCutFrom out (Cut.Ipv6 v number) bytes = IsCutV6 out v number bytes
@@ -115,9 +115,9 @@ pub record IsSender (made : Makes) (first : ℕ) (i : InnerValue) (left : Option
 
 -- WHAT MAY GO
 
--- an ARP packet between two stations
-abbrev pub IsBetweenStations : ArpRepr → Type 0
-IsBetweenStations (Arp.EthernetIpv4 operation source source_protocol target target_protocol) = (length source.0 ≡ 6) × (length target.0 ≡ 6)
+-- an ARP packet between two hosts
+abbrev pub IsBetweenNodes : ArpRepr → Type 0
+IsBetweenNodes (Arp.EthernetIpv4 operation source source_protocol target target_protocol) = (length source.0 ≡ 6) × (length target.0 ≡ 6)
 
 -- AFTER SOMETHING WENT
 
@@ -126,7 +126,7 @@ pub record Grows (out out' : List Outgoing) : Type 0 where
   pub numbered : (p : PacketValue) (number : ℕ) → IsNumbered p number out → IsNumbered p number out'
 
 -- It is a sender still, of more packets: so many more with a number at most, each of which has a first frame.
-pub record WentOut (made : Makes) (first most : ℕ) (out : List Outgoing) (sent : List (List ℕ)) (i' : InnerValue) (l' : Option LeftValue)
+pub record WasSentOut (made : Makes) (first most : ℕ) (out : List Outgoing) (sent : List (List ℕ)) (i' : InnerValue) (l' : Option LeftValue)
     (sent' : List (List ℕ)) : Type 0 where
   pub out_after : List Outgoing
   pub grows : Grows out out_after

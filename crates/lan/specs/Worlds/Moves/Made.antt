@@ -1,21 +1,21 @@
 -- What a packet has of TCP or UDP, and who made it.
 use Rattle.std.specs.Prelude.{ℕ, List, Option, None, Some}
-use Rattle.lan_base.specs.ChecksumCapabilities.{ChecksumCapabilities}
+use Rattle.sim_link.specs.ChecksumCapabilities.{ChecksumCapabilities}
 use Rattle.interface.specs.Ip as Ips
 use Rattle.interface.specs.Ip.{source_of, destination_of}
 use Rattle.interface.specs.IpRepr.{IpRepr}
 use Rattle.interface.specs.IpRepr.TheVariants as Ip
-use Rattle.ip_tcp.specs.declared.header.TcpHeader.{TcpHeader}
+use Rattle.wire_tcp.specs.declared.header.TcpHeader.{TcpHeader}
 use Rattle.interface.specs.UdpRepr.{UdpRepr}
-use Rattle.interface_ingress.specs.IpAddress.{IpAddress}
+use Rattle.iface_ingress.specs.IpAddress.{IpAddress}
 use Rattle.sockets.specs.Packet.{PacketValue, PayloadValue, ControlV4, ControlV6, Bytes, Datagram, Segment}
-use Rattle.tcp_tie.specs.Host.{Made, IsAmong, MayCome}
+use Rattle.tcp_refinement.specs.Host.{Made, IsAmong, MayCome}
 use Rattle.lan.specs.Worlds.Link.Made.{CarriesNone}
-use Rattle.interface.specs.Taken.{IsOffered}
-use Rattle.interface_ingress.specs.Carried.{IsDatagram, IsSegment}
-use Rattle.interface_ingress.specs.Sent.{CanBeRead, normal_payload}
-use Rattle.interface_ingress.specs.Incoming.{IncomingValue, Arp, Ip4, Ip6}
-use Rattle.interface_ingress.specs.Upper.{upper_header, upper_payload}
+use Rattle.interface.specs.TransmittedFrame.{IsOffered}
+use Rattle.iface_ingress.specs.UpperLayer.{IsDatagram, IsSegment}
+use Rattle.iface_ingress.specs.Sent.{CanBeRead, normal_payload}
+use Rattle.iface_ingress.specs.Incoming.{IncomingValue, Arp, Ip4, Ip6}
+use Rattle.iface_ingress.specs.Upper.{upper_header, upper_payload}
 use Rattle.lan.specs.Worlds.AtLink.Parties as Parties
 use Rattle.lan.specs.Worlds.AtLink.Parties.{Party, WasMade}
 
@@ -44,16 +44,16 @@ IsMade p x = MadeBy p (source_of x.header) (destination_of x.header) (normal_pay
 
 -- FORM
 
--- the header names what is carried, whose fields are numbers of their widths; bytes carry neither TCP nor UDP, behind extension headers
--- either, and are no piece of IPv6
-abbrev pub FitsBehind : IpRepr → PayloadValue → Type 0
-FitsBehind header (Bytes bytes) = CarriesNone (Ips.normal header) bytes
-FitsBehind header payload = CanBeRead header payload
+-- the header names what is carried, whose fields are numbers of their widths; bytes carry neither TCP nor UDP, after extension headers
+-- either, and are no fragment of IPv6
+abbrev pub FitsFollowing : IpRepr → PayloadValue → Type 0
+FitsFollowing header (Bytes bytes) = CarriesNone (Ips.normal header) bytes
+FitsFollowing header payload = CanBeRead header payload
 
 -- a packet that can be sent, and read by another host
 pub record IsWide (x : PacketValue) : Type 0 where
   pub offered : IsOffered x
-  pub fits : FitsBehind x.header x.payload
+  pub fits : FitsFollowing x.header x.payload
 
 -- WHAT COMES
 
@@ -64,9 +64,9 @@ pub record HandsMade (q : Party) (caps : ChecksumCapabilities) (ip : IpRepr) (pa
   pub datagrams : (udp : UdpRepr) (bytes : List ℕ) → IsDatagram caps (upper_header ip payload) (upper_payload ip payload) udp bytes
       → WasMade q (datagram_of udp bytes)
 
--- so of a content that arrived whole, or was rebuilt
+-- so of a content that arrived whole, or was reassembled
 abbrev pub BringsMade : Party → ChecksumCapabilities → Option IncomingValue → Type 0
 BringsMade q caps None = Unit {0}
 BringsMade q caps (Some (Arp link packet)) = Unit {0}
-BringsMade q caps (Some (Ip4 link header piece payload)) = HandsMade q caps (Ip.Ipv4 header) payload
+BringsMade q caps (Some (Ip4 link header fragment payload)) = HandsMade q caps (Ip.Ipv4 header) payload
 BringsMade q caps (Some (Ip6 link header payload)) = HandsMade q caps (Ip.Ipv6 header) payload

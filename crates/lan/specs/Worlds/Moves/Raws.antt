@@ -2,21 +2,21 @@
 -- sends; and hosts that send no datagram.
 use Rattle.std.specs.Prelude.{◌≡◌, false, List, Option, None, Some}
 use Rattle.std.specs.List.{AllByRecursion}
-use Rattle.lan_base.specs.Medium.TheVariants as Medium
-use Rattle.net_containers.specs.Packets.{contents}
-use Rattle.interface_egress.specs.declared.socket_set.Item.{Item}
-use Rattle.interface_egress.specs.declared.socket_set.SocketStorage.{SocketStorage}
+use Rattle.sim_link.specs.Medium.TheVariants as Medium
+use Rattle.base_buffer.specs.Packets.{contents}
+use Rattle.iface_egress.specs.declared.socket_set.Item.{Item}
+use Rattle.iface_egress.specs.declared.socket_set.SocketStorage.{SocketStorage}
 use Rattle.sockets.specs.declared.socket.Socket.{Socket}
 use Rattle.sockets.specs.declared.socket.Socket.TheVariants as Is
-use Rattle.lan_base.specs.Carried.{names_tcp_or_udp}
+use Rattle.sim_link.specs.PacketInFrame.{names_tcp_or_udp}
 
--- it holds of the socket of each place that has one
+-- it holds of the socket of each slot that has one
 abbrev pub OfItem : (Socket → Type 0) → Option (Item Socket) → Type 0
 OfItem W None = Unit {0}
 OfItem W (Some item) = W item.socket
 
 abbrev pub OfEach : (Socket → Type 0) → List (SocketStorage Socket) → Type 0
-OfEach W places = AllByRecursion (λ p. OfItem W p.inner) places
+OfEach W slots = AllByRecursion (λ p. OfItem W p.inner) slots
 
 -- each queued packet of a raw socket names neither TCP nor UDP; and it is no client
 abbrev pub QueuesForeign : Socket → Type 0

@@ -1,12 +1,12 @@
 //! What events answer, and why one isn't taken.
 ghost use Rattle.std.specs.Prelude.{◌≡◌};
-ghost use Rattle.lan.specs.Worlds.AtLink.Texts.{fault_text, refused_text};
+ghost use Rattle.lan.specs.Worlds.AtLink.ErrorTexts.{fault_text, refused_text};
 
 use crate::at_link::history::owned::Bytes;
 use ip_wire::{IpAddress, IpEndpoint};
 use net_base::Instant;
 use std::fmt;
-use tcp_model::State;
+use tcp_block::State;
 
 /// What an event answered.
 #[derive(Debug, Drop)]
@@ -54,7 +54,7 @@ pub enum Fault {
 
 impl fmt::Display for Fault {
     ghost use Rattle.std.specs.Prelude.{Some};
-    ghost use Rattle.lan.specs.Worlds.AtLink.Texts.{fault_text};
+    ghost use Rattle.lan.specs.Worlds.AtLink.ErrorTexts.{fault_text};
 
     ghost output = { λ fault. Some (fault_text fault) };
 
@@ -109,7 +109,7 @@ pub enum Refused {
     TooManyCut,
     /// The packet says that it carries TCP or UDP.
     RawProtocol,
-    /// The time isn't a moment, or lies before the host's last.
+    /// The time isn't an instant, or lies before the host's last.
     Moment,
     /// A growth was refused.
     Memory,
@@ -121,7 +121,7 @@ pub enum Refused {
 
 impl fmt::Display for Refused {
     ghost use Rattle.std.specs.Prelude.{Some};
-    ghost use Rattle.lan.specs.Worlds.AtLink.Texts.{refused_text};
+    ghost use Rattle.lan.specs.Worlds.AtLink.ErrorTexts.{refused_text};
 
     ghost output = { λ refused. Some (refused_text refused) };
 

@@ -3,7 +3,7 @@ use crate::at_link::history::owned::Bytes;
 use arrayvec::ArrayVec;
 use ip_wire::{EthernetAddress, IpAddress, IpCidr, IpEndpoint, TcpTimestampGenerator};
 use net_base::{Duration, Instant};
-use tcp_model::CongestionControl;
+use tcp_block::CongestionControl;
 
 /// One of the two hosts.
 #[derive(Clone, Copy, Debug, PartialEq, Eq)]
@@ -29,7 +29,7 @@ pub enum TcpSetting {
 }
 
 /// What happens: a call of an application on a host's socket, a setting or a poll of a host, or an act of the link. A socket is named by
-/// its place in its host's set, a frame by its place among those that its host sent.
+/// its slot in its host's set, a frame by its slot among those that its host sent.
 #[derive(Drop)]
 pub enum Event {
     /// Opens a TCP socket passively at a local port.
@@ -66,18 +66,18 @@ pub enum Event {
     Route(Side, IpAddress),
     AnyIp(Side, bool),
     ReassemblyTimeout(Side, Duration),
-    /// Polls a host at a moment, with a budget of frames taken and of passes over the sockets.
+    /// Polls a host at an instant, with a budget of frames taken and of passes over the sockets.
     Poll(Side, Instant, u16),
-    /// Asks a host at a moment when it wants to be polled.
+    /// Asks a host at an instant when it wants to be polled.
     PollAt(Side, Instant),
-    /// Hands a sent frame to the other host, with padding behind it.
+    /// Hands a sent frame to the other host, with padding after it.
     Deliver(Side, usize, Bytes),
-    /// Hands a sent frame to the other host with the word at this place of its TCP segment exchanged, and padding behind it.
+    /// Hands a sent frame to the other host with the word at this place of its TCP segment exchanged, and padding after it.
     Damage(Side, usize, usize, u16, Bytes),
     /// Hands bytes to a host.
     Noise(Side, Bytes),
     /// Room for so many frames more in a host's device.
     Room(Side, usize),
-    /// Cuts a sent frame in two at this place of its payload; the pieces join the host's sent frames.
+    /// Cuts a sent frame in two at this place of its payload; the fragments join the host's sent frames.
     Cut(Side, usize, usize),
 }

@@ -18,7 +18,7 @@ pub fn wrong_histories_break_the_promises()
     ensures closed { EndsWereTrue (end_after_close In.Established) }
 {}
 
-/// A listener that takes in what was sent to another port, as with ports unread, breaks the promise on sockets without a partner. One that
+/// A listener that takes in what was sent to another port, as with ports unread, breaks the promise on sockets without a peer. One that
 /// takes a stream from its second byte on, as where any acknowledgement opens it, breaks that on prefixes.
 pub fn wrong_reads_break_the_promises()
     ensures ports_unread { (starts : Side → ℕ → ℕ) (a b : Party) (v : TcpValue) → socket_at b 0 ≡ Some (Tcp v)

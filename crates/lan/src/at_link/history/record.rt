@@ -1,4 +1,4 @@
-//! What is kept of each socket beside the history, so that a refusal needn't read it.
+//! What is kept of each socket alongside the history, so that a refusal needn't read it.
 ghost use Rattle.std.specs.Prelude.{◌≡◌, ◌+◌, ◌<◌, ◌^◌, None, Some};
 ghost use Rattle.lan.specs.Worlds.AtLink.Tables.{no_record, names_same, takes_ports, is_port_taken, is_too_many};
 
@@ -18,7 +18,7 @@ pub enum SocketKind {
     Tcp,
 }
 
-/// What the history says of the socket at a place: how it was opened, and how many bytes it accepted.
+/// What the history says of the socket at a slot: how it was opened, and how many bytes it accepted.
 #[derive(Clone, Copy, Debug, PartialEq, Eq)]
 pub struct SocketRecord {
     pub opened: Option<Opening>,
@@ -40,7 +40,7 @@ impl SocketRecord {
         more >= (1 << 29) || accepted + more >= (1 << 29)
     }
 
-    /// Whether a socket can't be opened so beside this one: the local port is its own, or it names the remote port too.
+    /// Whether a socket can't be opened so alongside this one: the local port is its own, or it names the remote port too.
     pub fn takes_ports(&self, opening: &Opening) -> bool
         ensures { result ≡ takes_ports opening.now self.now.opened }
     {

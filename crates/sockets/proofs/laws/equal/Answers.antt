@@ -1,4 +1,4 @@
-use Rattle.sockets.proofs.Equal.{Decides-bind, Decides-icmp, Decides-metadata, Decides-recv, Decides-send}
+use Rattle.socket_datagram.proofs.Equal.{Decides-bind, Decides-icmp, Decides-metadata, Decides-recv, Decides-send}
 use Rattle.sockets.proofs.laws.equal.Goals as goal
 
 pub returns : goal.returns

@@ -1,13 +1,13 @@
 use Rattle.std.proofs.Common.{pos, List}
-use Rattle.tcp_tie.specs.Pair.Values.{PairValue}
-use Rattle.tcp_tie.specs.declared.pair.event.PairEvent.{PairEvent}
-use Rattle.tcp_tie.specs.declared.pair.event.Side.{Side}
-use Rattle.tcp_tie.specs.declared.pair.event.Side.TheVariants.{A}
-use Rattle.tcp_progress.specs.Connection.{Course, MayConverse}
-use Rattle.tcp_progress.specs.Connection.Course.{ByCall, ByCrossing}
-use Rattle.tcp_progress.specs.Met.{both_called, called, conversing, conversing_across, late, timed_called, timed_conversing, writing}
-use Rattle.tcp_progress.specs.Reached.{IsReached}
-use Rattle.tcp_progress.proofs.Joins.{leads_to, talking_in, tries_in}
+use Rattle.tcp_refinement.specs.Pair.Values.{PairValue}
+use Rattle.tcp_refinement.specs.declared.pair.event.PairEvent.{PairEvent}
+use Rattle.tcp_refinement.specs.declared.pair.event.Side.{Side}
+use Rattle.tcp_refinement.specs.declared.pair.event.Side.TheVariants.{A}
+use Rattle.tcp_liveness.specs.Connection.{Course, MayConverse}
+use Rattle.tcp_liveness.specs.Connection.Course.{ByCall, ByCrossing}
+use Rattle.tcp_liveness.specs.Met.{both_called, called, conversing, conversing_across, late, timed_called, timed_conversing, writing}
+use Rattle.tcp_liveness.specs.Reached.{IsReached}
+use Rattle.tcp_liveness.proofs.Joins.{leads_to, talking_in, tries_in}
 use Rattle.tcp_pair.specs.Settling.{CanSettle}
 use Rattle.tcp_pair.proofs.laws.what_settling_asks_for_is_met.Goals as goal
 

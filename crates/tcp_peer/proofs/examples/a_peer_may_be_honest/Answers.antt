@@ -1,7 +1,7 @@
 use Rattle.std.proofs.Common.{◌≡◌, inl, inr, true, false, Some, None, refl, arith}
-use Rattle.tcp_law.specs.Segment.Control.{Plain, Fin}
-use Rattle.tcp_law.specs.Side.Phase.{SynReceived, Synchronized}
-use Rattle.tcp_law.specs.Examples.{at, bare_ack}
+use Rattle.tcp_theory.specs.Segment.Control.{Plain, Fin}
+use Rattle.tcp_theory.specs.Side.Phase.{SynReceived, Synchronized}
+use Rattle.tcp_theory.specs.Examples.{at, bare_ack}
 use Rattle.tcp_peer.proofs.examples.a_peer_may_be_honest.Goals as goal
 
 pub returns-clause-syn : goal.returns-clause-syn
@@ -11,8 +11,8 @@ returns-clause-syn c =
       inr (101, refl, record { at = at 101; same = refl; so_far = inl refl }),
     )
 
-pub returns-clause-text : goal.returns-clause-text
-returns-clause-text c =
+pub returns-clause-payload : goal.returns-clause-payload
+returns-clause-payload c =
     inr (
       inl (record {
         kind = tt;
@@ -53,7 +53,7 @@ returns-clause-keep_alive c =
         high =
             inr (record {
               number = 303;
-              acknowledged = record { place = 0; segment = bare_ack 101 303; among = refl; no_reset = tt; acks = refl };
+              acknowledged = record { offset = 0; segment = bare_ack 101 303; among = refl; no_reset = tt; acks = refl };
               far = omega arith;
             });
       }))),

@@ -1,8 +1,8 @@
 use Rattle.std.proofs.Common.{◌≡◌, ◌⊎◌, inl, inr, ℕ, ◌+◌, ◌<◌, ◌≤◌, suc, List, [], ◌∷◌, length, get_or, refl, sym, ap, subst, arith}
-use Rattle.tcp_law.specs.Segment.{Segment}
-use Rattle.tcp_law.specs.Segment.Control.{Plain, Rst}
-use Rattle.tcp_law.specs.Side.{freed}
-use Rattle.tcp_law.specs.Examples.{at, piece, bare_ack}
+use Rattle.tcp_theory.specs.Segment.{Segment}
+use Rattle.tcp_theory.specs.Segment.Control.{Plain, Rst}
+use Rattle.tcp_theory.specs.Side.{freed}
+use Rattle.tcp_theory.specs.Examples.{at, piece, bare_ack}
 use Rattle.tcp_peer.specs.Peer.{IsEnd, HasAckedTo, HasReached, IsPiece, IsOld, counted}
 use Rattle.tcp_peer.specs.Examples.{peer, this, took, Cannot}
 use Rattle.tcp_peer.proofs.Liars.{bytes_there, reached_by, piece_or_old, acked_of_one, acked_of_none}

@@ -1,8 +1,8 @@
 use Rattle.std.proofs.Common.{◌≡◌, ◌⊎◌, inl, inr, ℕ, ◌+◌, ◌<◌, ◌≤◌, suc, true, false, [], ◌∷◌, length, drop, refl, sym, ap, subst, arith}
-use Rattle.tcp_law.specs.ReceiveMap.{Begins}
-use Rattle.tcp_law.specs.Segment.{Segment, IsData}
-use Rattle.tcp_law.specs.Segment.Control.{Plain, Rst}
-use Rattle.tcp_law.specs.Examples.{at, syn, piece, last_piece, bare_ack}
+use Rattle.tcp_theory.specs.ReceiveMap.{Begins}
+use Rattle.tcp_theory.specs.Segment.{Segment, IsData}
+use Rattle.tcp_theory.specs.Segment.Control.{Plain, Rst}
+use Rattle.tcp_theory.specs.Examples.{at, syn, piece, last_piece, bare_ack}
 use Rattle.tcp_peer.specs.Peer.{IsEnd, HasAckedTo, HasReached, IsPiece, IsOld, counted}
 use Rattle.tcp_peer.specs.Examples.{peer, this, told, Says}
 use Rattle.tcp_peer.proofs.Liars.{bytes_there, reached_by, piece_or_old, fin_piece, bare_syn, acked_of_one}
@@ -27,28 +27,28 @@ new_bytes heard k x low top small seq some p = by p.high where
       let new = old_at in
       some (omega arith)
 
-says_text : (x : Segment) (k : ℕ) → IsData x.control → (length x.bytes ≡ 0 → ⊥) → k < 1_000 → x.seq ≡ 301 + k → Says x →
+says_payload : (x : Segment) (k : ℕ) → IsData x.control → (length x.bytes ≡ 0 → ⊥) → k < 1_000 → x.seq ≡ 301 + k → Says x →
     Begins x.bytes (drop k (1 ∷ 2 ∷ 3 ∷ []))
-says_text x k kind some small seq says = by (piece_or_old peer this told x kind some says) where
+says_payload x k kind some small seq says = by (piece_or_old peer this told x kind some says) where
   by : IsPiece peer this x ⊎ IsOld this told x → Begins x.bytes (drop k (1 ∷ 2 ∷ 3 ∷ []))
   by (inl p) = bytes_there peer this x k is_end (omega arith) (omega arith) some p
   by (inr p) = absurd (new_bytes (at 300) k x (omega arith) (omega arith) small seq some p)
 
 pub returns-clause-other_byte : goal.returns-clause-other_byte
 returns-clause-other_byte c =
-    λ says. let b = says_text (piece 301 101 (1 ∷ 9 ∷ [])) 0 tt (λ e. absurd (omega arith)) (omega arith) refl says in let clash = b.1.0 in absurd (omega arith)
+    λ says. let b = says_payload (piece 301 101 (1 ∷ 9 ∷ [])) 0 tt (λ e. absurd (omega arith)) (omega arith) refl says in let clash = b.1.0 in absurd (omega arith)
 
 pub returns-clause-swapped : goal.returns-clause-swapped
 returns-clause-swapped c =
-    λ says. let b = says_text (piece 301 101 (2 ∷ 1 ∷ [])) 0 tt (λ e. absurd (omega arith)) (omega arith) refl says in let clash = b.0 in absurd (omega arith)
+    λ says. let b = says_payload (piece 301 101 (2 ∷ 1 ∷ [])) 0 tt (λ e. absurd (omega arith)) (omega arith) refl says in let clash = b.0 in absurd (omega arith)
 
 pub returns-clause-past_the_end : goal.returns-clause-past_the_end
 returns-clause-past_the_end c =
-    λ says. let b = says_text (piece 303 101 (3 ∷ 4 ∷ [])) 2 tt (λ e. absurd (omega arith)) (omega arith) refl says in absurd b.1
+    λ says. let b = says_payload (piece 303 101 (3 ∷ 4 ∷ [])) 2 tt (λ e. absurd (omega arith)) (omega arith) refl says in absurd b.1
 
 pub returns-clause-not_acknowledged : goal.returns-clause-not_acknowledged
 returns-clause-not_acknowledged c =
-    λ says. let b = says_text (piece 302 101 (0 ∷ [])) 1 tt (λ e. absurd (omega arith)) (omega arith) refl says in let clash = b.0 in absurd (omega arith)
+    λ says. let b = says_payload (piece 302 101 (0 ∷ [])) 1 tt (λ e. absurd (omega arith)) (omega arith) refl says in let clash = b.0 in absurd (omega arith)
 
 pub returns-clause-early_fin : goal.returns-clause-early_fin
 returns-clause-early_fin c =

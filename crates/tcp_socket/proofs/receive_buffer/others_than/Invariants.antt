@@ -7,4 +7,4 @@ abbrev pub invariant-loop-start : goal.invariant-loop-start
 invariant-loop-start l =
     (goal.iterator-loop-start).can_next l.start-iterator ×
     (goal.iterator-loop-start).is_finite l.start-iterator ×
-    (told_after l.place l.start-iterator l.highest l.second ≡ told_after l.place l.held None None)
+    (told_after l.offset l.start-iterator l.highest l.second ≡ told_after l.offset l.held None None)

@@ -5,7 +5,7 @@ use Rattle.interface.specs.Made.{with_inner}
 use Rattle.sockets.specs.AnySocket.{as_tcp}
 use Rattle.sockets.specs.TcpCalls.{connect_after, connect_draws}
 use Rattle.sockets.specs.declared.socket.Socket.TheVariants as Kind
-use Rattle.c_calls.specs.Places.{after_at, draws_at}
+use Rattle.c_calls.specs.Slots.{after_at, draws_at}
 use Rattle.c_calls.specs.Host.{StackValue}
 use Rattle.zemplovir_c.proofs.Asked.{called}
 use Rattle.zemplovir_c.proofs.streams.connect.Goals as goal
@@ -17,7 +17,7 @@ returns-clause-after c =
     in
     called c.args.handle.now.inside c.put.new.self.inside c.deref_mut.result.now c.tcp_connect-answer.new.self
     (λ host. record host {
-      host = if draws_at as_tcp (λ v. connect_draws (context_of host.host.inner) v c.args.remote c.args.local) host.places c.args.socket
+      host = if draws_at as_tcp (λ v. connect_draws (context_of host.host.inner) v c.args.remote c.args.local) host.slots c.args.socket
           then with_inner host.host (drawn host.host.inner) else host.host;
-      places = after_at as_tcp (λ x. Kind.Tcp x) (λ v. connect_after (context_of host.host.inner) v c.args.remote c.args.local) host.places c.args.socket;
+      slots = after_at as_tcp (λ x. Kind.Tcp x) (λ v. connect_after (context_of host.host.inner) v c.args.remote c.args.local) host.slots c.args.socket;
     }) had c.put.ensures c.tcp_connect-answer.ensures.after

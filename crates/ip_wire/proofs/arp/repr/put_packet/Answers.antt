@@ -1,5 +1,5 @@
 use Rattle.std.proofs.Common.{◌≡◌, ◌∙◌, ap, append_assoc, List, ◌++◌, drop, ℕ}
-use Rattle.ip_packet.proofs.Fronts.{whole-front}
+use Rattle.wire_ip.proofs.Fronts.{whole-front}
 use Rattle.ip_wire.proofs.Joined.{joined-three}
 use Rattle.ip_wire.proofs.arp.repr.put_packet.Goals as goal
 

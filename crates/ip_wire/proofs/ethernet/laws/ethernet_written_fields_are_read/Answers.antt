@@ -1,5 +1,5 @@
 use Rattle.std.proofs.Common.{arith}
-use Rattle.ip_packet.proofs.Sets.{run-set}
+use Rattle.wire_ip.proofs.Sets.{run-set}
 use Rattle.ip_wire.proofs.ethernet.laws.ethernet_written_fields_are_read.Goals as goal
 
 pub returns-clause-destination : goal.returns-clause-destination

@@ -1,5 +1,5 @@
 use Rattle.std.proofs.Common.{◌∙◌}
-use Rattle.ip_packet.proofs.Fronts.{whole-front}
+use Rattle.wire_ip.proofs.Fronts.{whole-front}
 use Rattle.ip_wire.proofs.Joined.{joined-three}
 use Rattle.ip_wire.proofs.ethernet.repr.put_header.Goals as goal
 

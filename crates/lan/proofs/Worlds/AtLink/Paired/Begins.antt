@@ -1,23 +1,23 @@
 -- At first the pair of two new sockets shows the net.
 use Rattle.std.proofs.Common.{◌≡◌, ℕ, List, [], Some, refl, sym, ap, subst}
 use Rattle.std.specs.List.{AllByRecursion}
-use Rattle.tcp_tie.specs.Pair.History.{pasts}
-use Rattle.tcp_tie.specs.Pair.Sides.{at}
+use Rattle.tcp_refinement.specs.Pair.History.{pasts}
+use Rattle.tcp_refinement.specs.Pair.Sides.{at}
 use Rattle.lan.specs.declared.at_link.history.event.Side.{Side}
 use Rattle.lan.specs.declared.at_link.history.event.Side.TheVariants.{A, B}
 use Rattle.lan.specs.Worlds.AtLink.History.{Entry, opening}
-use Rattle.lan.specs.Worlds.AtLink.PacketsSafe.{IsFreshNet}
+use Rattle.lan.specs.Worlds.AtLink.PacketsSafe.{IsInitialNet}
 use Rattle.lan.specs.Worlds.AtLink.Parties.{Net, party, socket_at}
 use Rattle.lan.specs.Worlds.AtLink.Parties.Socket.{Tcp}
 use Rattle.lan.specs.Worlds.AtLink.Paired.{AreNew, HasSent, IsOfSocket, NewSocket, Seat, Shows, at_zero, begun, side_in, told}
 
-module _ (starts : Side → ℕ → ℕ) (net : Net) (seats : Side → Seat) (news : Side → NewSocket) (fresh : IsFreshNet starts net) (new : AreNew seats news net) where
+module _ (starts : Side → ℕ → ℕ) (net : Net) (seats : Side → Seat) (news : Side → NewSocket) (initial : IsInitialNet starts net) (new : AreNew seats news net) where
   none_made : (side : Side) → (party net side).segments ≡ []
-  none_made A = fresh.a.segments
-  none_made B = fresh.b.segments
+  none_made A = initial.a.segments
+  none_made B = initial.b.segments
 
   abbrev Socket : Side → Type 0
-  Socket side = socket_at (party net side) (seats side).place ≡ Some (Tcp (at (begun seats news).sides (side_in side)).socket)
+  Socket side = socket_at (party net side) (seats side).slot ≡ Some (Tcp (at (begun seats news).sides (side_in side)).socket)
 
   socket : (side : Side) → Socket side
   socket A = new A
@@ -27,20 +27,20 @@ module _ (starts : Side → ℕ → ℕ) (net : Net) (seats : Side → Seat) (ne
   host A = refl
   host B = refl
 
-  clock : (side : Side) → (at (begun seats news).sides (side_in side)).moment ≡ at_zero side
+  clock : (side : Side) → (at (begun seats news).sides (side_in side)).instant ≡ at_zero side
   clock A = refl
   clock B = refl
 
-  past : (side : Side) → at (pasts (begun seats news).history) (side_in side) ≡ told net.history side (seats side).place
-  past A = ap (λ (h : List Entry). told h A (seats A).place) (sym fresh.history)
-  past B = ap (λ (h : List Entry). told h B (seats B).place) (sym fresh.history)
+  past : (side : Side) → at (pasts (begun seats news).history) (side_in side) ≡ told net.history side (seats side).slot
+  past A = ap (λ (h : List Entry). told h A (seats A).slot) (sym initial.history)
+  past B = ap (λ (h : List Entry). told h B (seats B).slot) (sym initial.history)
 
   abbrev Sent : List Entry → Side → Type 0
-  Sent h side = HasSent (opening h side (seats side).place) (party net side).segments (at (begun seats news).sides (side_in side)).sent
+  Sent h side = HasSent (opening h side (seats side).slot) (party net side).segments (at (begun seats news).sides (side_in side)).sent
 
   sent : (side : Side) → Sent net.history side
-  sent A = subst (λ (h : List Entry). Sent h A) (sym fresh.history) refl
-  sent B = subst (λ (h : List Entry). Sent h B) (sym fresh.history) refl
+  sent A = subst (λ (h : List Entry). Sent h A) (sym initial.history) refl
+  sent B = subst (λ (h : List Entry). Sent h B) (sym initial.history) refl
 
   made : (side : Side) → AllByRecursion (IsOfSocket net.history side) (party net side).segments
   made side = subst (AllByRecursion (IsOfSocket net.history side)) (sym (none_made side)) tt

@@ -3,11 +3,11 @@ use Rattle.std.proofs.Common.{◌≡◌, ◌≢◌, ℕ, zero, suc, ◌==◌, �
 use Rattle.std.proofs.Common.{Some, refl, ap, ◌∙◌, eq-eqb, arith}
 use Rattle.std.proofs.lemmas.Bool.{ne_eqb}
 use Rattle.std.specs.Prelude.{slice_get}
-use Rattle.tcp_tie.specs.Host.{Made, source_port}
-use Rattle.tcp_tie.specs.Pair.Sides.{Both, at, put}
-use Rattle.tcp_tie.specs.Pair.Sides as Sides
-use Rattle.tcp_tie.specs.declared.pair.event.Side as Pairs
-use Rattle.tcp_tie.specs.declared.pair.event.Side.TheVariants as Of
+use Rattle.tcp_refinement.specs.Host.{Made, source_port}
+use Rattle.tcp_refinement.specs.Pair.Sides.{Both, at, put}
+use Rattle.tcp_refinement.specs.Pair.Sides as Sides
+use Rattle.tcp_refinement.specs.declared.pair.event.Side as Pairs
+use Rattle.tcp_refinement.specs.declared.pair.event.Side.TheVariants as Of
 use Rattle.lan.specs.declared.at_link.history.event.Side.{Side}
 use Rattle.lan.specs.declared.at_link.history.event.Side.TheVariants.{A, B}
 use Rattle.lan.specs.Worlds.AtLink.Kinds.{other}

@@ -2,23 +2,23 @@
 use Rattle.std.proofs.Common.{◌≡◌, ℕ, ◌==◌, ◌||◌, nat_lt, Bool, true, false, if◌then◌else◌, List, [], ◌++◌, take, Option, Some, None, Result, Ok, Err}
 use Rattle.std.proofs.Common.{refl, sym, ap, ◌∙◌, append-nil, arith}
 use Rattle.std.proofs.lemmas.Bool.Decides.{nat_tests}
-use Rattle.tcp_tie.specs.History.{closed_by, closes_in}
-use Rattle.tcp_tie.specs.Pair.History.{connect_adds, listen_adds, recv_adds, send_adds}
-use Rattle.tcp_tie.specs.Pair.Steps.{connect_says, limit_of, listen_says, recv_fault, send_says, set_by}
-use Rattle.tcp_tie.specs.Tie.{Past}
-use Rattle.tcp_tie.specs.declared.pair.event.PairAnswer.{PairAnswer}
-use Rattle.tcp_tie.specs.declared.pair.event.PairAnswer.TheVariants as Says
-use Rattle.tcp_model.specs.ConnectError.{ConnectError}
-use Rattle.tcp_model.specs.ConnectError.TheVariants as Connect
-use Rattle.tcp_model.specs.ListenError.{ListenError}
-use Rattle.tcp_model.specs.ListenError.TheVariants as Listen
-use Rattle.tcp_model.specs.RecvError.{RecvError}
-use Rattle.tcp_model.specs.RecvError.TheVariants as Recv
-use Rattle.tcp_model.specs.SendError as Writes
-use Rattle.tcp_model.specs.SendError.TheVariants as Send
-use Rattle.tcp_model.specs.State.{State}
-use Rattle.tcp_model.specs.Settings.{set_hop_limit}
-use Rattle.tcp_model.specs.Value.{TcpValue}
+use Rattle.tcp_refinement.specs.History.{closed_by, closes_in}
+use Rattle.tcp_refinement.specs.Pair.History.{connect_adds, listen_adds, recv_adds, send_adds}
+use Rattle.tcp_refinement.specs.Pair.Steps.{connect_says, limit_of, listen_says, recv_fault, send_says, set_by}
+use Rattle.tcp_refinement.specs.Tie.{Past}
+use Rattle.tcp_refinement.specs.declared.pair.event.PairAnswer.{PairAnswer}
+use Rattle.tcp_refinement.specs.declared.pair.event.PairAnswer.TheVariants as Says
+use Rattle.tcp_block.specs.ConnectError.{ConnectError}
+use Rattle.tcp_block.specs.ConnectError.TheVariants as Connect
+use Rattle.tcp_block.specs.ListenError.{ListenError}
+use Rattle.tcp_block.specs.ListenError.TheVariants as Listen
+use Rattle.tcp_block.specs.RecvError.{RecvError}
+use Rattle.tcp_block.specs.RecvError.TheVariants as Recv
+use Rattle.tcp_block.specs.SendError as Writes
+use Rattle.tcp_block.specs.SendError.TheVariants as Send
+use Rattle.tcp_block.specs.State.{State}
+use Rattle.tcp_block.specs.Settings.{set_hop_limit}
+use Rattle.tcp_block.specs.Value.{TcpValue}
 use Rattle.ip_wire.specs.IpEndpoint.{IpEndpoint}
 use Rattle.lan.specs.declared.at_link.history.answer.Answer.{Answer}
 use Rattle.lan.specs.declared.at_link.history.answer.Answer.TheVariants as To
@@ -28,7 +28,7 @@ use Rattle.lan.specs.declared.at_link.history.event.TcpSetting.TheVariants as Ch
 use Rattle.lan.specs.declared.at_link.history.record.Opening.{Opening}
 use Rattle.lan.specs.Worlds.AtLink.Call as Call
 use Rattle.lan.specs.Worlds.AtLink.Call.{SocketCall}
-use Rattle.lan.specs.Worlds.AtLink.Calls.{bytes_or, connect_fault, count_or, done_or, hops_or_none, listen_fault, setting_after, write_fault}
+use Rattle.lan.specs.Worlds.AtLink.Calls.{bytes_or, connect_fault, count_or, done_or, hop_limit_or_none, listen_fault, setting_after, write_fault}
 use Rattle.lan.specs.Worlds.AtLink.History.{Entry, bytes_read, bytes_written, closes, first_of, is_closed_by, opening, opening_by, read, written}
 use Rattle.lan.specs.Worlds.AtLink.Happening.{setting_in}
 use Rattle.lan.specs.Worlds.AtLink.Paired.{told, way_by}
@@ -118,9 +118,9 @@ module _ (h : List Entry) (side : Side) (i : ℕ) where
 
 -- SETTINGS
 
-hops_same : (hops : Option ℕ) → limit_of hops ≡ hops_or_none hops
-hops_same None = refl
-hops_same (Some n) = by (n == 0) (nat_lt 0 n) refl refl where
+hop_limit_same : (hop_limit : Option ℕ) → limit_of hop_limit ≡ hop_limit_or_none hop_limit
+hop_limit_same None = refl
+hop_limit_same (Some n) = by (n == 0) (nat_lt 0 n) refl refl where
   both : (n == 0) ≡ true → nat_lt 0 n ≡ true → ⊥
   both z l = grind (arith, nat_tests)
 
@@ -138,7 +138,7 @@ setting_same v (Changed.Timeout duration) = refl
 setting_same v (Changed.AckDelay duration) = refl
 setting_same v (Changed.KeepAlive interval) = refl
 setting_same v (Changed.NagleEnabled enabled) = refl
-setting_same v (Changed.HopLimit hops) = ap (set_hop_limit v) (hops_same hops)
+setting_same v (Changed.HopLimit hop_limit) = ap (set_hop_limit v) (hop_limit_same hop_limit)
 setting_same v (Changed.CongestionControl control) = refl
 setting_same v (Changed.TsvalGenerator generator) = refl
 setting_same v (Changed.PauseSynack paused) = refl

@@ -3,5 +3,5 @@ use Rattle.std.specs.List.{count_by}
 use Rattle.interface.specs.Used.{is_used}
 use Rattle.lan.proofs.at_link.event.socket_count.Given as goal
 
-abbrev pub invariant-loop-place : goal.invariant-loop-place
-invariant-loop-place l = (l.count ≡ count_by is_used (take l.place-index l.places)) × (l.count ≤ l.place-index)
+abbrev pub invariant-loop-slot : goal.invariant-loop-slot
+invariant-loop-slot l = (l.count ≡ count_by is_used (take l.slot-index l.slots)) × (l.count ≤ l.slot-index)

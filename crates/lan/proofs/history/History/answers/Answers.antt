@@ -1,6 +1,6 @@
 use Rattle.std.proofs.Common.{◌∙◌, ap}
 use Rattle.lan.specs.Worlds.AtLink.Runs.{answers_of}
-use Rattle.lan.specs.Worlds.Past.{PastValue}
+use Rattle.lan.specs.Worlds.EventHistory.{PastValue}
 use Rattle.lan.proofs.Worlds.Pasts.{answers_kept}
 use Rattle.lan.proofs.history.History.answers.Goals as goal
 

@@ -1,5 +1,5 @@
 use Rattle.std.proofs.Common.{◌∷◌, ◌∙◌, ap}
-use Rattle.lan.specs.Worlds.Past.{PastValue, entry}
+use Rattle.lan.specs.Worlds.EventHistory.{PastValue, entry}
 use Rattle.lan.proofs.Worlds.Pasts.{pushed}
 use Rattle.lan.proofs.history.History.push.Goals as goal
 

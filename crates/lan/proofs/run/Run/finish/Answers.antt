@@ -1,6 +1,6 @@
 use Rattle.std.proofs.Common.{[]}
 use Rattle.std.proofs.KnownBytes.{Appends-nil}
-use Rattle.lan.proofs.PieceLemmas.{nothing_left, something_left, last_leads, last_ends}
+use Rattle.lan.proofs.FragmentLemmas.{nothing_left, something_left, last_leads, last_ends}
 use Rattle.lan.proofs.run.Run.finish.Goals as goal
 
 pub returns-then-is_empty : goal.returns-then-is_empty

@@ -1,5 +1,5 @@
 use Rattle.std.proofs.Common.{◌≡◌, Option, Some, None, inl, sym, ◌∙◌}
-use Rattle.lan_base.specs.declared.line.Line.{Line}
+use Rattle.sim_link.specs.declared.line.Line.{Line}
 use Rattle.lan.proofs.EndLemmas.{bad_line}
 use Rattle.lan.proofs.session.Session.take_line.Goals as goal
 

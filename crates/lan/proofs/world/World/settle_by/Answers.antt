@@ -1,16 +1,16 @@
 use Rattle.std.proofs.Common.{ℤ, Option, Some, None, subst}
 use Rattle.lan.specs.Worlds.AtLink.Runs.{WorldValue}
 use Rattle.lan.specs.Worlds.Settling.{Goes, NextRound}
-use Rattle.lan.proofs.Worlds.Settles.{goes_on, one_round_more, rests, the_last_round}
+use Rattle.lan.proofs.Worlds.Settles.{proceeds, one_round_more, rests, the_last_round}
 use Rattle.lan.proofs.world.World.settle_by.Goals as goal
 
 pub returns-in_err-now-clause-goes : goal.returns-in_err-now-clause-goes
 returns-in_err-now-clause-goes c =
-    goes_on c.args.self.now c.loop-round.self c.serve_both.new.self c.loop-round.invariant.goes c.serve_both.ensures.goes
+    proceeds c.args.self.now c.loop-round.self c.serve_both.new.self c.loop-round.invariant.goes c.serve_both.ensures.goes
 
--- a round behind others
-round_on : (first before served behind : WorldValue) → Goes first before → Goes before served → Goes served behind → Goes first behind
-round_on first before served behind one two three = goes_on first served behind (goes_on first before served one two) three
+-- a round after others
+round_on : (first before served following : WorldValue) → Goes first before → Goes before served → Goes served following → Goes first following
+round_on first before served following one two three = proceeds first served following (proceeds first before served one two) three
 
 pub returns-in_err-next-clause-goes : goal.returns-in_err-next-clause-goes
 returns-in_err-next-clause-goes c = round_on c.args.self.now c.loop-round.self c.serve_both.new.self c.next_round.new.self
@@ -21,24 +21,24 @@ returns-in-None-clause-goes c = round_on c.args.self.now c.loop-round.self c.ser
     c.loop-round.invariant.goes c.serve_both.ensures.goes c.next_round.ensures.goes
 
 pub returns-in-None-clause-rounds : goal.returns-in-None-clause-rounds
-returns-in-None-clause-rounds c = the_last_round c.args.budget c.args.from c.loop-round.moment c.loop-round.handed c.in_ok-now.now
+returns-in-None-clause-rounds c = the_last_round c.args.budget c.args.from c.loop-round.instant c.loop-round.handed c.in_ok-now.now
     c.loop-round._round c.args.rounds c.args.self.now c.loop-round.self c.serve_both.new.self c.next_round.new.self c.loop-round-test.true
     c.loop-round.invariant.rounds c.in_ok-now.ensures.served
-    (subst (λ (next : Option ℤ). NextRound c.loop-round.moment c.loop-round.handed next c.serve_both.new.self c.next_round.new.self)
+    (subst (λ (next : Option ℤ). NextRound c.loop-round.instant c.loop-round.handed next c.serve_both.new.self c.next_round.new.self)
     c.in-None.is c.in_ok-next.ensures.next)
 
 pub returns-in-None-clause-rest : goal.returns-in-None-clause-rest
-returns-in-None-clause-rest c = rests c.loop-round.moment c.loop-round.handed c.serve_both.new.self c.next_round.new.self
-    (subst (λ (next : Option ℤ). NextRound c.loop-round.moment c.loop-round.handed next c.serve_both.new.self c.next_round.new.self)
+returns-in-None-clause-rest c = rests c.loop-round.instant c.loop-round.handed c.serve_both.new.self c.next_round.new.self
+    (subst (λ (next : Option ℤ). NextRound c.loop-round.instant c.loop-round.handed next c.serve_both.new.self c.next_round.new.self)
     c.in-None.is c.in_ok-next.ensures.next)
 
 pub loop-round-preserved : goal.loop-round-preserved
 loop-round-preserved c = record {
   goes = round_on c.args.self.now c.loop-round.self c.serve_both.new.self c.next_round.new.self
       c.loop-round.invariant.goes c.serve_both.ensures.goes c.next_round.ensures.goes;
-  rounds = one_round_more c.args.budget c.args.from c.loop-round.moment c.in-Some.next c.loop-round.handed c.in_ok-now.now
+  rounds = one_round_more c.args.budget c.args.from c.loop-round.instant c.in-Some.next c.loop-round.handed c.in_ok-now.now
       c.loop-round._round c.args.self.now c.loop-round.self c.serve_both.new.self c.next_round.new.self
       c.loop-round.invariant.rounds c.in_ok-now.ensures.served
-      (subst (λ (next : Option ℤ). NextRound c.loop-round.moment c.loop-round.handed next c.serve_both.new.self c.next_round.new.self)
+      (subst (λ (next : Option ℤ). NextRound c.loop-round.instant c.loop-round.handed next c.serve_both.new.self c.next_round.new.self)
       c.in-Some.is c.in_ok-next.ensures.next);
 }

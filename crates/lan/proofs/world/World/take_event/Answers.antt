@@ -27,7 +27,7 @@ invariant_of-self-2 c =
     (agrees c.self.inside.start_a.value c.self.inside.start_b.value c.self.inside.a c.self.inside.b c.self.inside.records_a c.self.inside.records_b
     c.self.inside.history.entries c.args.event c.args.self.now c.self.invariant c.self.view_is ∙ c.requires)
     c.of-before.ensures c.in_ok-taken.ensures.happens c.push.ensures c.in_ok-make_room.ensures.same c.in_ok-taken.ensures.kept
-    c.tables_go_on.ensures c.event_is_typed.ensures c.in_ok-taken.ensures.table_a c.in_ok-taken.ensures.table_b
+    c.tables_proceed.ensures c.event_is_typed.ensures c.in_ok-taken.ensures.table_a c.in_ok-taken.ensures.table_b
 
 pub returns-clause-step : goal.returns-clause-step
 returns-clause-step c =

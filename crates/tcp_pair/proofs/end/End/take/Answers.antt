@@ -1,10 +1,10 @@
 use Rattle.std.proofs.Common.{List, Option, ◌∙◌, ap}
 use Rattle.ip_wire.specs.Tcp.{header_of}
-use Rattle.tcp_model.specs.Reply.{Reply}
+use Rattle.tcp_block.specs.Reply.{Reply}
 use Rattle.tcp_socket.specs.Replies.{replies_in}
-use Rattle.tcp_tie.specs.declared.pair.event.SentSegment.{SentSegment}
-use Rattle.tcp_tie.specs.Pair.Steps.{comes_to}
-use Rattle.tcp_tie.specs.Pair.Values.{and_reply}
+use Rattle.tcp_refinement.specs.declared.pair.event.SentSegment.{SentSegment}
+use Rattle.tcp_refinement.specs.Pair.Steps.{comes_to}
+use Rattle.tcp_refinement.specs.Pair.Values.{and_reply}
 use Rattle.tcp_pair.specs.Ends.{EndValue, on_host, with_own}
 use Rattle.tcp_pair.proofs.Arrived.{came}
 use Rattle.tcp_pair.proofs.end.End.take.Goals as goal

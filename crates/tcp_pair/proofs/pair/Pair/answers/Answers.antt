@@ -1,5 +1,5 @@
 use Rattle.std.proofs.Common.{◌∙◌, ap}
-use Rattle.tcp_tie.specs.Pair.History.{answers_of}
+use Rattle.tcp_refinement.specs.Pair.History.{answers_of}
 use Rattle.tcp_pair.specs.States.{PairState}
 use Rattle.tcp_pair.proofs.Histories.{answers_kept}
 use Rattle.tcp_pair.proofs.pair.Pair.answers.Goals as goal

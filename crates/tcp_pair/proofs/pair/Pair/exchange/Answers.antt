@@ -5,12 +5,12 @@ use Rattle.tcp_pair.proofs.pair.Pair.exchange.Goals as goal
 
 pub answer-requires-clause-one : goal.answer-requires-clause-one
 answer-requires-clause-one c =
-    one_left (hosted c.args.self.now) (hosted c.send.new.self) c.args.side c.other.result c.args.moment c.sent-answer.result.now c.in_ok-send.ensures.sent c.other.ensures
+    one_left (hosted c.args.self.now) (hosted c.send.new.self) c.args.side c.other.result c.args.instant c.sent-answer.result.now c.in_ok-send.ensures.sent c.other.ensures
     c.sent-answer.ensures
 
 pub returns-clause-exchanged : goal.returns-clause-exchanged
 returns-clause-exchanged c =
-    exchanged c.answer.result (hosted c.args.self.now) (hosted c.send.new.self) (hosted c.answer.new.self) c.args.side c.other.result c.args.moment c.sent-answer.result.now
+    exchanged c.answer.result (hosted c.args.self.now) (hosted c.send.new.self) (hosted c.answer.new.self) c.args.side c.other.result c.args.instant c.sent-answer.result.now
     c.in_ok-send.ensures.sent c.other.ensures c.sent-answer.ensures c.answer.ensures.comes
 
 pub returns-clause-leads : goal.returns-clause-leads

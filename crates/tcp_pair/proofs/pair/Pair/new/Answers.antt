@@ -1,4 +1,4 @@
-use Rattle.tcp_tie.proofs.PairLaws.{kept_is_safe}
+use Rattle.tcp_refinement.proofs.PairLaws.{kept_is_safe}
 use Rattle.tcp_pair.specs.Invariant.{pair_of}
 use Rattle.tcp_pair.specs.States.{hosted}
 use Rattle.tcp_pair.proofs.Kept.{new_is, new_shown}

@@ -1,7 +1,7 @@
 use Rattle.std.proofs.Common.{◌≡◌, ℕ, Result, Err, IfErr, true, refl, sym, ◌∙◌, subst, arith}
 use Rattle.std.proofs.lemmas.Result.{err_from_is_err_and}
-use Rattle.tcp_tie.specs.declared.pair.event.PairRefused.{PairRefused}
-use Rattle.tcp_tie.specs.declared.pair.event.PairRefused.TheVariants.{Memory}
+use Rattle.tcp_refinement.specs.declared.pair.event.PairRefused.{PairRefused}
+use Rattle.tcp_refinement.specs.declared.pair.event.PairRefused.TheVariants.{Memory}
 use Rattle.tcp_pair.specs.Settling.{CanSettle, is_waiting}
 use Rattle.tcp_pair.specs.States.{hosted}
 use Rattle.tcp_pair.proofs.Led.{onward, stays}

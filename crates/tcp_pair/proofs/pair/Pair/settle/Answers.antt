@@ -1,9 +1,9 @@
 use Rattle.std.proofs.Common.{◌≡◌, ◌∙◌, ap}
-use Rattle.tcp_tie.specs.Pair.Values.{PairValue}
-use Rattle.tcp_tie.specs.declared.pair.event.Side.TheVariants.{B}
-use Rattle.tcp_tie.proofs.PairLaws.{kept_is_safe}
-use Rattle.tcp_progress.specs.BothWays.{both_read}
-use Rattle.tcp_progress.specs.Settle.{read_in}
+use Rattle.tcp_refinement.specs.Pair.Values.{PairValue}
+use Rattle.tcp_refinement.specs.declared.pair.event.Side.TheVariants.{B}
+use Rattle.tcp_refinement.proofs.PairLaws.{kept_is_safe}
+use Rattle.tcp_liveness.specs.BothWays.{both_read}
+use Rattle.tcp_liveness.specs.Settle.{read_in}
 use Rattle.tcp_pair.specs.States.{hosted}
 use Rattle.tcp_pair.proofs.Led.{led, onward, writes_nothing}
 use Rattle.tcp_pair.proofs.Settles.{bound_of, ends_of, read_of, rounds_of, soon_of, through_of}

@@ -1,5 +1,5 @@
 use Rattle.std.proofs.Common.{sym}
-use Rattle.tcp_tie.proofs.PairLaws.{kept_is_safe}
+use Rattle.tcp_refinement.proofs.PairLaws.{kept_is_safe}
 use Rattle.tcp_pair.specs.States.{hosted}
 use Rattle.tcp_pair.proofs.Led.{on_hosted, step_reached}
 use Rattle.tcp_pair.proofs.pair.Pair.step.Goals as goal

@@ -1,11 +1,11 @@
 use Rattle.std.proofs.Common.{◌≡◌, List, [], ◌∷◌, ◌++◌, ◌∙◌, ap}
-use Rattle.tcp_model.specs.State.{State}
-use Rattle.tcp_model.specs.Value.{TcpValue}
-use Rattle.tcp_tie.specs.declared.pair.event.PairAnswer.{PairAnswer}
-use Rattle.tcp_tie.specs.declared.pair.event.Side.{Side}
-use Rattle.tcp_tie.specs.declared.pair.event.Side.TheVariants.{A, B}
-use Rattle.tcp_tie.specs.Pair.History.{side_of}
-use Rattle.tcp_tie.specs.Pair.Sides.{Both, at}
+use Rattle.tcp_block.specs.State.{State}
+use Rattle.tcp_block.specs.Value.{TcpValue}
+use Rattle.tcp_refinement.specs.declared.pair.event.PairAnswer.{PairAnswer}
+use Rattle.tcp_refinement.specs.declared.pair.event.Side.{Side}
+use Rattle.tcp_refinement.specs.declared.pair.event.Side.TheVariants.{A, B}
+use Rattle.tcp_refinement.specs.Pair.History.{side_of}
+use Rattle.tcp_refinement.specs.Pair.Sides.{Both, at}
 use Rattle.tcp_pair.specs.Ends.{EndValue, acted_at}
 use Rattle.tcp_pair.specs.declared.pair.Taken.{Taken}
 use Rattle.tcp_pair.proofs.Kept.{fields_kept, step_taken}
@@ -23,12 +23,12 @@ module _ (c : After-push_reserved-2) where
   ends = record { a = c.self.inside.a; b = c.self.inside.b }
 
   abbrev found : State
-  found = (at ends (side_of c.args.event)).own.socket.block.state
+  found = (at ends (side_of c.args.event)).own.socket.tcb.state
 
   found_is : c.state-found.result ≡ found
   found_is =
       c.state-found.ensures
-      ∙ ap (λ (v : TcpValue). v.block.state) (c.socket.ensures ∙
+      ∙ ap (λ (v : TcpValue). v.tcb.state) (c.socket.ensures ∙
       ap (λ (e : EndValue). e.own.socket) (c.end_at.ensures ∙ ap (λ (s : Side). at ends s) c.side_of.ensures))
 
   taken_is : c.push_reserved.new.self.items ≡ c.self.inside.taken.items ++ record { event = c.args.event; found = found } ∷ []

@@ -1,5 +1,5 @@
 use Rattle.std.proofs.Common.{◌≡◌, ◌∙◌, true, sym}
-use Rattle.tcp_progress.specs.BothWays.{waits_in}
+use Rattle.tcp_liveness.specs.BothWays.{waits_in}
 use Rattle.tcp_pair.specs.States.{hosted}
 use Rattle.tcp_pair.proofs.Led.{on_err, onward}
 use Rattle.tcp_pair.proofs.Turning.{turn_or_memory, turned_by}
@@ -11,13 +11,13 @@ waiting c = sym c.waits.ensures ∙ c.if-not-waits.false
 
 pub returns-clause-turn : goal.returns-clause-turn
 returns-clause-turn c =
-    turned_by c.exchange.result (hosted c.args.self.now) (hosted c.rouse.new.self) (hosted c.exchange.new.self) c.args.side c.wake_at-moment.result (waiting c)
-    c.in_ok-rouse.ensures.roused c.wake_at-moment.ensures c.exchange.ensures.exchanged
+    turned_by c.exchange.result (hosted c.args.self.now) (hosted c.rouse.new.self) (hosted c.exchange.new.self) c.args.side c.wake_at-instant.result (waiting c)
+    c.in_ok-rouse.ensures.roused c.wake_at-instant.ensures c.exchange.ensures.exchanged
 
 pub returns-clause-memory : goal.returns-clause-memory
 returns-clause-memory c =
-    turn_or_memory c.exchange.result (hosted c.args.self.now) (hosted c.rouse.new.self) c.args.side c.wake_at-moment.result (waiting c) c.in_ok-rouse.ensures.roused
-    c.wake_at-moment.ensures c.exchange.ensures.memory
+    turn_or_memory c.exchange.result (hosted c.args.self.now) (hosted c.rouse.new.self) c.args.side c.wake_at-instant.result (waiting c) c.in_ok-rouse.ensures.roused
+    c.wake_at-instant.ensures c.exchange.ensures.memory
 
 pub returns-clause-leads : goal.returns-clause-leads
 returns-clause-leads c = onward (hosted c.args.self.now) (hosted c.rouse.new.self) (hosted c.exchange.new.self) c.rouse.ensures.leads c.exchange.ensures.leads

@@ -1,6 +1,6 @@
 use Rattle.std.proofs.Common.{◌≤◌, length, sym, subst}
 use Rattle.tcp_socket.proofs.Buffers.{released-received, released-IsHeldBy}
-use Rattle.tcp_model.specs.Value.{Received}
+use Rattle.tcp_block.specs.Value.{Received}
 use Rattle.tcp_socket.proofs.receive_buffer.ReceiveBuffer.release.Goals as goal
 
 pub invariant_of-self : goal.invariant_of-self

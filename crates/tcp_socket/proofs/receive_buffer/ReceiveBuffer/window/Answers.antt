@@ -1,5 +1,5 @@
 use Rattle.std.proofs.Common.{sym, ◌∙◌}
-use Rattle.held_bytes.proofs.Places.{length-map_from}
+use Rattle.tcp_ranges.proofs.Offsets.{length-map_from}
 use Rattle.tcp_socket.proofs.receive_buffer.ReceiveBuffer.window.Goals as goal
 
 pub returns-clause-value : goal.returns-clause-value

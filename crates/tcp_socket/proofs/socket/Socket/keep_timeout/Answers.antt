@@ -4,7 +4,7 @@ use Rattle.tcp_socket.proofs.socket.Socket.keep_timeout.Goals as goal
 pub invariant_of-self : goal.invariant_of-self
 invariant_of-self c = record {
   room = c.self.invariant.room;
-  block =
-      rw c.keep_timeout.ensures (kept_timeout c.self.inside.block c.len.result c.self.invariant.block);
+  tcb =
+      rw c.keep_timeout.ensures (kept_timeout c.self.inside.tcb c.len.result c.self.invariant.tcb);
   unsettled = tt;
 }

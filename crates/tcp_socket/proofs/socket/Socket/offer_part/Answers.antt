@@ -1,10 +1,10 @@
 use Rattle.std.proofs.Common.{◌^◌, ◌<◌, sym, ap, subst, ◌∙◌, arith}
 use Rattle.ip_wire.specs.TcpHeader.{TcpHeader}
-use Rattle.tcp_model.specs.Choices.{choice_of}
-use Rattle.tcp_model.specs.Offers.{number_at}
-use Rattle.tcp_model.specs.Rules.{control_for}
-use Rattle.tcp_model.specs.Segments.{segment}
-use Rattle.tcp_model.specs.Value.{TcpValue, queued_in, window_of}
+use Rattle.tcp_block.specs.Choices.{choice_of}
+use Rattle.tcp_block.specs.Offers.{number_at}
+use Rattle.tcp_block.specs.Rules.{control_for}
+use Rattle.tcp_block.specs.Segments.{segment}
+use Rattle.tcp_block.specs.Value.{TcpValue, queued_in, window_of}
 use Rattle.tcp_socket.specs.Opening.{MayOpen, open_offer}
 use Rattle.tcp_socket.specs.Receive.{FitsBuffer}
 use Rattle.tcp_socket.proofs.Going.{part_made, gives_segment}
@@ -18,13 +18,13 @@ offer_segment-requires g c =
     let pair = c.args.pair.now in
     let choice = choice_of c.args.part.now in
     let header = c.segment-header in
-    let is = part_made v c.self.inside.block pair c.now.result cx.moment c.window-window.result c.len.result c.control-control.result
-    c.number_at-number.result choice header.result header.ensures (ap (λ (w : TcpValue). w.block) c.self.view_is) c.now.ensures.value
+    let is = part_made v c.self.inside.tcb pair c.now.result cx.instant c.window-window.result c.len.result c.control-control.result
+    c.number_at-number.result choice header.result header.ensures (ap (λ (w : TcpValue). w.tcb) c.self.view_is) c.now.ensures.value
     c.window-window.ensures c.control-control.ensures (c.len.ensures ∙ ap queued_in c.self.view_is) c.number_at-number.ensures in
     let room : FitsBuffer v.queued = subst (λ (w : TcpValue). FitsBuffer w.queued) c.self.view_is c.self.invariant.room in
-    let una : v.block.sender.una.0 < 2 ^ 32 = subst (λ (w : TcpValue). w.block.sender.una.0 < 2 ^ 32) c.self.view_is (omega (arith, c.self.ranges)) in
+    let una : v.tcb.sender.una.0 < 2 ^ 32 = subst (λ (w : TcpValue). w.tcb.sender.una.0 < 2 ^ 32) c.self.view_is (omega (arith, c.self.ranges)) in
     record {
-      «open» = subst (λ (h : TcpHeader). MayOpen v (open_offer c.args.kind cx v pair h choice.place choice.len)) (sym is)
+      «open» = subst (λ (h : TcpHeader). MayOpen v (open_offer c.args.kind cx v pair h choice.offset choice.len)) (sym is)
           (may_part c.args.kind cx v pair choice room una c.requires.part);
       small = omega (arith, c.requires.part.within, room);
     }
@@ -36,12 +36,12 @@ returns g c =
     let pair = c.args.pair.now in
     let choice = choice_of c.args.part.now in
     let header = c.segment-header in
-    let is = part_made v c.self.inside.block pair c.now.result cx.moment c.window-window.result c.len.result c.control-control.result
-    c.number_at-number.result choice header.result header.ensures (ap (λ (w : TcpValue). w.block) c.self.view_is) c.now.ensures.value
+    let is = part_made v c.self.inside.tcb pair c.now.result cx.instant c.window-window.result c.len.result c.control-control.result
+    c.number_at-number.result choice header.result header.ensures (ap (λ (w : TcpValue). w.tcb) c.self.view_is) c.now.ensures.value
     c.window-window.ensures c.control-control.ensures (c.len.ensures ∙ ap queued_in c.self.view_is) c.number_at-number.ensures in
     let gives =
     gives_segment c.args.kind cx v c.offer_segment.new.self pair header.result
-    (segment v.block pair cx.moment (window_of v) (control_for choice (queued_in v)) (number_at v.block choice.place)) choice.place choice.len
+    (segment v.tcb pair cx.instant (window_of v) (control_for choice (queued_in v)) (number_at v.tcb choice.offset)) choice.offset choice.len
     c.offer_segment.result c.offer_segment.ensures.answer c.offer_segment.ensures.socket is
     in
     record { answer = gives.answer_is; socket = gives.socket_is }

@@ -1,8 +1,8 @@
 use Rattle.std.proofs.Common.{◌≡◌, ℕ, ℤ, ap, ◌∙◌}
-use Rattle.tcp_model.specs.OfferKind.TheVariants as Kind
-use Rattle.tcp_model.specs.Segments.{syn_segment}
-use Rattle.tcp_model.specs.Value.{TcpValue, free_in, room_of}
-use Rattle.tcp_model.specs.declared.block.Block.{Block}
+use Rattle.tcp_block.specs.OfferKind.TheVariants as Kind
+use Rattle.tcp_block.specs.Segments.{syn_segment}
+use Rattle.tcp_block.specs.Value.{TcpValue, free_in, room_of}
+use Rattle.tcp_block.specs.declared.tcb.Tcb.{Tcb}
 use Rattle.tcp_socket.proofs.Going.{gives_segment}
 use Rattle.tcp_socket.proofs.socket.Socket.offer_syn.Goals as goal
 
@@ -14,17 +14,17 @@ returns g c =
     let header = c.syn_segment-header in
     let room : c.capacity-capacity.result ≡ room_of v.received = c.capacity-capacity.ensures.value ∙ ap (λ (w : TcpValue). room_of w.received) c.self.view_is in
     let free : c.window-free.result ≡ free_in v = c.window-free.ensures.value ∙ ap free_in c.self.view_is in
-    let is : header.result ≡ syn_segment v.block pair cx.moment cx.ip_mtu (room_of v.received) (free_in v) =
+    let is : header.result ≡ syn_segment v.tcb pair cx.instant cx.ip_mtu (room_of v.received) (free_in v) =
     header.ensures
-    ∙ ap (λ (b : Block). syn_segment b pair c.now.result c.ip_mtu.result c.capacity-capacity.result c.window-free.result)
-    (ap (λ (w : TcpValue). w.block) c.self.view_is)
-    ∙ ap (λ (now : ℤ). syn_segment v.block pair now c.ip_mtu.result c.capacity-capacity.result c.window-free.result) c.now.ensures.value
-    ∙ ap (λ (mtu : ℕ). syn_segment v.block pair cx.moment mtu c.capacity-capacity.result c.window-free.result) c.ip_mtu.ensures
-    ∙ ap (λ (n : ℕ). syn_segment v.block pair cx.moment cx.ip_mtu n c.window-free.result) room
-    ∙ ap (λ (n : ℕ). syn_segment v.block pair cx.moment cx.ip_mtu (room_of v.received) n) free
+    ∙ ap (λ (b : Tcb). syn_segment b pair c.now.result c.ip_mtu.result c.capacity-capacity.result c.window-free.result)
+    (ap (λ (w : TcpValue). w.tcb) c.self.view_is)
+    ∙ ap (λ (now : ℤ). syn_segment v.tcb pair now c.ip_mtu.result c.capacity-capacity.result c.window-free.result) c.now.ensures.value
+    ∙ ap (λ (mtu : ℕ). syn_segment v.tcb pair cx.instant mtu c.capacity-capacity.result c.window-free.result) c.ip_mtu.ensures
+    ∙ ap (λ (n : ℕ). syn_segment v.tcb pair cx.instant cx.ip_mtu n c.window-free.result) room
+    ∙ ap (λ (n : ℕ). syn_segment v.tcb pair cx.instant cx.ip_mtu (room_of v.received) n) free
     in
     let gives =
-    gives_segment Kind.Syn cx v c.offer_segment.new.self pair header.result (syn_segment v.block pair cx.moment cx.ip_mtu (room_of v.received) (free_in v)) 0 0
+    gives_segment Kind.Syn cx v c.offer_segment.new.self pair header.result (syn_segment v.tcb pair cx.instant cx.ip_mtu (room_of v.received) (free_in v)) 0 0
     c.offer_segment.result c.offer_segment.ensures.answer c.offer_segment.ensures.socket is
     in
     record { answer = gives.answer_is; socket = gives.socket_is }

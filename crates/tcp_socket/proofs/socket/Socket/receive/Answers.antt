@@ -9,29 +9,29 @@ returns-then-is_rst g c =
     let i = c.args.incoming.now in
     let leads =
     reset_received cx c.args.self.now i.ip_repr.now i.header.now i.bytes.now
-    (answer_of c.take_reset.result cx.moment c.take_reset.new.self i.ip_repr.now i.header.now (length i.bytes.now)) c.take_reset.new.self
-    (sym c.is_rst.ensures ∙ c.if-is_rst.true) c.take_reset.ensures.answer c.take_reset.ensures.socket
+    (answer_of c.on_reset.result cx.instant c.on_reset.new.self i.ip_repr.now i.header.now (length i.bytes.now)) c.on_reset.new.self
+    (sym c.is_rst.ensures ∙ c.if-is_rst.true) c.on_reset.ensures.answer c.on_reset.ensures.socket
     in
     record { answer = leads.answer; socket = leads.socket }
 
-pub returns-then-draws_first : goal.returns-then-draws_first
-returns-then-draws_first g c =
+pub returns-then-challenges_first : goal.returns-then-challenges_first
+returns-then-challenges_first g c =
     let cx = g.C.Context.context c.args.cx.now in
     let i = c.args.incoming.now in
     let leads =
     drawn_received cx c.args.self.now i.ip_repr.now i.header.now i.bytes.now c.now.result
-    (answer_of c.draw.result cx.moment c.draw.new.self i.ip_repr.now i.header.now (length i.bytes.now)) c.draw.new.self
-    (sym c.is_rst.ensures ∙ c.if-is_rst.false) (sym c.draws_first.ensures ∙ c.if-draws_first.true) c.now.ensures.value c.draw.ensures.answer c.draw.ensures.socket
+    (answer_of c.draw.result cx.instant c.draw.new.self i.ip_repr.now i.header.now (length i.bytes.now)) c.draw.new.self
+    (sym c.is_rst.ensures ∙ c.if-is_rst.false) (sym c.challenges_first.ensures ∙ c.if-challenges_first.true) c.now.ensures.value c.draw.ensures.answer c.draw.ensures.socket
     in
     record { answer = leads.answer; socket = leads.socket }
 
-pub returns-else-draws_first : goal.returns-else-draws_first
-returns-else-draws_first g c =
+pub returns-else-challenges_first : goal.returns-else-challenges_first
+returns-else-challenges_first g c =
     let cx = g.C.Context.context c.args.cx.now in
     let i = c.args.incoming.now in
     let leads =
     checked_received cx c.args.self.now i.ip_repr.now i.header.now i.bytes.now c.now.result
-    (answer_of c.check.result cx.moment c.check.new.self i.ip_repr.now i.header.now (length i.bytes.now)) c.check.new.self
-    (sym c.is_rst.ensures ∙ c.if-is_rst.false) (sym c.draws_first.ensures ∙ c.if-draws_first.false) c.now.ensures.value c.check.ensures.answer c.check.ensures.socket
+    (answer_of c.check.result cx.instant c.check.new.self i.ip_repr.now i.header.now (length i.bytes.now)) c.check.new.self
+    (sym c.is_rst.ensures ∙ c.if-is_rst.false) (sym c.challenges_first.ensures ∙ c.if-challenges_first.false) c.now.ensures.value c.check.ensures.answer c.check.ensures.socket
     in
     record { answer = leads.answer; socket = leads.socket }

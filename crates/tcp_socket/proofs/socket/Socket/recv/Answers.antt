@@ -1,5 +1,5 @@
 use Rattle.std.proofs.Common.{◌≡◌, refl, sym, ap}
-use Rattle.tcp_model.specs.Value.{TcpValue}
+use Rattle.tcp_block.specs.Value.{TcpValue}
 use Rattle.tcp_socket.proofs.Sockets.{none_refuses}
 use Rattle.tcp_socket.proofs.socket.Socket.recv.Goals as goal
 

@@ -1,5 +1,5 @@
 use Rattle.std.proofs.Common.{◌≡◌, refl, sym, ap}
-use Rattle.tcp_model.specs.Value.{TcpValue}
+use Rattle.tcp_block.specs.Value.{TcpValue}
 use Rattle.tcp_socket.proofs.Sockets.{fits_sent, is_allowed}
 use Rattle.tcp_socket.proofs.socket.Socket.send.Goals as goal
 
@@ -18,7 +18,7 @@ invariant_of-self-2 g c =
     let e = c.enqueue_many_with-answer.ensures in
     record {
       room = rw e.3 (fits_sent c.self.inside.queued e.0 c.enqueue_many_with-answer.result.0 e.1 c.self.invariant.room);
-      block = c.self.invariant.block;
+      tcb = c.self.invariant.tcb;
       unsettled = tt;
     }
 

@@ -6,6 +6,6 @@ invariant_of-self-2 c =
     record {
       room = rw c.enqueue_slice.ensures.queued
           (fits_queued c.self.inside.queued c.enqueue_slice.result c.args.«data».now c.enqueue_slice.ensures.count c.self.invariant.room);
-      block = c.self.invariant.block;
+      tcb = c.self.invariant.tcb;
       unsettled = tt;
     }

@@ -1,7 +1,7 @@
 use Rattle.std.proofs.Common.{◌≡◌, false, ℤ, length, sym, ap, ◌∙◌}
-use Rattle.tcp_model.specs.Arrival.{told}
-use Rattle.tcp_model.specs.Value.{TcpValue}
-use Rattle.tcp_model.specs.States.{is_closed}
+use Rattle.tcp_block.specs.Arrival.{told}
+use Rattle.tcp_block.specs.Value.{TcpValue}
+use Rattle.tcp_block.specs.States.{is_closed}
 use Rattle.tcp_socket.specs.Answering.{answer_of}
 use Rattle.tcp_socket.proofs.Steps.{rest_leads}
 use Rattle.tcp_socket.proofs.socket.Socket.take_rest.Goals as goal
@@ -11,25 +11,25 @@ returns-clause-answer g c =
     let cx = g.C.Context.context c.args.cx.now in
     let i = c.args.incoming.now in
     let v = c.args.self.now in
-    let state : is_closed c.self.inside.block.state ≡ is_closed v.block.state = ap (λ (w : TcpValue). is_closed w.block.state) c.self.view_is in
-    let opened : is_closed v.block.state ≡ false = sym state ∙ sym c.is_closed.ensures ∙ c.if-is_closed.false in
-    let heard : c.take_window.new.self ≡ told v i.header.now c.args.duplicates cx.moment =
-    c.take_window.ensures ∙ ap (λ (m : ℤ). told v i.header.now c.args.duplicates m) c.now.ensures.value
+    let state : is_closed c.self.inside.tcb.state ≡ is_closed v.tcb.state = ap (λ (w : TcpValue). is_closed w.tcb.state) c.self.view_is in
+    let opened : is_closed v.tcb.state ≡ false = sym state ∙ sym c.is_closed.ensures ∙ c.if-is_closed.false in
+    let heard : c.on_window.new.self ≡ told v i.header.now c.args.duplicates cx.instant =
+    c.on_window.ensures ∙ ap (λ (m : ℤ). told v i.header.now c.args.duplicates m) c.now.ensures.value
     in
-    (rest_leads c.args.stored cx c.args.duplicates v c.take_window.new.self i.ip_repr.now i.header.now i.bytes.now
-    (answer_of c.take_content.result cx.moment c.take_content.new.self i.ip_repr.now i.header.now (length i.bytes.now)) c.take_content.new.self opened heard
-    c.take_content.ensures.answer c.take_content.ensures.socket).answer
+    (rest_leads c.args.stored cx c.args.duplicates v c.on_window.new.self i.ip_repr.now i.header.now i.bytes.now
+    (answer_of c.on_content.result cx.instant c.on_content.new.self i.ip_repr.now i.header.now (length i.bytes.now)) c.on_content.new.self opened heard
+    c.on_content.ensures.answer c.on_content.ensures.socket).answer
 
 pub returns-clause-socket : goal.returns-clause-socket
 returns-clause-socket g c =
     let cx = g.C.Context.context c.args.cx.now in
     let i = c.args.incoming.now in
     let v = c.args.self.now in
-    let state : is_closed c.self.inside.block.state ≡ is_closed v.block.state = ap (λ (w : TcpValue). is_closed w.block.state) c.self.view_is in
-    let opened : is_closed v.block.state ≡ false = sym state ∙ sym c.is_closed.ensures ∙ c.if-is_closed.false in
-    let heard : c.take_window.new.self ≡ told v i.header.now c.args.duplicates cx.moment =
-    c.take_window.ensures ∙ ap (λ (m : ℤ). told v i.header.now c.args.duplicates m) c.now.ensures.value
+    let state : is_closed c.self.inside.tcb.state ≡ is_closed v.tcb.state = ap (λ (w : TcpValue). is_closed w.tcb.state) c.self.view_is in
+    let opened : is_closed v.tcb.state ≡ false = sym state ∙ sym c.is_closed.ensures ∙ c.if-is_closed.false in
+    let heard : c.on_window.new.self ≡ told v i.header.now c.args.duplicates cx.instant =
+    c.on_window.ensures ∙ ap (λ (m : ℤ). told v i.header.now c.args.duplicates m) c.now.ensures.value
     in
-    (rest_leads c.args.stored cx c.args.duplicates v c.take_window.new.self i.ip_repr.now i.header.now i.bytes.now
-    (answer_of c.take_content.result cx.moment c.take_content.new.self i.ip_repr.now i.header.now (length i.bytes.now)) c.take_content.new.self opened heard
-    c.take_content.ensures.answer c.take_content.ensures.socket).socket
+    (rest_leads c.args.stored cx c.args.duplicates v c.on_window.new.self i.ip_repr.now i.header.now i.bytes.now
+    (answer_of c.on_content.result cx.instant c.on_content.new.self i.ip_repr.now i.header.now (length i.bytes.now)) c.on_content.new.self opened heard
+    c.on_content.ensures.answer c.on_content.ensures.socket).socket

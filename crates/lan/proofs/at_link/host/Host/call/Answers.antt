@@ -1,10 +1,10 @@
-use Rattle.interface_egress.specs.Set.{places}
+use Rattle.iface_egress.specs.Set.{slots}
 use Rattle.lan.specs.Worlds.AtLink.Kinds.{kind_of}
 use Rattle.lan.proofs.Worlds.AtLink.Called.{call_from}
 use Rattle.lan.proofs.at_link.host.Host.call.Goals as goal
 
 pub returns-clause-done : goal.returns-clause-done
 returns-clause-done c =
-    call_from c.args.self.now c.self.inside.interface c.call_at.new.interface (places c.self.inside.sockets) (places c.call_at.new.sockets)
-    c.self.inside.port.link c.args.place (kind_of c.args.event.now) c.in_ok-said.said c.in-Some.taken
+    call_from c.args.self.now c.self.inside.interface c.call_at.new.interface (slots c.self.inside.sockets) (slots c.call_at.new.sockets)
+    c.self.inside.port.link c.args.slot (kind_of c.args.event.now) c.in_ok-said.said c.in-Some.taken
     c.self.view_is c.in-Some.is c.requires c.in_ok-said.ensures.done

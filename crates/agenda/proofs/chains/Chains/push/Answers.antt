@@ -1,8 +1,0 @@
-use Rattle.agenda.proofs.Walks.{pushed_key}
-use Rattle.agenda.proofs.chains.Chains.push.Goals as goal
-
-pub returns-clause-linked : goal.returns-clause-linked
-returns-clause-linked c =
-    let linked = pushed_key c.args.keys.now c.args.self.now.first.items c.args.self.now.links.items c.args.bucket c.last_before-last.result
-    c.link_behind-link.result c.requires.linked c.requires.bucket c.last_before-last.ensures c.link_behind-link.ensures in
-    rw c.lead.ensures.first (rw c.lead.ensures.links (rw c.in_ok-push.ensures.items linked))

@@ -1,6 +1,0 @@
-use Rattle.std.proofs.Common.{length, sym, ap, ◌∙◌}
-use Rattle.agenda.proofs.Marked.{length_marks}
-use Rattle.agenda.proofs.list.Agenda.len.Goals as goal
-
-pub returns : goal.returns
-returns c = sym (length_marks c.self.inside.words.items c.self.inside.len) ∙ ap length c.self.view_is

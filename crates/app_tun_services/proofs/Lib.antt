@@ -1,0 +1,9 @@
+mod ReadTurns
+mod Beginning
+mod Initial
+mod Connections
+mod Running
+mod Collected
+mod Echo
+mod Megabyte
+mod Reading

@@ -1,0 +1,12 @@
+pub mod Link
+pub mod Echo
+pub mod Request
+pub mod Counts
+pub mod Site
+pub use Rattle.tcp_block.specs.TcbRules
+pub mod Settings
+pub mod Services
+pub mod Backlogs
+pub mod Tallies
+pub mod Begins
+pub mod Turns

@@ -1,0 +1,23 @@
+use Rattle.std.proofs.Common.{◌≤◌, [], ◌∷◌, length, sym, ◌∙◌, rules}
+use Rattle.base_buffer.proofs.RingSteps.{released-rewritten}
+use Rattle.base_buffer.proofs.ring_buffer.RingBuffer.dequeue_one_with.Goals as goal
+use Rattle.base_buffer.proofs.ring_buffer.RingBuffer.dequeue_one_with.Goals.{then-is_ok, else-is_ok}
+use Rattle.std.specs.Fn.{FnOnceReturnsAtMut}
+use Rattle.std.proofs.Common.{of_calls}
+use Rattle.base_buffer.proofs.Answered.{MatchResult-ok, MatchResult-err}
+use Rattle.base_buffer.proofs.RingSteps.{some_free}
+
+pub returns-clause-called : goal.returns-clause-called
+returns-clause-called g c =
+    let met : FnOnceReturnsAtMut g.F.FnOnce c.args.f c.first_mut.result.now c.f-answer.result c.f-answer.new.arg2 = search (rules, of_calls) in
+    let some : 1 ≤ length c.args.self.now.queue = some_free c.args.self.now.queue c.first_mut.result.now c.first_mut.ensures.value in (
+      c.first_mut.result.now,
+      c.f-answer.new.arg2,
+      c.first_mut.ensures.value,
+      met,
+      elim c.if-is_ok.branch [
+        | then-is_ok w ↦ MatchResult-ok _ _ _ (sym c.is_ok.ensures.value ∙ w.if-is_ok.true) (w.self-is ∙ w.dequeue_allocated.ensures ∙
+            released-rewritten c.args.self.now (c.f-answer.new.arg2 ∷ []) some)
+        | else-is_ok w ↦ MatchResult-err _ _ _ (sym c.is_ok.ensures.value ∙ w.if-is_ok.false) w.self-is
+      ],
+    )

@@ -1,5 +1,0 @@
-use Rattle.std.proofs.Common.{length}
-use Rattle.dhcp_wire.proofs.emit.+addresses_len.Given as goal
-
-abbrev pub decreases-addresses_len : goal.decreases-addresses_len
-decreases-addresses_len l = length l.addresses.now

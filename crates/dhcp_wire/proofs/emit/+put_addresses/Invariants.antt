@@ -1,5 +1,0 @@
-use Rattle.std.proofs.Common.{length}
-use Rattle.dhcp_wire.proofs.emit.+put_addresses.Given as goal
-
-abbrev pub decreases-put_addresses : goal.decreases-put_addresses
-decreases-put_addresses l = length l.addresses.now

@@ -1,6 +1,0 @@
-use Rattle.net_base.specs.Time.{IsMoment}
-use Rattle.host.proofs.boot.turns.take_turns.Given as goal
-
--- the last turn's moment is one
-abbrev pub invariant-loop : goal.invariant-loop
-invariant-loop g l = IsMoment l.last

@@ -1,5 +1,0 @@
-use Rattle.icmpv4.proofs.Equal.{Decides-header, Decides-message}
-use Rattle.icmpv4.proofs.laws.icmpv4_messages_equated.Goals as goal
-
-pub returns : goal.returns
-returns c = record { headers = Decides-header; messages = Decides-message }

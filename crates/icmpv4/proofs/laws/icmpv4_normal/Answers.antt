@@ -1,5 +1,0 @@
-use Rattle.icmpv4.proofs.Normal.{normal-read, normal-normal}
-use Rattle.icmpv4.proofs.laws.icmpv4_normal.Goals as goal
-
-pub returns : goal.returns
-returns c = record { read = normal-read; again = normal-normal }

@@ -1,5 +1,0 @@
-use Rattle.icmpv4.proofs.Messages.{bytes-spelling}
-use Rattle.icmpv4.proofs.laws.icmpv4_spelled.Goals as goal
-
-pub returns : goal.returns
-returns c = bytes-spelling

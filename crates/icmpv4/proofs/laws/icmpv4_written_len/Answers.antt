@@ -1,5 +1,0 @@
-use Rattle.icmpv4.proofs.Lengths.{length-message}
-use Rattle.icmpv4.proofs.laws.icmpv4_written_len.Goals as goal
-
-pub returns : goal.returns
-returns c = length-message

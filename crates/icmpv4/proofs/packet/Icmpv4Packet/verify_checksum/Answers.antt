@@ -1,5 +1,0 @@
-use Rattle.ip_address.proofs.Covered.{all_ones-holds}
-use Rattle.icmpv4.proofs.packet.Icmpv4Packet.verify_checksum.Goals as goal
-
-pub returns : goal.returns
-returns c = all_ones-holds _ _ c.sum.ensures

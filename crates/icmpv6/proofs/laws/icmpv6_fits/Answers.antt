@@ -1,5 +1,0 @@
-use Rattle.icmpv6.proofs.Normal.{fits, can_carry}
-use Rattle.icmpv6.proofs.laws.icmpv6_fits.Goals as goal
-
-pub returns : goal.returns
-returns c = record { value = fits; bytes = can_carry }

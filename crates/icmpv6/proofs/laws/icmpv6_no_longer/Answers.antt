@@ -1,5 +1,0 @@
-use Rattle.icmpv6.proofs.Spelled.{no_longer}
-use Rattle.icmpv6.proofs.laws.icmpv6_no_longer.Goals as goal
-
-pub returns : goal.returns
-returns c = no_longer

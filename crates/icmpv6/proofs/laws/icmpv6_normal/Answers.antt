@@ -1,5 +1,0 @@
-use Rattle.icmpv6.proofs.Normal.{normal-read, normal-normal}
-use Rattle.icmpv6.proofs.laws.icmpv6_normal.Goals as goal
-
-pub returns : goal.returns
-returns c = record { read = normal-read; again = normal-normal }

@@ -1,5 +1,0 @@
-use Rattle.icmpv6.proofs.Lengths.{length-message}
-use Rattle.icmpv6.proofs.laws.icmpv6_written_len.Goals as goal
-
-pub returns : goal.returns
-returns c = length-message

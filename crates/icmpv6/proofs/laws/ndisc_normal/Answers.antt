@@ -1,6 +1,0 @@
-use Rattle.icmpv6.proofs.NdiscLaws.{normal-normal}
-use Rattle.icmpv6.proofs.NdiscNormal.{IsNdisc-normal}
-use Rattle.icmpv6.proofs.laws.ndisc_normal.Goals as goal
-
-pub returns : goal.returns
-returns c = record { read = IsNdisc-normal; again = normal-normal }

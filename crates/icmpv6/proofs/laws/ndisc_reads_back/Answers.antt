@@ -1,5 +1,0 @@
-use Rattle.icmpv6.proofs.NdiscLaws.{IsNdisc-written, normal-same}
-use Rattle.icmpv6.proofs.laws.ndisc_reads_back.Goals as goal
-
-pub returns : goal.returns
-returns c = record { found = IsNdisc-written; same = normal-same }

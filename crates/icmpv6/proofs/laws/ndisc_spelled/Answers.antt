@@ -1,5 +1,0 @@
-use Rattle.icmpv6.proofs.NdiscSpelled.{spelling-of}
-use Rattle.icmpv6.proofs.laws.ndisc_spelled.Goals as goal
-
-pub returns : goal.returns
-returns c = spelling-of

@@ -1,0 +1,15 @@
+pub mod Apart
+pub mod BestOf
+pub mod ByPrefix
+pub mod Changed
+pub mod ErrorLimit
+pub mod Orders
+pub mod PathMtu
+pub mod Places
+pub mod ReassembledDatagram
+pub mod Renewed
+pub mod RouteTable
+pub mod FourBytes
+pub mod InParts
+pub mod Loopback
+pub mod Keys

@@ -1,0 +1,767 @@
+//! A host alongside its sockets and its slots: what it answers to sockets, and where its packets go.
+ghost use Rattle.std.specs.Prelude.{◌≡◌, ◌≤◌, if◌then◌else◌, drop, length, not, is_ok, Some};
+ghost use Rattle.std.specs.List.{list_any};
+ghost use Rattle.std.specs.Fn.{FnOnceReturnsAtMut};
+ghost use Rattle.net_base.specs.Time.{IsMoment};
+ghost use Rattle.arrayvec.specs.ArrayVec.{ArrayVec as Items};
+ghost use Rattle.ip_wire.specs.IpCidr.{IpCidr};
+ghost use Rattle.ip_wire.specs.AddressTests.{is_loopback};
+ghost use Rattle.iface_tables.specs.Route.{RoutesValue};
+ghost use Rattle.iface_tables.specs.Source.{first_v4, first_v6, source_v4, source_v6};
+ghost use Rattle.iface_tables.specs.Neighbor as Neighbors;
+ghost use Rattle.iface_tables.specs.PathMtu.{some_count};
+ghost use Rattle.iface_tables.specs.Inner.{is_local, is_address_of, is_on_local_network, is_this, is_broadcast_of, is_local_broadcast, is_all_systems};
+ghost use Rattle.iface_tables.specs.Inner.{is_all_nodes, solicits, solicits_cidr, is_local_solicited_node, is_probed, is_member_of, is_loopback_in};
+ghost use Rattle.iface_tables.specs.Inner.{is_for_us, is_loopback_of, is_foreign_loopback, may_be_source, next_hop, group_hardware_addr, link_by, link_address};
+ghost use Rattle.iface_tables.specs.Inner.{is_known_hop, has_neighbor, is_in_link_prefix, is_on_link, at_instant};
+ghost use Rattle.iface_tables.specs.Inner.{with_next_ident, with_neighbor, with_renewal, with_request, awaited_hop};
+ghost use Rattle.iface_tables.specs.Inner.{is_crowded, next_request, may_tell, with_error, mtu_to, path_end, with_path};
+ghost use Rattle.iface_tables.specs.Settings.{refusal, made, unless, first_ident, hardware_refusal, with_hardware, is_stranger, with_addresses};
+ghost use Rattle.iface_tables.specs.Settings.{with_any_ip, routes_of, with_route_table, used, MadeUnless};
+
+use crate::config::{Config, HardwareAddrError, NewError, NotUnicast, TABLE_ROOM, refusal};
+use crate::link::LinkAddress;
+use crate::neighbor::{Answer, Cache, SILENT_MILLIS};
+use crate::path_mtu::Paths;
+use crate::route::Routes;
+use crate::{error_limit, source};
+use arrayvec::ArrayVec;
+use ip_wire::{
+    AddressExt, EthernetAddress, HardwareAddress, IPV4_MULTICAST_ALL_SYSTEMS,
+    IPV6_LINK_LOCAL_ALL_NODES, IpAddress, IpCidr, Ipv4Address, Ipv6Address, Ipv6Cidr,
+};
+use net_base::{ChecksumCapabilities, DeviceCapabilities, Duration, Instant, Rand};
+use socket_context::Context;
+use socket_context::addresses::{are_of_one_family, is_multicast, is_same_address};
+use std::alloc::Global;
+use std::marker::Model;
+
+/// The first half of each link-local address, `fe80::/64`.
+const LINK_PREFIX: [u8; 8] = [0xfe, 0x80, 0, 0, 0, 0, 0, 0];
+
+/// A host alongside its sockets and its slots.
+#[derive(Debug, Drop)]
+pub struct InterfaceInner {
+    instant: Instant,
+    rand: Rand,
+    hardware_addr: HardwareAddress,
+    ip_mtu: usize,
+    checksum: ChecksumCapabilities,
+    isn_key: Option<[u8; 16]>,
+    ip_addrs: ArrayVec<IpCidr, TABLE_ROOM>,
+    any_ip: bool,
+    routes: Routes,
+    neighbor_cache: Cache,
+    ipv4_id: u16,
+    errors_until: Instant,
+    paths: Paths,
+    is_fresh: bool,
+}
+
+impl Model for InterfaceInner {
+    ghost use Rattle.std.specs.Prelude.{◌≤◌};
+    ghost use Rattle.net_base.specs.Time.{IsMoment};
+    ghost use Rattle.iface_tables.specs.Inner.{InnerValue};
+
+    ghost Value = { InnerValue };
+
+    ghost view = { λ i. record {
+      instant = i.instant;
+      random = i.rand;
+      hardware = i.hardware_addr;
+      mtu = i.ip_mtu;
+      checksums = i.checksum;
+      isn_key = i.isn_key;
+      addresses =
+          i.ip_addrs.items;
+      any_ip = i.any_ip;
+      routes = i.routes.entries;
+      route_room = i.routes.room;
+      neighbors = i.neighbor_cache;
+      ident = i.ipv4_id;
+      errors_until = i.errors_until;
+      paths = i.paths;
+      initial = i.is_fresh;
+    } };
+
+    ghost invariant = { λ i. IsMoment i.instant × (576 ≤ i.ip_mtu) × (i.ip_mtu ≤ 65535) };
+}
+
+impl InterfaceInner {
+    /// A host of this configuration at a device, from this instant on; else the first reason why there is none.
+    pub fn new(
+        alloc: Global,
+        config: &Config,
+        device: &DeviceCapabilities,
+        now: Instant,
+    ) -> Result<InterfaceInner, NewError>
+        ensures { MadeUnless (refusal config.now device.now now) (made config.now device.now now) result }
+    {
+        if let Some(error) = refusal(config, device, now) {
+            return Err(error);
+        }
+        let Ok(routes) = Routes::new(alloc, config.max_route_count) else {
+            return Err(NewError::Memory);
+        };
+        let Ok(neighbor_cache) = Cache::new(alloc, config.neighbor_cache_count) else {
+            return Err(NewError::Memory);
+        };
+        let mut rand = Rand::new(config.random_seed);
+        let word = rand.rand_u16();
+        Ok(InterfaceInner {
+            instant: now,
+            rand,
+            hardware_addr: config.hardware_addr,
+            ip_mtu: device.ip_mtu(),
+            checksum: device.checksum,
+            isn_key: config.isn_key,
+            ip_addrs: ArrayVec::new(),
+            any_ip: false,
+            routes,
+            neighbor_cache,
+            ipv4_id: if word == 0 { 1 } else { word },
+            errors_until: Instant::ZERO,
+            paths: Paths::new(),
+            is_fresh: true,
+        })
+    }
+
+    /// The hardware address, `Ip` on a medium that has none.
+    pub fn hardware_addr(&self) -> HardwareAddress
+        ensures { result ≡ self.now.hardware }
+    {
+        self.hardware_addr
+    }
+
+    /// The longest IP packet of a frame.
+    pub fn mtu(&self) -> usize
+        ensures value { result ≡ self.now.mtu }
+        ensures low { 576 ≤ result }
+        ensures high { result ≤ 65535 }
+    {
+        self.ip_mtu
+    }
+
+    /// The identification of the next IPv4 datagram.
+    pub fn ident(&self) -> u16
+        ensures { result ≡ self.now.ident }
+    {
+        self.ipv4_id
+    }
+
+    /// Whether nothing ran yet: no call that polls, and no setting of `any_ip` or of the time of reassembly.
+    pub fn is_fresh(&self) -> bool
+        ensures { result ≡ self.now.initial }
+    {
+        self.is_fresh
+    }
+
+    /// The local addresses with their networks.
+    pub fn ip_addrs(&self) -> &[IpCidr]
+        ensures { result.now ≡ self.now.addresses }
+    {
+        self.ip_addrs.as_slice()
+    }
+
+    /// The first IPv4 address.
+    pub fn ipv4_addr(&self) -> Option<Ipv4Address>
+        ensures { result ≡ first_v4 self.now.addresses }
+    {
+        source::first_ipv4(self.ip_addrs.as_slice())
+    }
+
+    /// The first IPv6 address.
+    pub fn ipv6_addr(&self) -> Option<Ipv6Address>
+        ensures { result ≡ first_v6 self.now.addresses }
+    {
+        source::first_ipv6(self.ip_addrs.as_slice())
+    }
+
+    /// The address that an IPv4 packet to this destination is sent from, if there is one.
+    pub fn get_source_address_ipv4(&self, dst_addr: &Ipv4Address) -> Option<Ipv4Address>
+        ensures { result ≡ source_v4 self.now.addresses dst_addr.now }
+    {
+        source::source_ipv4(self.ip_addrs.as_slice(), dst_addr)
+    }
+
+    /// The address that an IPv6 packet to this destination is sent from.
+    pub fn get_source_address_ipv6(&self, dst_addr: &Ipv6Address) -> Ipv6Address
+        ensures { result ≡ source_v6 self.now.addresses dst_addr.now }
+    {
+        source::source_ipv6(self.ip_addrs.as_slice(), dst_addr)
+    }
+
+    /// Whether every address counts as an own one.
+    pub fn any_ip(&self) -> bool
+        ensures { result ≡ self.now.any_ip }
+    {
+        self.any_ip
+    }
+
+    /// The routes.
+    pub fn routes(&self) -> &Routes
+        ensures { result.now ≡ routes_of self.now }
+    {
+        &self.routes
+    }
+
+    /// Whether this is the solicited-node address of an own IPv6 address but `::1`.
+    pub fn has_solicited_node(&self, addr: &Ipv6Address) -> bool
+        ensures { result ≡ is_local_solicited_node self.now addr.now }
+    {
+        self.ip_addrs
+            .as_slice()
+            .iter()
+            .any(|cidr| solicits_cidr(addr, cidr))
+    }
+
+    /// Whether who looks for an address in use asks by this group for this address, which is an own one.
+    pub fn is_probed(&self, group: &Ipv6Address, address: &Ipv6Address) -> bool
+        ensures { result ≡ is_probed self.now group.now address.now }
+    {
+        address.x_is_unicast()
+            && !address.is_loopback()
+            && solicits(group, address)
+            && is_in_list(self.ip_addrs.as_slice(), &IpAddress::Ipv6(*address))
+    }
+
+    /// Whether the host listens to this group: all systems, all nodes, or an own solicited-node address.
+    pub fn has_multicast_group(&self, addr: &IpAddress) -> bool
+        ensures { result ≡ is_member_of self.now addr.now }
+    {
+        match addr {
+            IpAddress::Ipv4(group) => *group == IPV4_MULTICAST_ALL_SYSTEMS,
+            IpAddress::Ipv6(group) => {
+                *group == IPV6_LINK_LOCAL_ALL_NODES || self.has_solicited_node(group)
+            }
+        }
+    }
+
+    /// Whether the address is in a local network.
+    pub fn in_same_network(&self, addr: &IpAddress) -> bool
+        ensures { result ≡ is_on_local_network self.now addr.now }
+    {
+        self.ip_addrs
+            .as_slice()
+            .iter()
+            .any(|cidr| cidr.contains_addr(addr))
+    }
+
+    /// Whether a packet for this destination is for the host.
+    pub fn is_for_us(&self, addr: &IpAddress) -> bool
+        ensures { result ≡ is_for_us self.now addr.now }
+    {
+        self.has_ip_addr(addr)
+            || self.has_multicast_group(addr)
+            || self.is_broadcast(addr)
+            || is_loopback_in(addr)
+    }
+
+    /// Whether the address is a neighbour's: it is in a local network, or a link-local one.
+    pub fn is_on_link(&self, addr: &IpAddress) -> bool
+        ensures { result ≡ is_on_link self.now addr.now }
+    {
+        self.in_same_network(addr) || is_in_link_prefix(addr)
+    }
+
+    /// Where a packet for this destination goes next: to itself on the link, else to a router.
+    pub fn route(&self, addr: &IpAddress) -> Option<IpAddress>
+        ensures { result ≡ next_hop self.now addr.now }
+    {
+        if self.is_on_link(addr) {
+            Some(*addr)
+        } else {
+            self.routes.lookup(addr, self.instant)
+        }
+    }
+
+    /// Whether there is a next hop for this destination, whose hardware address is known.
+    pub fn has_neighbor(&self, addr: &IpAddress) -> bool
+        ensures { result ≡ has_neighbor self.now addr.now }
+    {
+        match self.route(addr) {
+            Some(hop) => self.is_known(&hop),
+            None => false,
+        }
+    }
+
+    /// Whether the hardware address of a next hop is known.
+    fn is_known(&self, hop: &IpAddress) -> bool
+        ensures { result ≡ is_known_hop self.now (Some hop.now) }
+    {
+        match self.hardware_addr {
+            HardwareAddress::Ip => true,
+            HardwareAddress::Ethernet(_) => self.neighbor_cache.lookup(hop, self.instant).found(),
+        }
+    }
+}
+
+/// Addresses that stay in a host, and sources.
+impl InterfaceInner {
+    /// Whether this is a loopback address of a family of which the host has none.
+    pub fn is_foreign_loopback(&self, addr: &IpAddress) -> bool
+        ensures { result ≡ is_foreign_loopback self.now addr.now }
+    {
+        is_loopback(addr) && !has_loopback_of(self.ip_addrs.as_slice(), addr)
+    }
+
+    /// Whether a packet for this destination may come from this address.
+    pub fn may_be_source(&self, source: &IpAddress, destination: &IpAddress) -> bool
+        ensures { result ≡ may_be_source self.now source.now destination.now }
+    {
+        !(self.is_broadcast(source) || is_multicast(source))
+            && (!is_loopback(source) || is_loopback(destination))
+    }
+}
+
+/// The egress path.
+impl InterfaceInner {
+    /// Where the frame of a packet for this destination goes.
+    pub fn link_address(&self, addr: &IpAddress) -> LinkAddress
+        ensures { result ≡ link_address self.now addr.now }
+    {
+        if let HardwareAddress::Ip = self.hardware_addr {
+            return LinkAddress::Known(HardwareAddress::Ip);
+        }
+        if self.is_broadcast(addr) {
+            return LinkAddress::Known(HardwareAddress::Ethernet(EthernetAddress::BROADCAST));
+        }
+        if is_multicast(addr) {
+            return LinkAddress::Known(HardwareAddress::Ethernet(group_hardware_addr(addr)));
+        }
+        match self.route(addr) {
+            Some(hop) => self.link_to(&hop),
+            None => LinkAddress::NoRoute,
+        }
+    }
+
+    /// The hardware address of a next hop, or why there is none yet.
+    fn link_to(&self, hop: &IpAddress) -> LinkAddress
+        ensures { result ≡ link_by (Neighbors.lookup self.now.neighbors hop.now self.now.instant) hop.now }
+    {
+        match self.neighbor_cache.lookup(hop, self.instant) {
+            Answer::Found(hardware) => LinkAddress::Known(hardware),
+            Answer::RateLimited => LinkAddress::Silent,
+            Answer::Unanswered => LinkAddress::Unanswered,
+            Answer::NotFound => LinkAddress::Unknown(*hop),
+        }
+    }
+
+    /// What is known of a neighbour now.
+    pub fn lookup_neighbor(&self, protocol_addr: &IpAddress) -> Answer
+        ensures { result ≡ Neighbors.lookup self.now.neighbors protocol_addr.now self.now.instant }
+    {
+        self.neighbor_cache.lookup(protocol_addr, self.instant)
+    }
+
+    /// Enters a neighbour that was heard now.
+    pub fn fill_neighbor(&mut self, protocol_addr: IpAddress, hardware_addr: HardwareAddress)
+        ensures { self.new ≡ with_neighbor self.old protocol_addr hardware_addr }
+    {
+        self.neighbor_cache
+            .fill(protocol_addr, hardware_addr, self.instant);
+    }
+
+    /// Believes a neighbour again from which a packet came now.
+    pub fn refresh_neighbor(&mut self, protocol_addr: IpAddress, hardware_addr: HardwareAddress)
+        ensures { self.new ≡ with_renewal self.old protocol_addr hardware_addr }
+    {
+        self.neighbor_cache
+            .reset_expiry_if_existing(protocol_addr, hardware_addr, self.instant);
+    }
+
+    /// Counts a request for a neighbour that goes now.
+    pub fn request_neighbor(&mut self, protocol_addr: IpAddress)
+        ensures { self.new ≡ with_request self.old protocol_addr }
+    {
+        self.neighbor_cache.request(protocol_addr, self.instant);
+    }
+
+    /// The next hop that a packet for this destination waits for, if its hardware address isn't known, and it doesn't count as without
+    /// answer.
+    pub fn awaited_hop(&self, addr: &IpAddress) -> Option<IpAddress>
+        ensures { result ≡ awaited_hop self.now addr.now }
+    {
+        let hop = self.route(addr)?;
+        match self.neighbor_cache.lookup(&hop, self.instant) {
+            Answer::NotFound | Answer::RateLimited => Some(hop),
+            Answer::Found(_) | Answer::Unanswered => None,
+        }
+    }
+
+    /// Until when the last request for a neighbour is to be answered, if it is asked for.
+    pub fn last_request(&self, protocol_addr: &IpAddress) -> Option<Instant>
+        ensures { result ≡ Neighbors.last_request self.now.neighbors protocol_addr.now }
+    {
+        self.neighbor_cache.last_request(protocol_addr)
+    }
+
+    /// Whether the host asks for as many neighbours as it keeps count of.
+    pub fn is_crowded(&self) -> bool
+        ensures { result ≡ is_crowded self.now }
+    {
+        self.neighbor_cache.is_crowded()
+    }
+
+    /// When a neighbour may be asked for again: at the end of the silence, else in a second.
+    pub fn next_request(&self) -> Instant
+        ensures { result ≡ next_request self.now }
+    {
+        let silent_until = self.neighbor_cache.silent_until();
+        if self.instant < silent_until {
+            silent_until
+        } else {
+            self.instant + Duration::from_millis(SILENT_MILLIS)
+        }
+    }
+
+    /// Takes the identification of a datagram.
+    pub fn take_ident(&mut self) -> u16
+        ensures value { result ≡ self.old.ident }
+        ensures after { self.new ≡ with_next_ident self.old }
+    {
+        let ident = self.ipv4_id;
+        self.ipv4_id = ident.wrapping_add(1);
+        ident
+    }
+}
+
+/// Errors and resets that answer what nobody takes.
+impl InterfaceInner {
+    /// Counts one that goes now, if one may, and says so.
+    pub fn count_error(&mut self) -> bool
+        ensures may { result ≡ may_tell self.old }
+        ensures after { self.new ≡ if may_tell self.old then with_error self.old else self.old }
+    {
+        if !error_limit::may_answer(self.errors_until, self.instant) {
+            return false;
+        }
+        self.errors_until = error_limit::answered_at(self.errors_until, self.instant);
+        true
+    }
+}
+
+/// Paths.
+impl InterfaceInner {
+    /// How long a packet to this destination may be.
+    #[tactic(auto, using(crate::proofs::PathMtu::mtu_low, crate::proofs::PathMtu::mtu_within))]
+    pub fn mtu_to(&self, addr: &IpAddress) -> usize
+        ensures value { result ≡ mtu_to self.now addr.now }
+        ensures low { 576 ≤ result }
+        ensures high { result ≤ 65535 }
+    {
+        self.paths.mtu_towards(addr, self.instant, self.ip_mtu)
+    }
+
+    /// When what is known of the path to this destination ends, if something is.
+    pub fn path_end(&self, addr: &IpAddress) -> Option<Instant>
+        ensures { result ≡ path_end self.now addr.now }
+    {
+        self.paths.end_towards(addr, self.instant)
+    }
+
+    /// Whether something is known of some path.
+    pub fn knows_a_path(&self) -> bool
+        ensures { result ≡ some_count self.now.paths self.now.instant }
+    {
+        self.paths.some_count(self.instant)
+    }
+
+    /// Takes in that the path to this destination carries packets of so many bytes.
+    pub fn lower_path(&mut self, addr: IpAddress, told: usize)
+        ensures { self.new ≡ with_path self.old addr told }
+    {
+        self.paths.lower(addr, told, self.instant, self.ip_mtu);
+    }
+}
+
+/// Settings.
+impl InterfaceInner {
+    /// Begins a call that polls, at this instant.
+    pub fn set_now(&mut self, now: Instant)
+        requires { IsMoment now }
+        ensures { self.new ≡ at_instant now self.old }
+    {
+        self.instant = now;
+        self.is_fresh = false;
+    }
+
+    /// Something was set or ran.
+    pub fn end_initial(&mut self)
+        ensures { self.new ≡ used self.old }
+    {
+        self.is_fresh = false;
+    }
+
+    /// Sets the hardware address, if the medium has such addresses and it is one hardware address's.
+    pub fn set_hardware_addr(&mut self, addr: HardwareAddress) -> Result<(), HardwareAddrError>
+        ensures answer { result ≡ unless (hardware_refusal self.old.hardware addr) tt }
+        ensures after { self.new ≡ with_hardware self.old addr }
+    {
+        match hardware_refusal(&self.hardware_addr, &addr) {
+            Some(error) => Err(error),
+            None => {
+                self.hardware_addr = addr;
+                Ok(())
+            }
+        }
+    }
+
+    /// Sets whether every address counts as an own one.
+    pub fn set_any_ip(&mut self, any_ip: bool)
+        ensures { self.new ≡ with_any_ip self.old any_ip }
+    {
+        self.any_ip = any_ip;
+        self.is_fresh = false;
+    }
+
+    /// Sets the local addresses and forgets every neighbour, if each is one host's or unspecified.
+    pub fn set_ip_addrs(&mut self, addrs: ArrayVec<IpCidr, TABLE_ROOM>) -> Result<(), NotUnicast>
+        ensures ok { is_ok result ≡ not (list_any is_stranger addrs.items) }
+        ensures after { self.new ≡ with_addresses self.old addrs.items }
+    {
+        if has_stranger(addrs.as_slice()) {
+            return Err(NotUnicast);
+        }
+        self.ip_addrs = addrs;
+        self.neighbor_cache.flush();
+        Ok(())
+    }
+
+    /// Sets the local addresses to what `f` makes of a copy of them, as `set_ip_addrs` does.
+    pub fn update_ip_addrs<F: FnOnce(&mut ArrayVec<IpCidr, TABLE_ROOM>)>(
+        &mut self,
+        f: F,
+    ) -> Result<(), NotUnicast>
+        requires { F.IsAlwaysCallable f }
+        ensures { (before : Items IpCidr) × (after : Items IpCidr) × (before.items ≡ self.old.addresses)
+            × FnOnceReturnsAtMut F.FnOnce f before tt after
+            × (is_ok result ≡ not (list_any is_stranger after.items)) × (self.new ≡ with_addresses self.old after.items) }
+    {
+        let mut addrs = copied(self.ip_addrs.as_slice());
+        f(&mut addrs);
+        self.set_ip_addrs(addrs)
+    }
+
+    /// Lends the routes to `f`.
+    pub fn update_routes<R: Drop, F: FnOnce(&mut Routes) -> R>(&mut self, f: F) -> R
+        requires { F.IsAlwaysCallable f }
+        ensures { (before : RoutesValue) × (after : RoutesValue) × (before ≡ routes_of self.old)
+            × FnOnceReturnsAtMut F.FnOnce f before result after × (self.new ≡ with_route_table self.old after) }
+    {
+        f(&mut self.routes)
+    }
+}
+
+/// What sockets see.
+impl Context for InterfaceInner {
+    ghost use Rattle.std.specs.Prelude.{refl};
+    ghost use Rattle.iface_tables.specs.Inner.{context_of, drawn};
+
+    ghost context = { context_of };
+
+    ghost drawn = { drawn };
+
+    fn now(&self) -> Instant {
+        self.instant
+    }
+
+    fn has_ip_addr(&self, addr: &IpAddress) -> bool {
+        self.any_ip || is_in_list(self.ip_addrs.as_slice(), addr)
+    }
+
+    fn get_source_address(&self, dst_addr: &IpAddress) -> Option<IpAddress> {
+        source::source_for(self.ip_addrs.as_slice(), dst_addr)
+    }
+
+    fn is_broadcast(&self, addr: &IpAddress) -> bool {
+        match addr {
+            IpAddress::Ipv4(addr) => {
+                addr.is_broadcast() || is_broadcast_in(self.ip_addrs.as_slice(), addr)
+            }
+            IpAddress::Ipv6(_) => false,
+        }
+    }
+
+    fn ip_mtu(&self) -> usize {
+        self.ip_mtu
+    }
+
+    fn checksum_caps(&self) -> ChecksumCapabilities {
+        self.checksum
+    }
+
+    fn isn_key(&self) -> Option<[u8; 16]> {
+        self.isn_key
+    }
+
+    fn rand_u32(&mut self) -> u32 {
+        self.rand.rand_u32()
+    }
+
+    ghost drawn_context = { λ i. refl };
+}
+
+/// Whether this is one of the addresses.
+fn is_in_list(addresses: &[IpCidr], address: &IpAddress) -> bool
+    ensures { result ≡ list_any (is_address_of address.now) addresses.now }
+{
+    addresses
+        .iter()
+        .any(|cidr| is_same_address(&cidr.address(), address))
+}
+
+/// Whether this is the broadcast address of one of the networks.
+fn is_broadcast_in(addresses: &[IpCidr], address: &Ipv4Address) -> bool
+    ensures { result ≡ list_any (is_broadcast_of address.now) addresses.now }
+{
+    addresses.iter().any(|cidr| is_broadcast_of(address, cidr))
+}
+
+fn is_broadcast_of(address: &Ipv4Address, cidr: &IpCidr) -> bool
+    ensures { result ≡ is_broadcast_of address.now cidr.now }
+{
+    match cidr {
+        IpCidr::Ipv4(cidr) => is_this(cidr.broadcast(), address),
+        IpCidr::Ipv6(_) => false,
+    }
+}
+
+fn is_this(other: Option<Ipv4Address>, address: &Ipv4Address) -> bool
+    ensures { result ≡ is_this other address.now }
+{
+    match other {
+        Some(other) => {
+            u32::from_le_bytes(address.octets()) == u32::from_le_bytes(other.octets())
+        }
+        None => false,
+    }
+}
+
+/// Whether this is the solicited-node address of the block's address, which isn't `::1`.
+fn solicits_cidr(group: &Ipv6Address, cidr: &IpCidr) -> bool
+    ensures { result ≡ solicits_cidr group.now cidr.now }
+{
+    match cidr {
+        IpCidr::Ipv4(_) => false,
+        IpCidr::Ipv6(cidr) => !cidr.address.is_loopback() && solicits(group, &cidr.address),
+    }
+}
+
+/// Whether the group's last 24 bits are the address's, after the solicited-node prefix.
+fn solicits(group: &Ipv6Address, address: &Ipv6Address) -> bool
+    ensures { result ≡ solicits group.now address.now }
+{
+    group.is_solicited_node_multicast() && last_bits(group) == last_bits(address)
+}
+
+/// The last 24 bits.
+fn last_bits(address: &Ipv6Address) -> &[u8]
+    ensures { result.now ≡ drop 13 address.now.0 }
+{
+    let (_, last) = address.0.split_at(13);
+    last
+}
+
+fn is_loopback_in(address: &IpAddress) -> bool
+    ensures { result ≡ is_loopback_in address.now }
+{
+    match address {
+        IpAddress::Ipv4(_) => false,
+        IpAddress::Ipv6(address) => address.is_loopback(),
+    }
+}
+
+/// Whether this is a link-local address.
+fn is_in_link_prefix(address: &IpAddress) -> bool
+    ensures { result ≡ is_in_link_prefix address.now }
+{
+    match address {
+        IpAddress::Ipv4(_) => false,
+        IpAddress::Ipv6(address) => {
+            let (prefix, _) = address.0.split_at(8);
+            prefix == LINK_PREFIX.as_slice()
+        }
+    }
+}
+
+fn is_loopback(address: &IpAddress) -> bool
+    ensures { result ≡ is_loopback address.now }
+{
+    match address {
+        IpAddress::Ipv4(address) => address.is_loopback(),
+        IpAddress::Ipv6(address) => address.is_loopback(),
+    }
+}
+
+/// Whether one of the addresses is a loopback address of this one's family.
+fn has_loopback_of(addresses: &[IpCidr], address: &IpAddress) -> bool
+    ensures { result ≡ list_any (is_loopback_of address.now) addresses.now }
+{
+    addresses.iter().any(|cidr| is_loopback_of(address, cidr))
+}
+
+/// Whether the block's address is a loopback address of this one's family.
+fn is_loopback_of(address: &IpAddress, cidr: &IpCidr) -> bool
+    ensures { result ≡ is_loopback_of address.now cidr.now }
+{
+    let local = cidr.address();
+    is_loopback(&local) && are_of_one_family(address, &local)
+}
+
+/// The Ethernet address of a group.
+fn group_hardware_addr(group: &IpAddress) -> EthernetAddress
+    ensures { result ≡ group_hardware_addr group.now }
+{
+    match group {
+        IpAddress::Ipv4(group) => {
+            let [_, b, c, d] = group.0;
+            EthernetAddress([0x01, 0x00, 0x5e, b % 128, c, d])
+        }
+        IpAddress::Ipv6(group) => {
+            let tail = &group.0[12..];
+            EthernetAddress([0x33, 0x33, tail[0], tail[1], tail[2], tail[3]])
+        }
+    }
+}
+
+/// Why this hardware address isn't set in place of that one.
+fn hardware_refusal(local: &HardwareAddress, address: &HardwareAddress) -> Option<HardwareAddrError>
+    ensures { result ≡ hardware_refusal local.now address.now }
+{
+    match (local, address) {
+        (HardwareAddress::Ethernet(_), HardwareAddress::Ethernet(address)) => {
+            if address.is_unicast() {
+                None
+            } else {
+                Some(HardwareAddrError::NotUnicast)
+            }
+        }
+        _ => Some(HardwareAddrError::Medium),
+    }
+}
+
+/// Whether one of the addresses can't be set.
+fn has_stranger(addresses: &[IpCidr]) -> bool
+    ensures { result ≡ list_any is_stranger addresses.now }
+{
+    addresses.iter().any(|cidr| is_stranger(cidr))
+}
+
+/// Whether this is neither one host's address nor unspecified.
+fn is_stranger(cidr: &IpCidr) -> bool
+    ensures { result ≡ is_stranger cidr.now }
+{
+    let address = cidr.address();
+    !(address.is_unicast() || address.is_unspecified())
+}
+
+/// A copy of the addresses.
+fn copied(addresses: &[IpCidr]) -> ArrayVec<IpCidr, TABLE_ROOM>
+    requires { length addresses.now ≤ TABLE_ROOM }
+    ensures { result.items ≡ addresses.now }
+{
+    let mut copy = ArrayVec::new();
+    let _ = copy.try_extend_from_slice(addresses);
+    copy
+}

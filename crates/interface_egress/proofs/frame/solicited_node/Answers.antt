@@ -1,8 +1,0 @@
-use Rattle.std.proofs.Common.{rules, ◌≡◌, length, refl}
-use Rattle.interface_egress.proofs.LastThree.{drop-13}
-use Rattle.interface_egress.proofs.frame.solicited_node.Goals as goal
-
-pub returns : goal.returns
-returns c =
-    let len : length c.args.target.now.0 ≡ 16 = search rules in
-    rw (drop-13 c.args.target.now.0 len) refl

@@ -1,5 +1,0 @@
-use Rattle.interface_egress.proofs.Stepping.{numbers-differ}
-use Rattle.interface_egress.proofs.laws.numbers_differ.Goals as goal
-
-pub returns : goal.returns
-returns c = numbers-differ

@@ -1,7 +1,0 @@
-use Rattle.std.proofs.Common.{ap}
-use Rattle.interface_tables.specs.Inner.{InnerValue}
-use Rattle.interface_egress.proofs.Changes.{changes}
-use Rattle.interface_egress.proofs.laws.numbers_step.Goals as goal
-
-pub returns : goal.returns
-returns g c old new i i' l l' busy p sent goes = ap (λ (x : InnerValue). x.ident) (changes g.D.Device.moves old new i i' l l' p busy sent goes).1

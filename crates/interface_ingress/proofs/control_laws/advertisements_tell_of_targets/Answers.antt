@@ -1,5 +1,0 @@
-use Rattle.interface_ingress.proofs.Taught.{told}
-use Rattle.interface_ingress.proofs.control_laws.advertisements_tell_of_targets.Goals as goal
-
-pub returns : goal.returns
-returns c = told

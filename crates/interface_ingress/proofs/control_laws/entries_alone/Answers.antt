@@ -1,5 +1,0 @@
-use Rattle.interface_ingress.proofs.Hearing.{entries-alone}
-use Rattle.interface_ingress.proofs.control_laws.entries_alone.Goals as goal
-
-pub returns : goal.returns
-returns c = entries-alone

@@ -1,5 +1,0 @@
-use Rattle.interface_ingress.proofs.Taught.{untaught}
-use Rattle.interface_ingress.proofs.control_laws.probes_teach_nothing.Goals as goal
-
-pub returns : goal.returns
-returns c = untaught

@@ -1,5 +1,0 @@
-use Rattle.interface_ingress.proofs.Measured.{measured}
-use Rattle.interface_ingress.proofs.frame_laws.measured.Goals as goal
-
-pub returns : goal.returns
-returns c = measured

@@ -1,5 +1,0 @@
-use Rattle.interface_ingress.proofs.FramesArrive.{payload-arrives}
-use Rattle.interface_ingress.proofs.frame_laws.payloads_arrive.Goals as goal
-
-pub returns : goal.returns
-returns c = payload-arrives

@@ -1,6 +1,0 @@
-use Rattle.std.proofs.Common.{◌≡◌, length}
-use Rattle.interface_tables.specs.Indexed.{AreIndexedBefore}
-use Rattle.interface_tables.proofs.indexed.index_from.Given as goal
-
-abbrev pub invariant-loop-at : goal.invariant-loop-at
-invariant-loop-at l = AreIndexedBefore l.at l.entries l.keys × (length l.keys ≡ length l.initial.keys)

@@ -1,5 +1,0 @@
-use Rattle.interface_tables.proofs.Keys.{key_test}
-use Rattle.interface_tables.proofs.laws.keys_are_tested.Goals as goal
-
-pub returns : goal.returns
-returns c = key_test

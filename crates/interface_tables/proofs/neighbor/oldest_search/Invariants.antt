@@ -1,6 +1,0 @@
-use Rattle.std.specs.List.{IsFirstBest}
-use Rattle.interface_tables.specs.Neighbor.{asked_before}
-use Rattle.interface_tables.proofs.neighbor.oldest_search.Given as goal
-
-abbrev pub invariant-loop-i : goal.invariant-loop-i
-invariant-loop-i l = IsFirstBest asked_before l.searches l.i l.at

@@ -1,6 +1,0 @@
-use Rattle.std.specs.List.{IsFirstBest}
-use Rattle.interface_tables.specs.Neighbor.{expires_before}
-use Rattle.interface_tables.proofs.neighbor.victim.Given as goal
-
-abbrev pub invariant-loop-i : goal.invariant-loop-i
-invariant-loop-i l = IsFirstBest expires_before l.entries l.i l.at

@@ -1,8 +1,0 @@
-use Rattle.interface_tables.proofs.PathMtu.{mtu_least, mtu_within}
-use Rattle.interface_tables.proofs.path_laws.paths_are_between.Goals as goal
-
-pub returns-clause-least : goal.returns-clause-least
-returns-clause-least c = mtu_least
-
-pub returns-clause-whole : goal.returns-clause-whole
-returns-clause-whole c = mtu_within

@@ -1,5 +1,0 @@
-use Rattle.ip_address.proofs.Sums.{ChecksumHolds-complement}
-use Rattle.ip_address.proofs.checksum.complement_holds.Goals as goal
-
-pub returns : goal.returns
-returns c = ChecksumHolds-complement

@@ -1,5 +1,0 @@
-use Rattle.ip_address.proofs.Covered.{folded-covered}
-use Rattle.ip_address.proofs.checksum.covered_combines.Goals as goal
-
-pub returns : goal.returns
-returns c = folded-covered

@@ -1,5 +1,0 @@
-use Rattle.ip_address.proofs.Sums.{ChecksumHolds-folded}
-use Rattle.ip_address.proofs.checksum.holds_at_all_ones.Goals as goal
-
-pub returns : goal.returns
-returns c = ChecksumHolds-folded

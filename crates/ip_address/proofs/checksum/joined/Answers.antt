@@ -1,5 +1,0 @@
-use Rattle.ip_address.proofs.Sums.{word_sum-append, folded-append}
-use Rattle.ip_address.proofs.checksum.joined.Goals as goal
-
-pub returns : goal.returns
-returns c = record { words = word_sum-append; sums = folded-append }

@@ -1,6 +1,0 @@
-use Rattle.ip_address.specs.Address.{v6_number}
-use Rattle.ip_address.proofs.ipv6.Ipv6Address.to_bits.Goals as goal
-
-pub returns-clause-value : goal.returns-clause-value
-unfolding v6_number
-returns-clause-value c = c.read_u128.ensures

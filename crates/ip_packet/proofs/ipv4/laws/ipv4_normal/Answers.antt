@@ -1,5 +1,0 @@
-use Rattle.ip_packet.proofs.IpLaws.{read-v4}
-use Rattle.ip_packet.proofs.ipv4.laws.ipv4_normal.Goals as goal
-
-pub returns : goal.returns
-returns c = read-v4

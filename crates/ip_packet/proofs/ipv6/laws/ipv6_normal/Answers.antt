@@ -1,5 +1,0 @@
-use Rattle.ip_packet.proofs.IpLaws.{read-v6}
-use Rattle.ip_packet.proofs.ipv6.laws.ipv6_normal.Goals as goal
-
-pub returns : goal.returns
-returns c = read-v6

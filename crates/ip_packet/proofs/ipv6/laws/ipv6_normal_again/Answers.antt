@@ -1,5 +1,0 @@
-use Rattle.ip_packet.proofs.IpLaws.{normal-v6}
-use Rattle.ip_packet.proofs.ipv6.laws.ipv6_normal_again.Goals as goal
-
-pub returns : goal.returns
-returns c = normal-v6

@@ -1,5 +1,0 @@
-use Rattle.ip_packet.proofs.QuotedLaws.{fits-v6}
-use Rattle.ip_packet.proofs.ipv6.laws.ipv6_quoted_fits.Goals as goal
-
-pub returns : goal.returns
-returns c = fits-v6

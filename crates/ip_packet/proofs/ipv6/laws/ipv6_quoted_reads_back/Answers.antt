@@ -1,5 +1,0 @@
-use Rattle.ip_packet.proofs.QuotedLaws.{IsQuoted-v6}
-use Rattle.ip_packet.proofs.ipv6.laws.ipv6_quoted_reads_back.Goals as goal
-
-pub returns : goal.returns
-returns c = IsQuoted-v6

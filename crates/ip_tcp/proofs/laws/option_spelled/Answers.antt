@@ -1,5 +1,0 @@
-use Rattle.ip_tcp.proofs.Steps.{Begins-one}
-use Rattle.ip_tcp.proofs.laws.option_spelled.Goals as goal
-
-pub returns : goal.returns
-returns c = Begins-one

@@ -1,5 +1,0 @@
-use Rattle.ip_tcp.proofs.Sealed.{IsTcp-put16}
-use Rattle.ip_tcp.proofs.laws.tcp_damaged.Goals as goal
-
-pub returns : goal.returns
-returns c = IsTcp-put16

@@ -1,5 +1,0 @@
-use Rattle.ip_tcp.proofs.Read.{IsTcp-one}
-use Rattle.ip_tcp.proofs.laws.tcp_one_value.Goals as goal
-
-pub returns : goal.returns
-returns c = IsTcp-one

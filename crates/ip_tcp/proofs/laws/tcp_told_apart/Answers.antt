@@ -1,5 +1,0 @@
-use Rattle.ip_tcp.proofs.Told.{written-same}
-use Rattle.ip_tcp.proofs.laws.tcp_told_apart.Goals as goal
-
-pub returns : goal.returns
-returns c = written-same

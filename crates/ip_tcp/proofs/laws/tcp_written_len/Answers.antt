@@ -1,5 +1,0 @@
-use Rattle.ip_tcp.proofs.Lengths.{length-segment}
-use Rattle.ip_tcp.proofs.laws.tcp_written_len.Goals as goal
-
-pub returns : goal.returns
-returns c = length-segment

@@ -1,6 +1,0 @@
-use Rattle.std.proofs.Common.{sym, subst}
-use Rattle.ip_tcp.specs.Tcp.{HasOptions}
-use Rattle.ip_tcp.proofs.packet_mut.TcpPacketMut.selective_ack_permitted.Goals as goal
-
-pub returns-clause-only : goal.returns-clause-only
-returns-clause-only c = λ v has. c.selective_ack_permitted.ensures.only v (subst (λ xs. HasOptions xs v) (sym c.new_unchecked.ensures) has)

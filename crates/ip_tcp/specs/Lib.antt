@@ -1,7 +1,0 @@
-pub mod Control
-pub mod Options
-pub mod Seen
-pub mod Tcp
-pub mod Timestamp
-pub use Rattle.net_time.specs.Rand
-pub use Rattle.net_time.specs.Time

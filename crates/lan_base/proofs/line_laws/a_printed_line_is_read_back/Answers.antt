@@ -1,7 +1,0 @@
-use Rattle.std.proofs.Common.{◌≡◌, List, ℕ, sym, subst}
-use Rattle.lan_base.specs.Lines.{SaysLine}
-use Rattle.lan_base.proofs.PrintedLemmas.{says_line}
-use Rattle.lan_base.proofs.line_laws.a_printed_line_is_read_back.Goals as goal
-
-pub returns : goal.returns
-returns c line has printed = c.read.ensures.only line (subst (λ (text : List ℕ). SaysLine text line) (sym printed) (says_line line has))

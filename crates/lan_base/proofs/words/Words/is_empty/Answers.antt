@@ -1,6 +1,0 @@
-use Rattle.std.proofs.Common.{ap, ◌∙◌, ◌==◌, length}
-use Rattle.lan_base.proofs.WordLemmas.{none_left}
-use Rattle.lan_base.proofs.words.Words.is_empty.Goals as goal
-
-pub returns : goal.returns
-returns c = none_left _ _ _ c.is_none.ensures ∙ ap (λ words. length words == 0) c.self.view_is

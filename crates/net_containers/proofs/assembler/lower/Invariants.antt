@@ -1,7 +1,0 @@
-use Rattle.std.proofs.Common.{◌≡◌, ◌++◌, take, drop}
-use Rattle.net_containers.specs.Assembler.{lowered}
-use Rattle.net_containers.proofs.assembler.lower.Given as goal
-
-abbrev pub invariant-loop-run : goal.invariant-loop-run
-invariant-loop-run l =
-    l.runs ≡ lowered l.by (take l.run-index l.initial.runs) ++ drop l.run-index l.initial.runs

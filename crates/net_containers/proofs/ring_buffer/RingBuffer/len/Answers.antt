@@ -1,9 +1,0 @@
-use Rattle.std.proofs.Common.{sym}
-use Rattle.net_containers.proofs.Rings.{sees}
-use Rattle.net_containers.proofs.ring_buffer.RingBuffer.len.Goals as goal
-
-pub returns : goal.returns
-returns g c =
-    let s = c.self.inside in
-    let v = sees s.storage.items s.read_at s.length _ c.self.invariant c.self.view_is in
-    sym v.queued

@@ -1,0 +1,5 @@
+-- One socket, by its rules, alongside a conforming peer.
+pub mod Pinned
+pub mod Ends
+pub mod Steps
+pub mod Runs

@@ -1,0 +1,27 @@
+use Rattle.std.proofs.Common.{◌≡◌, pos, [], None, true, false, length, refl}
+use Rattle.std.specs.Prelude.{max}
+use Rattle.interface.specs.Host.{HostValue}
+use Rattle.proof_stack.proofs.Begins.{made-has, refused-short, refused-long}
+use Rattle.proof_stack.proofs.interface_host.begins.Goals as goal
+
+pub returns : goal.returns
+returns g c =
+    let config = c.args.config.now in
+    let device = g.D.Device.described c.args.device.now in
+    let instant = c.args.now in
+    let result = c.new.result in
+    let made = c.new.ensures in
+    record {
+      addresses = made-has config device instant result (λ (h : HostValue). h.inner.addresses ≡ []) made refl;
+      any_ip = made-has config device instant result (λ (h : HostValue). h.inner.any_ip ≡ false) made refl;
+      routes = made-has config device instant result (λ (h : HostValue). h.inner.routes ≡ []) made refl;
+      route_room = made-has config device instant result (λ (h : HostValue). h.inner.route_room ≡ config.max_route_count) made refl;
+      neighbors = made-has config device instant result (λ (h : HostValue). h.inner.neighbors ≡
+          record { entries = []; room = max config.neighbor_cache_count 1; silent = pos 0; searches = [] }) made refl;
+      initial = made-has config device instant result (λ (h : HostValue). h.inner.initial ≡ true) made refl;
+      left = made-has config device instant result (λ (h : HostValue). h.left ≡ None) made refl;
+      assemblers = made-has config device instant result (λ (h : HostValue). length h.assemblers ≡ 2) made refl;
+      timeout = made-has config device instant result (λ (h : HostValue). h.timeout ≡ 60000000) made refl;
+      short = refused-short config device instant result made;
+      long = refused-long config device instant result made;
+    }

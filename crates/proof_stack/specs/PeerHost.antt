@@ -1,0 +1,9 @@
+-- One host, whatever is at the other end, and a TCP socket alongside a conforming peer.
+pub mod SocketRun
+pub mod ReachedSocket
+pub mod Steps
+pub mod ReceivedPackets
+pub mod Streams
+pub mod Datagrams
+pub mod Runs
+pub mod Moved

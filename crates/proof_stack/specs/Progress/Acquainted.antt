@@ -1,0 +1,30 @@
+-- Two sockets that are connected over links which bring what is sent in time, at hosts that know each other throughout.
+use Rattle.std.specs.Prelude.{ℕ, ℤ, List, ◌++◌}
+use Rattle.ip_wire.specs.HardwareAddress.{HardwareAddress}
+use Rattle.tcp_state.specs.declared.endpoints.FourTuple.{FourTuple}
+use Rattle.interface.specs.Delivered.{AreOfOneMedium}
+use Rattle.lan.specs.declared.at_link.history.event.Side.{Side}
+use Rattle.lan.specs.Worlds.AtLink.History.{Entry}
+use Rattle.lan.specs.Worlds.AtLink.Kinds.{other}
+use Rattle.lan.specs.Worlds.AtLink.Runs.{Starts}
+use Rattle.lan.specs.Worlds.AtLink.Node.{Nodes}
+use Rattle.lan.specs.Worlds.Still.{StillRun}
+use Rattle.proof_stack.specs.Progress.FramesInTransit.{AreCarried}
+use Rattle.proof_stack.specs.Progress.Ends.{AreConnected, AreEnds}
+use Rattle.proof_stack.specs.Progress.KnownHopLimit.{KnowEachOther}
+use Rattle.proof_stack.specs.Progress.Serving.{GiveTxToken}
+
+-- The sockets at these slots have a connection between hosts with hardware addresses of one medium, or without any. In each of the later polls a host knows
+-- throughout that its frames for the other one go to that one's hardware address. After each a link gives its host leave to send, and each frame that a host
+-- sends in one is taken by a poll of the other no more than so many microseconds later.
+pub record AreAcquainted (starts : Starts) (slots : Side → ℕ) (delay : ℕ) (past more : List Entry) (hosts : Nodes)
+    (still : StillRun starts (more ++ past) hosts) : Type 0 where
+  pub own : Side → HardwareAddress
+  pub medium : (side : Side) → AreOfOneMedium (own side) (own (other side)) (own (other side))
+  pub pairs : Side → FourTuple
+  pub ends : AreEnds starts pairs
+  pub known : KnowEachOther own pairs starts past more hosts still
+  pub connected : AreConnected starts slots pairs past more hosts still
+  pub leave : GiveTxToken starts past more hosts still
+  pub on_way : Side → List (ℤ × List ℕ)
+  pub carried : AreCarried starts delay past more hosts still on_way

@@ -1,0 +1,66 @@
+//! What is queued goes.
+
+ghost use Rattle.std.specs.Prelude.{◌≡◌, ◌≢◌, ℕ, ◌<◌, ℤ, Bool, List, ◌∷◌, ◌++◌, length, Option};
+ghost use Rattle.std.specs.List.{AllByRecursion};
+ghost use Rattle.net_base.specs.Packets.{contents};
+ghost use Rattle.ip_wire.specs.HardwareAddress.{HardwareAddress};
+ghost use Rattle.socket_datagram.specs.Udp.{UdpValue, UdpSettings};
+ghost use Rattle.socket_datagram.specs.declared.udp.UdpMetadata.{UdpMetadata};
+ghost use Rattle.iface_ingress.specs.Packet.{PacketValue};
+ghost use Rattle.iface_ingress.specs.WellFormed.{IsWellFormed};
+ghost use Rattle.iface_tables.specs.Inner.{InnerValue, at_instant};
+ghost use Rattle.iface_egress.specs.Departure.{Whole};
+ghost use Rattle.iface_egress.specs.IsTransmitted.{numbered};
+ghost use Rattle.interface.specs.TransmittedFrame.{Reader, CanRead, HasWidths, IsRead};
+ghost use Rattle.interface.specs.Egress.{EgressStep};
+ghost use Rattle.interface.specs.Polls.{Polls};
+ghost use Rattle.interface.specs.QuietPoll.{HasNoFrame};
+ghost use Rattle.interface.specs.State.{State};
+ghost use Rattle.proof_stack.specs.Progress.Queued.{CanGo, HasWay, HasTurn, GoesAtOnce, GoesInTurn, with_ident, FindsDatagram};
+
+use net_base::Device;
+
+/// Law: in one step of the egress path the first datagram in the queue of a UDP socket goes, whatever other sockets wait for and whatever they
+/// send, unless the device refuses in that step; the socket then has the datagrams after it. And in a poll that finds no frame at its device
+/// each datagram goes that has fewer before it in the queue than the poll has steps. The host knows the hardware address of the next hop of
+/// those datagrams, each fits one frame and the path to its destination, and the socket isn't waiting for another neighbour.
+pub fn queued_datagrams_go<D: Device>()
+    ensures at_once { (t : ℤ) (s s' : State D) (answer : Option Bool) (n : ℕ) (v : UdpValue) (d : UdpMetadata × List ℕ)
+        (more : List (UdpMetadata × List ℕ)) (to : HardwareAddress) (p : PacketValue)
+        → HasTurn (at_instant t s.host.inner) s.slots n v
+        → contents v.queued ≡ d ∷ more
+        → CanGo (at_instant t s.host.inner) v.settings d to p
+        → EgressStep D.moves t s answer s'
+        → GoesAtOnce D.moves (at_instant t s.host.inner) n v to p s.device s'.device answer s'.slots }
+    ensures in_turn { (t : ℤ) (budget : ℕ) (s s' : State D) (changed : Bool) (n : ℕ) (v : UdpValue) (before : List (UdpMetadata × List ℕ))
+        (d : UdpMetadata × List ℕ) (more : List (UdpMetadata × List ℕ)) (to : HardwareAddress) (p : PacketValue)
+        → HasTurn (at_instant t s.host.inner) s.slots n v
+        → contents v.queued ≡ before ++ d ∷ more
+        → length before < budget
+        → AllByRecursion (HasWay (at_instant t s.host.inner) v.settings) before
+        → CanGo (at_instant t s.host.inner) v.settings d to p
+        → HasNoFrame D.moves t s.device
+        → Polls D.moves t budget s changed s'
+        → GoesInTurn D.moves (at_instant t s.host.inner) to p s.device s'.device }
+{}
+
+/// Law: another host of the same medium that is handed the frame of such a packet, whatever padding follows, reads the packet in its normal
+/// form, and after its header the datagram: the port that the socket is bound to, the port that it was sent to, and the bytes that were
+/// queued. It tests no checksum that the sender leaves out.
+pub fn their_frames_are_read()
+    ensures packet { (i : InnerValue) (ident : ℕ) (settings : UdpSettings) (d : UdpMetadata × List ℕ) (to : HardwareAddress) (p : PacketValue)
+        (reader : Reader)
+        → HasWidths (with_ident i ident)
+        → CanGo i settings d to p
+        → IsWellFormed p
+        → CanRead i to reader
+        → IsRead (with_ident i ident) (Whole to (numbered (with_ident i ident) p)) reader }
+    ensures datagram { (i : InnerValue) (ident : ℕ) (settings : UdpSettings) (d : UdpMetadata × List ℕ) (to : HardwareAddress) (p : PacketValue)
+        (reader : Reader)
+        → HasWidths (with_ident i ident)
+        → CanGo i settings d to p
+        → IsWellFormed p
+        → CanRead i to reader
+        → d.0.endpoint.port ≢ 0
+        → FindsDatagram (with_ident i ident) settings d (numbered (with_ident i ident) p) reader }
+{}

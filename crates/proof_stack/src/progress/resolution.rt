@@ -1,0 +1,62 @@
+//! A neighbour that sockets wait for has its turn within so many steps.
+
+ghost use Rattle.std.specs.Prelude.{◌≡◌, ◌≤◌, ℕ, ℤ, int_lt, Bool, true, false, List, ◌∷◌, length, Option, Some};
+ghost use Rattle.std.specs.List.{AllByRecursion};
+ghost use Rattle.net_base.specs.Packets.{contents};
+ghost use Rattle.ip_wire.specs.IpAddress.{IpAddress};
+ghost use Rattle.socket_datagram.specs.Udp.{UdpValue};
+ghost use Rattle.socket_datagram.specs.declared.udp.UdpMetadata.{UdpMetadata};
+ghost use Rattle.iface_ingress.specs.Packet.{PacketValue};
+ghost use Rattle.iface_ingress.specs.Socket.TheVariants as Kind;
+ghost use Rattle.iface_tables.specs.Inner.{InnerValue};
+ghost use Rattle.iface_egress.specs.declared.socket_meta.Meta.{Meta};
+ghost use Rattle.interface.specs.Awaited.{next_awaited};
+ghost use Rattle.interface.specs.declared.awaited.Awaited.{Awaited};
+ghost use Rattle.interface.specs.Egress.{EgressStep};
+ghost use Rattle.interface.specs.State.{State};
+ghost use Rattle.interface.specs.Serve.{is_waiting};
+ghost use Rattle.proof_stack.specs.Progress.NeighborResolution.{HasToAsk};
+ghost use Rattle.proof_stack.specs.Progress.Rounds.{IsOneOf};
+ghost use Rattle.proof_stack.specs.Progress.EgressSteps.{AreInOrder, AsksThen, GoesFreely, IsAskedFor, IsWaitedFor, OutStep, StillNeeds, host_in};
+
+use net_base::Device;
+
+/// Law: a UDP socket needs a next hop for as long as the first datagram in its queue does: whenever it may be asked for a packet, it offers that one.
+pub fn a_queued_datagram_needs_its_hop()
+    ensures { (i : InnerValue) (meta : Meta) (v : UdpValue) (d : UdpMetadata × List ℕ) (more : List (UdpMetadata × List ℕ)) (hop : IpAddress)
+        (p : PacketValue)
+        → is_waiting i meta ≡ false
+        → contents v.queued ≡ d ∷ more
+        → HasToAsk i v.settings d hop p
+        → StillNeeds i hop (Some (record { meta = meta; socket = Kind.Udp v })) }
+{}
+
+/// Law: where sockets wait, of whatever kind they are, a step of the egress path asks for the neighbour whose turn it is, and of what the host knows of
+/// neighbours that question alone changes something. So it is where each of them still needs its neighbour, which may be asked for now, the host keeps
+/// count of fewer neighbours than it can, and the device refuses nothing.
+pub fn waiting_sockets_ask_in_turn<D: Device>()
+    ensures { (hop_limit : List IpAddress) (x : OutStep D.moves) (a : Awaited)
+        → GoesFreely D.moves hop_limit x
+        → next_awaited (host_in D.moves x) x.old.slots ≡ Some a
+        → AsksThen D.moves x a.hop }
+{}
+
+/// Law: and nobody is asked for until that question's second is over: while the silence lasts a step of the egress path leaves what the host knows of
+/// neighbours, whatever the device does.
+pub fn nobody_is_asked_for_in_silence<D: Device>()
+    ensures { (t : ℤ) (s s' : State D) (answer : Option Bool)
+        → int_lt t s.host.inner.neighbors.silent ≡ true
+        → EgressStep D.moves t s answer s'
+        → s'.host.inner.neighbors ≡ s.host.inner.neighbors }
+{}
+
+/// Law: a neighbour has its turn within as many steps as there are neighbours that sockets wait for. Of so many steps of the egress path, each of which
+/// goes freely and finds a socket that waits for it, one asks for it, whoever else is waited for and in whatever order they came.
+pub fn a_neighbor_has_its_turn<D: Device>()
+    ensures { (hop_limit : List IpAddress) (hop : IpAddress) (steps : List (OutStep D.moves))
+        → AreInOrder D.moves steps
+        → AllByRecursion (IsWaitedFor D.moves hop hop_limit) steps
+        → IsOneOf hop hop_limit
+        → length hop_limit ≤ length steps
+        → IsAskedFor D.moves hop steps }
+{}

@@ -1,0 +1,15 @@
+pub mod Named
+pub mod DamagedWords
+pub mod Cutting
+pub mod Slicing
+pub mod WordLemmas
+pub mod CidrLemmas
+pub mod LineLemmas
+pub mod VerbLemmas
+pub mod TextLemmas
+pub mod Backs
+pub mod ReadBack
+pub mod Graphic
+pub mod JoinedLemmas
+pub mod PrintedLemmas
+pub mod Moments

@@ -1,0 +1,16 @@
+pub mod PacketInFrame
+pub mod Parts
+pub mod Cuts
+pub mod Slices
+pub mod Pool
+pub mod Port
+pub mod Words
+pub mod Verbs
+pub mod Lines
+pub mod Text
+pub use Rattle.base_device.specs.Capabilities
+pub use Rattle.base_device.specs.declared.capabilities.Checksum
+pub use Rattle.base_device.specs.declared.capabilities.ChecksumCapabilities
+pub use Rattle.base_device.specs.Device
+pub use Rattle.base_device.specs.declared.capabilities.DeviceCapabilities
+pub use Rattle.base_device.specs.declared.capabilities.Medium

@@ -1,0 +1,11 @@
+pub mod Clients
+pub mod Messages
+pub mod OfferLaws
+pub mod Protocols
+pub mod PacketQueues
+pub mod RawPackets
+pub mod UdpPackets
+pub mod AtOnce
+pub mod Equal
+pub mod DhcpClient
+pub mod DnsClient

@@ -1,4 +1,0 @@
--- What is known of a packet queue whose first packet is looked at.
-use Rattle.net_containers.proofs.PacketSteps.{first-unpadded, without_first-unpadded, unpadded-unpadded}
-
-pub ruleset queues = (first-unpadded, without_first-unpadded, unpadded-unpadded)

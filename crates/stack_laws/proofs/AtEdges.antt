@@ -1,6 +1,0 @@
--- Acknowledgements that come at the right edge of a window.
-pub mod Sent
-pub mod Comes
-pub mod Edge
-pub mod Whole
-pub mod Spans

@@ -1,8 +1,0 @@
-use Rattle.stack_laws.proofs.Peers.Devices.{reached_by_moves, polled_by_moves}
-use Rattle.stack_laws.proofs.peer_host.devices_only_move.Goals as goal
-
-pub returns-clause-on_the_way : goal.returns-clause-on_the_way
-returns-clause-on_the_way g c = reached_by_moves g.D.Device.moves
-
-pub returns-clause-at_the_end : goal.returns-clause-at_the_end
-returns-clause-at_the_end g c = polled_by_moves g.D.Device.moves

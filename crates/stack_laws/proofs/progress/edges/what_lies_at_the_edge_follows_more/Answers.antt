@@ -1,5 +1,0 @@
-use Rattle.stack_laws.proofs.AtEdges.Sent.{follows_more}
-use Rattle.stack_laws.proofs.progress.edges.what_lies_at_the_edge_follows_more.Goals as goal
-
-pub returns : goal.returns
-returns c = follows_more

@@ -1,5 +1,0 @@
-use Rattle.stack_laws.proofs.EventPlaces.{comes_in_a_world}
-use Rattle.stack_laws.proofs.progress.events.a_segment_that_waits_comes_by_a_move.Goals as goal
-
-pub returns : goal.returns
-returns c = comes_in_a_world

@@ -1,5 +1,0 @@
-use Rattle.stack_laws.proofs.EventAsked.{are_asked}
-use Rattle.stack_laws.proofs.progress.events.sockets_that_are_served_are_asked.Goals as goal
-
-pub returns : goal.returns
-returns c = are_asked

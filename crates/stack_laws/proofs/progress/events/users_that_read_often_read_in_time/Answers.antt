@@ -1,5 +1,0 @@
-use Rattle.stack_laws.proofs.EventReads.{are_read}
-use Rattle.stack_laws.proofs.progress.events.users_that_read_often_read_in_time.Goals as goal
-
-pub returns : goal.returns
-returns c = are_read

@@ -1,5 +1,0 @@
-use Rattle.stack_laws.proofs.Polls.Inboxes.{no_loopback}
-use Rattle.stack_laws.proofs.progress.inboxes.a_loopback_is_no_inbox.Goals as goal
-
-pub returns : goal.returns
-returns c = no_loopback

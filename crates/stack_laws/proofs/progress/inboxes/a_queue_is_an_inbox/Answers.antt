@@ -1,5 +1,0 @@
-use Rattle.stack_laws.proofs.Polls.Inboxes.{queue_is}
-use Rattle.stack_laws.proofs.progress.inboxes.a_queue_is_an_inbox.Goals as goal
-
-pub returns : goal.returns
-returns c = queue_is

@@ -1,6 +1,0 @@
-use Rattle.stack_laws.proofs.EventHops.{are_let_go_there}
-use Rattle.stack_laws.proofs.progress.known_hops.offers_go_where_hosts_know_each_other.Goals as goal
-
-pub returns : goal.returns
-returns c = λ starts net past more hosts still places own pairs moves by leave connected known.
-    are_let_go_there starts places own pairs net past more hosts still moves by leave connected known

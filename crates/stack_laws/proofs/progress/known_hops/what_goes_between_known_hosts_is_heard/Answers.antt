@@ -1,5 +1,0 @@
-use Rattle.stack_laws.proofs.EventComes.{heard_there}
-use Rattle.stack_laws.proofs.progress.known_hops.what_goes_between_known_hosts_is_heard.Goals as goal
-
-pub returns : goal.returns
-returns c = heard_there

@@ -1,5 +1,0 @@
-use Rattle.stack_laws.proofs.Polls.First.{step_asks_for_it}
-use Rattle.stack_laws.proofs.progress.neighbors.a_datagram_waits_for_its_neighbor.Goals as goal
-
-pub returns : goal.returns
-returns g c = step_asks_for_it g.D.Device.moves

@@ -1,5 +1,0 @@
-use Rattle.stack_laws.proofs.Polls.Asking.{step_asks}
-use Rattle.stack_laws.proofs.progress.neighbors.unknown_neighbors_are_asked_for.Goals as goal
-
-pub returns : goal.returns
-returns g c = step_asks g.D.Device.moves

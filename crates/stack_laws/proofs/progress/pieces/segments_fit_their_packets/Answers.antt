@@ -1,9 +1,0 @@
-use Rattle.std.proofs.Common.{◌≤◌, Option, subst}
-use Rattle.std.specs.Prelude.{IfSome}
-use Rattle.interface_egress.specs.Plan.{total_len}
-use Rattle.tcp_control.specs.declared.offer.OpenOffer.{OpenOffer}
-use Rattle.stack_laws.proofs.OfferLengths.{offer_fits}
-use Rattle.stack_laws.proofs.progress.pieces.segments_fit_their_packets.Goals as goal
-
-pub returns : goal.returns
-returns c = λ cx v o enough is. subst (λ (x : Option OpenOffer). IfSome x (λ (y : OpenOffer). total_len y.header ≤ cx.ip_mtu)) is (offer_fits cx enough v)

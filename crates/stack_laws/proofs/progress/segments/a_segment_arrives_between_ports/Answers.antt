@@ -1,5 +1,0 @@
-use Rattle.stack_laws.proofs.Polls.BetweenPorts.{segment_between}
-use Rattle.stack_laws.proofs.progress.segments.a_segment_arrives_between_ports.Goals as goal
-
-pub returns : goal.returns
-returns c = segment_between

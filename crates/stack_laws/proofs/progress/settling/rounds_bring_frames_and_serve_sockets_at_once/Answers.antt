@@ -1,5 +1,0 @@
-use Rattle.stack_laws.proofs.Rounds.Arrives.{by_rounds_at_once}
-use Rattle.stack_laws.proofs.progress.settling.rounds_bring_frames_and_serve_sockets_at_once.Goals as goal
-
-pub returns : goal.returns
-returns c = by_rounds_at_once c.one_outcome.ensures

@@ -1,5 +1,0 @@
-use Rattle.stack_laws.proofs.Rounds.Arrives.{by_rounds}
-use Rattle.stack_laws.proofs.progress.settling.rounds_serve_at_once_who_waits_for_none.Goals as goal
-
-pub returns : goal.returns
-returns c = λ old new places budget from rounds rested begin settles. by_rounds c.one_outcome.ensures places from budget rounds rested old new begin settles

@@ -1,5 +1,0 @@
-use Rattle.stack_laws.proofs.Polls.StillNeeded.{still_needed}
-use Rattle.stack_laws.proofs.progress.turns.a_queued_datagram_needs_its_hop.Goals as goal
-
-pub returns : goal.returns
-returns c i meta v d more hop p ready queued has = still_needed i v d more hop p queued has meta ready

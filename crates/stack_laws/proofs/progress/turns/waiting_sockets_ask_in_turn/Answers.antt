@@ -1,5 +1,0 @@
-use Rattle.stack_laws.proofs.Polls.Waited.{step_asks_in_turn}
-use Rattle.stack_laws.proofs.progress.turns.waiting_sockets_ask_in_turn.Goals as goal
-
-pub returns : goal.returns
-returns g c hops x a freely is = step_asks_in_turn g.D.Device.moves hops x a freely is

@@ -1,0 +1,11 @@
+pub mod Later
+pub mod Waits
+pub mod TsecrSteps
+pub mod Numbers
+pub mod Positions
+pub mod Idle
+pub mod Resets
+pub mod Drawing
+pub mod Holes
+pub mod Undone
+pub mod Una

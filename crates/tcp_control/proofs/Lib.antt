@@ -1,7 +1,0 @@
-mod CubicLaws
-mod RoundTripLaws
-mod CongestionLaws
-pub mod NothingHeld
-pub mod FirstNumbers
-pub mod Words
-pub mod SipSteps

@@ -1,7 +1,0 @@
-use Rattle.std.proofs.Common.{◌≡◌, ◌++◌, take, drop, map}
-use Rattle.tcp_control.specs.Scoreboard.{lowered}
-use Rattle.tcp_control.proofs.scoreboard.Scoreboard.acknowledge.Given as goal
-
-abbrev pub invariant-loop-run : goal.invariant-loop-run
-invariant-loop-run l =
-    l.run-items ≡ map (lowered l.by) (take l.run-index l.initial.run-items) ++ drop l.run-index l.initial.run-items

@@ -1,0 +1,47 @@
+mod Going
+mod Steps
+pub mod ArrivalRules
+pub mod OfferRules
+pub mod RunRules
+pub mod OfferCases
+pub mod ArrivalCases
+pub mod ForgedRules
+pub mod AckRules
+pub mod GivingUpRules
+pub mod OrderSteps
+pub mod OrderRules
+pub mod TimeWaitRules
+pub mod WaitingRules
+pub mod CongestionRules
+pub mod TimingRules
+pub mod RecoveryRules
+pub mod RcvAdvSteps
+pub mod RcvAdvRules
+pub mod RcvAdvMarks
+pub mod RcvAdvMoves
+pub mod LossRules
+pub mod TsvalRules
+pub mod StorageRules
+pub mod BlindRules
+pub mod UndoRules
+pub mod MendRules
+pub mod LateRules
+pub mod ValidationRules
+pub mod AgainSteps
+pub mod AgainRules
+pub mod ApartRuns
+pub mod EarlyRules
+pub mod RescueRules
+pub mod RescueEnds
+pub mod NextSegRules
+pub mod BeginRules
+pub mod HoleRules
+pub mod WindowSteps
+pub mod WindowRules
+pub mod RoomRules
+pub mod SndMaxRules
+pub mod NextRules
+pub mod InsideRules
+pub mod PipeRules
+pub mod ReadRules
+mod EvidenceRules

@@ -1,5 +1,0 @@
-use Rattle.tcp_model.proofs.Drawing.{closed_draws}
-use Rattle.tcp_model.proofs.pauses.a_closed_window_takes_nothing.Goals as goal
-
-pub returns-clause-drawn : goal.returns-clause-drawn
-returns-clause-drawn c = closed_draws

@@ -1,5 +1,0 @@
-use Rattle.tcp_progress.proofs.Unanswered.{bare_unanswered}
-use Rattle.tcp_progress.proofs.bare.a_bare_acknowledgement_is_not_answered.Goals as goal
-
-pub returns : goal.returns
-returns c = record { silent = bare_unanswered }

@@ -1,5 +1,0 @@
-use Rattle.tcp_progress.proofs.LateAnswers.{late_answer}
-use Rattle.tcp_progress.proofs.late.an_answer_that_comes_late_counts.Goals as goal
-
-pub returns : goal.returns
-returns c = record { counts = late_answer }

@@ -1,5 +1,0 @@
-use Rattle.tcp_progress.proofs.CourseSpans.{reached_in_spans, through_in_spans}
-use Rattle.tcp_progress.proofs.latency.all_is_acknowledged_in_time.Goals as goal
-
-pub returns : goal.returns
-returns c = record { reached = reached_in_spans; through = through_in_spans }

@@ -1,5 +1,0 @@
-use Rattle.tcp_progress.proofs.InOrder.{heard_in_order}
-use Rattle.tcp_progress.proofs.latency.what_comes_in_order_is_heard.Goals as goal
-
-pub returns : goal.returns
-returns c = record { heard = λ p q course delay r s days o. heard_in_order q p course delay r s days o }

@@ -1,5 +1,0 @@
-use Rattle.tcp_progress.proofs.Opened.{is_open}
-use Rattle.tcp_progress.proofs.laws.a_side_of_a_pair_is_open.Goals as goal
-
-pub returns : goal.returns
-returns c = record { counts = is_open }

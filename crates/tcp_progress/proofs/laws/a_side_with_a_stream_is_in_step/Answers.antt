@@ -1,5 +1,0 @@
-use Rattle.tcp_progress.proofs.Pair.{in_step}
-use Rattle.tcp_progress.proofs.laws.a_side_with_a_stream_is_in_step.Goals as goal
-
-pub returns : goal.returns
-returns c = record { step = in_step }

@@ -1,5 +1,0 @@
-use Rattle.tcp_progress.proofs.Acked.{una_rises}
-use Rattle.tcp_progress.proofs.laws.an_acknowledgement_raises_snd_una.Goals as goal
-
-pub returns : goal.returns
-returns c = record { rises = una_rises }

@@ -1,5 +1,0 @@
-use Rattle.tcp_progress.proofs.Mirrored.{reached_mirrored}
-use Rattle.tcp_progress.proofs.laws.endpoints_mirror_each_other.Goals as goal
-
-pub returns : goal.returns
-returns c = record { mirrored = reached_mirrored }

@@ -1,5 +1,0 @@
-use Rattle.tcp_progress.proofs.Pair.{exchanges_few}
-use Rattle.tcp_progress.proofs.laws.exchanges_come_to_an_end.Goals as goal
-
-pub returns : goal.returns
-returns c = record { few = exchanges_few }

@@ -1,5 +1,0 @@
-use Rattle.tcp_progress.proofs.Frees.{frees_on, reads_free}
-use Rattle.tcp_progress.proofs.readers.free_space_stays_free.Goals as goal
-
-pub returns : goal.returns
-returns c = record { stays = frees_on; reads = reads_free }

@@ -1,6 +1,0 @@
-use Rattle.tcp_progress.proofs.PutOff.{in_time, is_running}
-use Rattle.tcp_progress.proofs.PutOffRuns.{runs_through}
-use Rattle.tcp_progress.proofs.timer.only_news_puts_the_timer_off.Goals as goal
-
-pub returns : goal.returns
-returns c = record { runs = is_running; stays = in_time; through = runs_through }

@@ -1,0 +1,5 @@
+pub mod Offsets
+pub mod Storing
+pub mod Fronts
+pub mod RunsOf
+pub mod Refused

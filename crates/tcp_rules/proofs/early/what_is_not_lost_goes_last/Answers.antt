@@ -1,5 +1,0 @@
-use Rattle.tcp_rules.proofs.NextSegRules.{goes_last}
-use Rattle.tcp_rules.proofs.early.what_is_not_lost_goes_last.Goals as goal
-
-pub returns : goal.returns
-returns c = record { order = goes_last }

@@ -1,5 +1,0 @@
-use Rattle.tcp_rules.proofs.LossRules.{led_held}
-use Rattle.tcp_rules.proofs.losses.what_is_held_was_sent.Goals as goal
-
-pub returns : goal.returns
-returns c = record { held = led_held }

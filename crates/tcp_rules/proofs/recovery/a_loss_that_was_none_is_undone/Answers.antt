@@ -1,5 +1,0 @@
-use Rattle.tcp_rules.proofs.UndoRules.{recovery_undone, timeout_undone, undone_over}
-use Rattle.tcp_rules.proofs.recovery.a_loss_that_was_none_is_undone.Goals as goal
-
-pub returns : goal.returns
-returns c = record { recovery = recovery_undone; timeout = timeout_undone; over = undone_over }

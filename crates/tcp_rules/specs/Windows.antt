@@ -1,8 +1,0 @@
--- The congestion window and the slow start threshold of each socket that events lead to (RFC 5681, 3.1).
-use Rattle.std.specs.Prelude.{Bool, true, false}
-use Rattle.tcp_model.specs.declared.block.CongestionControl.{CongestionControl}
-use Rattle.tcp_model.specs.declared.block.CongestionControl.TheVariants as Avoids
-
-abbrev pub runs_cubic : CongestionControl → Bool
-runs_cubic Avoids.Cubic = true
-runs_cubic other = false

@@ -1,0 +1,7 @@
+mod CubicLaws
+mod RoundTripLaws
+mod CongestionLaws
+pub mod NothingHeld
+pub mod Isns
+pub mod Words
+pub mod SipSteps

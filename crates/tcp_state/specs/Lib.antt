@@ -1,0 +1,16 @@
+pub mod States
+pub mod Reno
+pub mod Cubic
+pub mod RoundTrip
+pub mod Scoreboard
+pub mod Moments
+pub mod Offsets
+pub mod Controls
+pub mod Endpoints
+pub mod SipHash
+pub mod Isn
+pub use Rattle.socket_context.specs.declared.poll_at.PollAt
+pub use Rattle.socket_context.specs.Context
+pub use Rattle.socket_context.specs.declared.offer.Offer
+pub use Rattle.socket_context.specs.Offers
+pub use Rattle.socket_context.specs.Packet

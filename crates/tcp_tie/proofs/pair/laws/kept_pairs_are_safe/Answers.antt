@@ -1,5 +1,0 @@
-use Rattle.tcp_tie.proofs.PairLaws.{kept_is_safe}
-use Rattle.tcp_tie.proofs.pair.laws.kept_pairs_are_safe.Goals as goal
-
-pub returns : goal.returns
-returns c = record { safe = kept_is_safe }

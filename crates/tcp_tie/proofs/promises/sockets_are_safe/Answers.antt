@@ -1,5 +1,0 @@
-use Rattle.tcp_tie.proofs.PromiseLemmas.{safe_sockets}
-use Rattle.tcp_tie.proofs.promises.sockets_are_safe.Goals as goal
-
-pub returns : goal.returns
-returns c = record { safe = safe_sockets }

@@ -1,0 +1,10 @@
+use denote.Payload.{Utf8}
+use denote.Shadow.{shadow}
+use Rattle.test_lan.proofs.worlds.steps.first_wrong_in.Given as goal
+
+-- what was asked is text
+abbrev pub invariant-loop-line : goal.invariant-loop-line
+invariant-loop-line l =
+    (goal.iterator-loop-line).can_next l.line-iterator ×
+    (goal.iterator-loop-line).is_finite l.line-iterator ×
+    shadow (Utf8 l.asked)

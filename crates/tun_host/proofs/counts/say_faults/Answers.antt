@@ -1,7 +1,0 @@
-use Rattle.std.proofs.Common.{refl}
-use Rattle.tun_host.proofs.counts.say_faults.Goals as goal
-
--- line after line
-pub returns : goal.returns
-unfolding Rattle.tun_host.specs.Counts.faults_said Rattle.tun_host.specs.Counts.line_said
-returns c = rw c.say_line-4.ensures (rw c.say_line-3.ensures (rw c.say_line-2.ensures (rw c.say_line.ensures refl)))

@@ -1,7 +1,0 @@
-use Rattle.std.proofs.Common.{◌≡◌, length, take}
-use Rattle.tun_host.specs.Site.{pattern}
-use Rattle.tun_host.proofs.site.fill.Given as goal
-
--- the bytes so far
-abbrev pub invariant-loop-i : goal.invariant-loop-i
-invariant-loop-i l = (length l.piece ≡ length l.fn.piece) × (take l.i l.piece ≡ pattern l.fn.from l.i)

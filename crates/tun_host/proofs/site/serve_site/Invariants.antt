@@ -1,9 +1,0 @@
-use Rattle.std.proofs.Common.{◌≡◌, length}
-use Rattle.tun_host.specs.Site.{talk, ServesTimes}
-use Rattle.tun_host.proofs.site.serve_site.Given as goal
-
--- so many rounds
-abbrev pub invariant-loop : goal.invariant-loop
-invariant-loop l =
-    (length l.buffer ≡ length l.initial.buffer)
-    × ServesTimes l.counter l.initial.counts (length l.initial.buffer) (talk l.initial.socket l.initial.session) (talk l.socket l.session)

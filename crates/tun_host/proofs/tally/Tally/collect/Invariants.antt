@@ -1,8 +1,0 @@
-use Rattle.std.proofs.Common.{◌≡◌, ◌++◌, map, take, drop}
-use Rattle.tun_host.specs.Tallies.{no_more, collected}
-use Rattle.tun_host.proofs.tally.Tally.collect.Given as goal
-
--- so many sessions were taken over
-abbrev pub invariant-loop-i : goal.invariant-loop-i
-invariant-loop-i l =
-    (l.self ≡ collected (take l.i l.initial.sessions) l.initial.self) × (l.sessions ≡ map no_more (take l.i l.initial.sessions) ++ drop l.i l.initial.sessions)

@@ -1,0 +1,15 @@
+use Rattle.std.proofs.Common.{w8, ap, ◌+◌, ◌∙◌}
+use Rattle.std.specs.Simd.Lanes.{chunk}
+use Rattle.std.proofs.lemmas.List.{take_rest}
+use Rattle.std.proofs.lemmas.Simd.{chunk-fits, below_from_Fits}
+use Rattle.wire_address.specs.Sum.{word_sum, folded}
+use Rattle.wire_address.proofs.Vectors.{IsCopiedSoFar-step, IsSummedSoFar-sum}
+use Rattle.wire_address.proofs.checksum.copy.Goals as goal
+
+pub loop-done-preserved : goal.loop-done-preserved
+loop-done-preserved c = IsCopiedSoFar-step c.loop-done.to c.args.from.now c.loop-done.words c.loop-done.high _ c.loop-done.done c.loop-done.invariant c.loop-done-test.true c.requires.fits
+    (below_from_Fits w8 (chunk c.loop-done.done 64 c.args.from.now) (chunk-fits w8 c.loop-done.done 64 c.args.from.now c.type_inv.from))
+
+pub returns-clause-sum : goal.returns-clause-sum
+returns-clause-sum c = IsSummedSoFar-sum c.args.from.now _ _ _ _ _ _ _ c.loop-done.invariant.summed.halves c.requires.fits
+    (c.sum_low_first.ensures ∙ ap (λ xs. folded (word_sum xs)) (take_rest c.args.from.now c.loop-done.done)) (c.add_u128.ensures ∙ ap (λ n. folded (n + c.sum_low_first.result)) c.sum_of_halves-halves.ensures) c.fold.ensures c.swap_bytes.ensures

@@ -1,0 +1,8 @@
+use Rattle.wire_address.proofs.FourBytes.{unspecified-number, unspecified-tells}
+use Rattle.wire_address.proofs.ipv4.Ipv4Address.is_unspecified.Goals as goal
+
+pub returns-clause-value : goal.returns-clause-value
+returns-clause-value c = unspecified-tells c.args.self.now _ c.to_bits.ensures.whole c.to_bits.ensures.value
+
+pub returns-clause-meaning : goal.returns-clause-meaning
+returns-clause-meaning c = unspecified-number c.args.self.now _ c.to_bits.ensures.whole c.to_bits.ensures.value

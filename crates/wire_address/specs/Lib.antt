@@ -1,0 +1,14 @@
+pub mod Fields
+pub mod Extends
+pub mod Sum
+pub mod LowFirst
+pub mod Address
+pub mod Cidr
+pub mod AddressTests
+pub mod Protocol
+pub mod Pseudo
+pub mod Seq
+pub mod Halves
+pub mod Hardware
+pub mod Text
+pub mod Order

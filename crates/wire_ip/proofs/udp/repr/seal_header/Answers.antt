@@ -1,0 +1,20 @@
+use Rattle.std.proofs.Common.{◌≡◌, ◌+◌, ◌++◌, length, sym, ◌∙◌, ap, ap₂, arith}
+use Rattle.wire_address.specs.Fields.{put16}
+use Rattle.wire_address.specs.Pseudo.{pseudo_of, covered}
+use Rattle.wire_address.specs.Sum.{word_sum, folded}
+use Rattle.wire_ip.proofs.Apart.{put16-header, folded-parts}
+use Rattle.wire_ip.proofs.udp.repr.seal_header.Goals as goal
+
+pub returns : goal.returns
+returns c = λ payload len sum.
+    let header = c.args.header.now in
+    let source = c.args.source.now in
+    let destination = c.args.destination.now in
+    let pseudo : c.pseudo_header-pseudo.result ≡ folded (word_sum (pseudo_of source destination 17 (length header + length payload))) =
+    c.pseudo_header-pseudo.ensures ∙ ap (λ n. folded (word_sum (pseudo_of source destination 17 n))) (omega (arith, len)) in
+    let front = c.add-front.ensures ∙ ap₂ (λ a b. folded (a + b)) pseudo c.data.ensures in
+    let total : c.add-sum.result ≡ folded (covered source destination 17 (header ++ payload)) =
+    c.add-sum.ensures ∙ ap₂ (λ a b. folded (a + b)) front sum ∙ folded-parts source destination 17 header payload (omega arith) in
+    let put : c.write_u16.new.bytes ≡ put16 header 6 c.sent_complement.result = c.write_u16.ensures in
+    ap (λ xs. xs ++ payload) put ∙ sym (put16-header header payload 6 c.sent_complement.result (omega arith)) ∙
+    ap (λ n. put16 (header ++ payload) 6 n) (c.sent_complement.ensures _ total)

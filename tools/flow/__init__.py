@@ -1,0 +1,1 @@
+"""Draws what happened on the link between two hosts of the simulator: `./flow --help`."""
