@@ -1,5 +1,6 @@
 -- What contracts see of addresses: the numbers that they are, most significant byte first, and where they belong.
 use Rattle.std.specs.Prelude.{◌≡◌, ℕ, ◌-◌, ◌/◌, ◌%◌, ◌^◌, ◌≤◌, ◌==◌, if◌then◌else◌, List, [], ◌∷◌, ◌++◌, length, take, drop, replicate, slice_index}
+use Rattle.std.specs.Str.{bytes_eq}
 use Rattle.byteorder.specs.Endian.{big_number}
 use Rattle.wire_address.specs.Fields.{IsBytes}
 use Rattle.wire_address.specs.declared.ethernet.EthernetAddress.{EthernetAddress}
@@ -133,12 +134,12 @@ abbrev pub IsMaskV6 : Ipv6Address → ℕ → Type 0
 IsMaskV6 a n = (n ≤ 128) × (v6_number a ≡ 2 ^ 128 - 2 ^ (128 - n))
 
 -- how far an address is known: the low half of the second byte of a multicast address, 2 (the link)
--- for fe80::/10, else 14 (everywhere)
+-- for fe80::/10 and ::1, else 14 (everywhere) (RFC 4007, section 4)
 abbrev pub scope_of : Ipv6Address → ℕ
 scope_of a =
     if slice_index a.0 0 == 0xff then slice_index a.0 1 % 16
     else if slice_index a.0 0 == 0xfe then (if slice_index a.0 1 / 64 == 2 then 2 else 14)
-    else 14
+    else (if bytes_eq a.0 (replicate 15 0 ++ 1 ∷ []) then 2 else 14)
 
 -- the first 104 bits of ff02::1:ff00:0
 abbrev pub solicited_prefix : List ℕ

@@ -97,13 +97,14 @@ impl Ipv6Address {
     }
 
     /// How far the address is known, by the numbers of multicast scopes: 2 is the link, 14 is
-    /// everywhere. An address that is no multicast address has one of these two.
-    pub const fn x_multicast_scope(&self) -> u8
+    /// everywhere. An address that is no multicast address has one of these two; `::1` is of the
+    /// link (RFC 4007, section 4).
+    pub fn x_multicast_scope(&self) -> u8
         ensures { result ≡ scope_of self.now }
     {
         if self.is_multicast() {
             self.0[1] & 0x0f
-        } else if self.is_link_local() {
+        } else if self.is_link_local() || self.is_loopback() {
             2
         } else {
             14

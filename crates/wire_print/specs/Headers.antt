@@ -95,7 +95,7 @@ abbrev pub stamp_text : Option TcpTimestampRepr → List ℕ
 stamp_text None = []
 stamp_text (Some t) = codes ", TS val " ++ (decimal t.tsval ++ (codes " ecr " ++ decimal t.tsecr))
 
--- a range of numbers that came after a gap: its initial sequence number, and the one after its last
+-- a range of numbers that came after a gap: its first sequence number, and the one after its last
 abbrev pub range_text : Option (ℕ × ℕ) → List ℕ
 range_text None = []
 range_text (Some r) = codes ", sack " ++ (decimal r.0 ++ (codes ":" ++ decimal r.1))

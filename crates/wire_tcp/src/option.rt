@@ -13,7 +13,7 @@ use wire_address::network_order::{read_u16, read_u32};
 pub const MAX_WINDOW_SCALE: u8 = 14;
 
 /// One option. The ranges of `SackRange` are the first three that a segment holds, each from its
-/// initial sequence number to the number after its last.
+/// first sequence number to the one after its last.
 #[derive(Clone, Copy, Debug, PartialEq, Eq)]
 pub enum TcpOption<'a> {
     EndOfList,

@@ -29,7 +29,7 @@ pub struct TcpRepr<'a> {
     pub window_scale: Option<u8>,
     pub max_seg_size: Option<u16>,
     pub sack_permitted: bool,
-    /// Ranges that arrived out of order, each from its initial sequence number to the number after its last.
+    /// Ranges that arrived out of order, each from its first sequence number to the one after its last.
     pub sack_ranges: [Option<(u32, u32)>; 3],
     pub timestamp: Option<TcpTimestampRepr>,
     pub payload: &'a [u8],

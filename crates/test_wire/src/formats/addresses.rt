@@ -206,7 +206,7 @@ const IPV6_KINDS: [Ipv6Kinds; 8] = [
     Ipv6Kinds(
         Ipv6Address::LOCALHOST,
         [true, false, false, true, false],
-        14,
+        2,
     ),
     Ipv6Kinds(
         Ipv6Address::UNSPECIFIED,
