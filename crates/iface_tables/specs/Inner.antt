@@ -35,8 +35,9 @@ use Rattle.iface_tables.specs.declared.route.Route.{Route}
 -- that has none; the longest IP packet of a frame; the checksums that the stack handles itself; the key of 16 bytes by which first
 -- numbers of connections are told, if there is one; the local addresses, and whether every address is one; the routes, how many there can
 -- be, and the neighbours;
--- the identification of the next IPv4 datagram; the instant up to which errors that went are counted; what was told of paths; and
--- whether nothing ran yet.
+-- the identification of the next IPv4 datagram; the instant up to which errors that went are counted; what was told of paths;
+-- whether nothing ran yet; and whether it does what RFC 1122 and the standards after it ask of a host on a network of many, where smoltcp
+-- does otherwise.
 pub record InnerValue : Type 0 where
   pub instant : ℤ
   pub random : ℕ
@@ -53,6 +54,7 @@ pub record InnerValue : Type 0 where
   pub errors_until : ℤ
   pub paths : List Path
   pub initial : Bool
+  pub host_requirements : Bool
 
 -- OWN ADDRESSES
 

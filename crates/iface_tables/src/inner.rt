@@ -56,6 +56,7 @@ pub struct InterfaceInner {
     errors_until: Instant,
     paths: Paths,
     is_fresh: bool,
+    host_requirements: bool,
 }
 
 impl Model for InterfaceInner {
@@ -82,6 +83,7 @@ impl Model for InterfaceInner {
       errors_until = i.errors_until;
       paths = i.paths;
       initial = i.is_fresh;
+      host_requirements = i.host_requirements;
     } };
 
     ghost invariant = { λ i. IsMoment i.instant × (576 ≤ i.ip_mtu) × (i.ip_mtu ≤ 65535) };
@@ -123,6 +125,7 @@ impl InterfaceInner {
             errors_until: Instant::ZERO,
             paths: Paths::new(),
             is_fresh: true,
+            host_requirements: config.host_requirements,
         })
     }
 
@@ -154,6 +157,13 @@ impl InterfaceInner {
         ensures { result ≡ self.now.initial }
     {
         self.is_fresh
+    }
+
+    /// Whether the host does what RFC 1122 and the standards after it ask of a host on a network of many, where smoltcp does otherwise.
+    pub fn host_requirements(&self) -> bool
+        ensures { result ≡ self.now.host_requirements }
+    {
+        self.host_requirements
     }
 
     /// The local addresses with their networks.

@@ -62,7 +62,7 @@ path_enough paths a now whole enough = by (path_to paths a) where
 
 -- the host as it was at first, on the medium that it is on
 abbrev pub with_routes : InnerValue → InnerValue → InnerValue
-with_routes first i = record first { hardware = i.hardware; routes = i.routes }
+with_routes first i = record first { hardware = i.hardware; routes = i.routes; host_requirements = i.host_requirements }
 
 pub stayed : (first i : InnerValue) → IsSeenAs first i → HasSettingsOf (with_routes first i) i
 stayed first i seen = record {
@@ -72,6 +72,7 @@ stayed first i seen = record {
   addresses = seen.addresses;
   isn_key = seen.isn_key;
   any_ip = seen.any_ip;
+  host_requirements = refl;
   routes = refl;
 }
 

@@ -65,6 +65,7 @@ settings_out i i' is = record {
   addresses = ap (λ (x : InnerValue). x.addresses) is;
   isn_key = ap (λ (x : InnerValue). x.isn_key) is;
   any_ip = ap (λ (x : InnerValue). x.any_ip) is;
+  host_requirements = ap (λ (x : InnerValue). x.host_requirements) is;
   routes = ap (λ (x : InnerValue). x.routes) is;
 }
 
@@ -79,6 +80,7 @@ settings_in i i' same = record {
   addresses = same.addresses;
   isn_key = same.isn_key;
   any_ip = same.any_ip;
+  host_requirements = same.host_requirements;
   routes = same.routes;
 }
 
@@ -95,7 +97,7 @@ module _ {E : Type 0} (moves : E → Move → E → Type 0) (u : ℤ) where
   pub step_same : (s s' : State E) → Step moves u s s' → HasSettingsOf s.host.inner s'.host.inner
   step_same s s' (inl begins) =
       subst (λ (x : State E). HasSettingsOf s.host.inner x.host.inner) (sym begins)
-      (record { hardware = refl; mtu = refl; checksums = refl; addresses = refl; isn_key = refl; any_ip = refl; routes = refl })
+      (record { hardware = refl; mtu = refl; checksums = refl; addresses = refl; isn_key = refl; any_ip = refl; host_requirements = refl; routes = refl })
   step_same s s' (inr (inl takes)) = takes_same s s' takes.0 takes.1
   step_same s s' (inr (inr (inl fragment))) =
       settings_at s.host.inner s'.host.inner
@@ -122,6 +124,7 @@ module _ {E : Type 0} (moves : E → Move → E → Type 0) (u : ℤ) where
         addresses = it.addresses;
         isn_key = it.isn_key;
         any_ip = it.any_ip;
+        host_requirements = it.host_requirements;
         routes = it.routes;
       }
 
