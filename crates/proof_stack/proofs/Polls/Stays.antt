@@ -31,7 +31,7 @@ use Rattle.iface_ingress.specs.FragmentStored.{HasSameSettings}
 use Rattle.iface_ingress.specs.Packet.{PacketValue}
 use Rattle.iface_ingress.specs.Reassembled.{is_astray}
 use Rattle.iface_tables.specs.Inner.{InnerValue, at_instant, context_of, is_address_of, is_all_nodes, is_broadcast_of, is_for_us, is_foreign_loopback}
-use Rattle.iface_tables.specs.Inner.{is_local_broadcast, is_loopback_in, is_loopback_of, is_member_of, is_local, solicits_cidr}
+use Rattle.iface_tables.specs.Inner.{is_local_broadcast, is_loopback_in, is_loopback_of, is_mapped, is_member_of, is_local, solicits_cidr}
 use Rattle.iface_egress.specs.Departing.{HasSettingsOf}
 use Rattle.iface_egress.specs.Set.{free, socket_in}
 use Rattle.iface_egress.specs.declared.socket_meta.Meta.{Meta}
@@ -156,7 +156,8 @@ module _ (i i' : InnerValue) (same : HasSettingsOf i i') where
   foreign a = ap (λ (bs : List IpCidr). is_loopback a && not (list_any (is_loopback_of a) bs)) same.addresses
 
   pub astray : (a b : IpAddress) → is_astray i' a b ≡ is_astray i a b
-  astray a b k = foreign a k || foreign b k
+  astray a b k = foreign a k || (foreign b k || (same.host_requirements k
+      && ((not (is_unspecified a) && list_any (is_address_of a) (same.addresses k)) || (is_mapped a || is_mapped b))))
 
   pub sender : (a : IpAddress) → may_be_sender i' a ≡ may_be_sender i a
   sender (Address.Ipv4 a) = ap (λ (b : Bool). (is_unicast_v4 a && not b) || is_unspecified_v4 a) (broadcast (Address.Ipv4 a))
