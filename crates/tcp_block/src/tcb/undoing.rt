@@ -40,7 +40,10 @@ impl Tcb {
                 self.loss.undo = Some(Undo {
                     reno: undo.reno,
                     tsval: Some(value_by(self.stamps.generator, now)),
-                    answers_from: Some(later(now, Duration::from_micros(self.round_trip.shortest()))),
+                    answers_from: Some(later(
+                        now,
+                        Duration::from_micros(self.round_trip.shortest()),
+                    )),
                 });
             }
         }
