@@ -134,7 +134,7 @@ module _ (cx : ContextValue) (ip : IpRepr) (header : TcpHeader) where
       (λ _. skips old w.tcb _ _ goes refl refl refl refl refl)
       (λ _. skips old w.tcb _ _ goes refl refl refl refl refl)
 
-  tcb_heard : Tcb → ℕ → Tcb
+  abbrev tcb_heard : Tcb → ℕ → Tcb
   tcb_heard b by = reordering_hinted (tsecr_taken b header by cx.instant) by cx.instant
 
   -- An echo leaves what is in flight. Where a loss is undone all is in flight that was sent, and what is left of it has a timer.

@@ -12,7 +12,7 @@ never true = refl
 never false = refl
 
 module _ (b : Tcb) (by : ℕ) (now : ℤ) where
-  hinted : Bool → Tcb
+  abbrev hinted : Bool → Tcb
   hinted t = record b { loss = record b.loss { reo_wnd_mult = if t then reo_wnd_raised b.loss else b.loss.reo_wnd_mult } }
 
   pub hint_alone : reordering_hinted b by now ≡ record b { loss = record b.loss { reo_wnd_mult = (reordering_hinted b by now).loss.reo_wnd_mult } }
