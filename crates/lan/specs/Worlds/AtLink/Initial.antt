@@ -1,5 +1,5 @@
 -- Hosts to which nothing has happened.
-use Rattle.std.specs.Prelude.{◌≡◌, ◌<◌, ◌^◌, ℕ, true, [], Some}
+use Rattle.std.specs.Prelude.{◌≡◌, ◌<◌, ◌^◌, ℕ, true, false, [], Some}
 use Rattle.std.specs.List.{AllByRecursion}
 use Rattle.ip_wire.specs.Address.{IsEthernetAddress, IsIpAddress}
 use Rattle.ip_wire.specs.HardwareAddress.{HardwareAddress}
