@@ -4,6 +4,7 @@ pub mod Learns
 pub mod Converts
 pub mod Comes
 pub mod Safety
+pub mod Taken
 pub mod Maps
 pub mod WindowLaws
 pub mod Liars

@@ -187,7 +187,7 @@ meets_event : (peer : End) (w : Scene) (event : Event) → IsEnd peer → Meets 
 meets_event peer w (Comes x) e m may = meets_honest peer w.side w.came x e may m
 meets_event peer w (Does move) e m may = meets_move peer w.side w.came move m may
 
-meets_run : (peer : End) (w : Scene) (events : List Event) → IsEnd peer → Meets peer w.side w.came → IsRun peer w events →
+pub meets_run : (peer : End) (w : Scene) (events : List Event) → IsEnd peer → Meets peer w.side w.came → IsRun peer w events →
     Meets peer (run w events).side (run w events).came
 meets_run peer w [] e m is_run = m
 meets_run peer w (event ∷ events) e m is_run = meets_run peer (happens w event) events e (meets_event peer w event e m is_run.0) is_run.1

@@ -4,8 +4,9 @@ use Rattle.tcp_theory.specs.Segment.{Segment}
 use Rattle.tcp_theory.specs.Side.{Side, initial}
 use Rattle.tcp_theory.specs.Side.Phase.{Synchronized}
 use Rattle.tcp_theory.specs.Side.Opening.{Active}
-use Rattle.tcp_theory.specs.Move.Move.{Connects, Writes, Reads, SendsSyn, SendsAck, SendsData, TakesSynAck, TakesAck, TakesBytes, TakesFin}
-use Rattle.tcp_theory.specs.Examples.{at, syn_ack, piece, last_piece, bare_ack}
+use Rattle.tcp_theory.specs.Move.Move.{Listens, Connects, Writes, Reads, FallsBack, SendsSyn, SendsAck, SendsData, SendsReset, TakesSyn, TakesSynAck, TakesAck}
+use Rattle.tcp_theory.specs.Move.Move.{TakesBytes, TakesFin}
+use Rattle.tcp_theory.specs.Examples.{at, syn, syn_ack, piece, last_piece, bare_ack, reset}
 use Rattle.tcp_peer.specs.Peer.{End, IsHonest}
 use Rattle.tcp_peer.specs.Run.{Event}
 use Rattle.tcp_peer.specs.Run.Event.{Comes, Does}
@@ -61,3 +62,37 @@ took bytes =
 
 abbrev pub Cannot : Side → List Segment → Type 0
 Cannot side came = IsSafeBeside peer (record { side = side; came = came }) → ⊥
+
+-- HONEST WHERE IT COUNTS
+
+-- the server counts from number 300 on, and takes this side's SYN at 100
+abbrev pub server : End
+server = record { first = at 300; stream = []; ends = false; heard = at 100 }
+
+-- it still has an old connection between the same ends: it answers the SYN with what it expects there (RFC 9293, 3.5.1; RFC 5961, 4), this
+-- side's reset ends that, and the SYN goes again
+abbrev pub recovery : List Event
+recovery =
+    Does (Connects (at 100))
+    ∷ Does SendsSyn
+    ∷ Comes (bare_ack 5_000 9_000)
+    ∷ Does (SendsReset (reset 9_000))
+    ∷ Does SendsSyn
+    ∷ Comes (syn_ack 300 101)
+    ∷ Does (TakesSynAck (syn_ack 300 101))
+    ∷ Does (SendsAck (at 101))
+    ∷ []
+
+-- a listener takes the SYN of one client and falls back at a reset; another client's SYN stands at 200
+abbrev pub other_client : End
+other_client = record { first = at 200; stream = []; ends = false; heard = at 700 }
+
+abbrev pub first_client_first : List Event
+first_client_first =
+    Does Listens
+    ∷ Comes (syn 100)
+    ∷ Does (TakesSyn (syn 100) (at 300))
+    ∷ Does FallsBack
+    ∷ Comes (syn 200)
+    ∷ Does (TakesSyn (syn 200) (at 700))
+    ∷ []

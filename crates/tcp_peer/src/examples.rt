@@ -5,7 +5,8 @@ ghost use Rattle.tcp_theory.specs.Side.{freed};
 ghost use Rattle.tcp_theory.specs.Examples.{at, syn, syn_ack, piece, last_piece, bare_ack, reset};
 ghost use Rattle.tcp_peer.specs.Peer.{IsHonest};
 ghost use Rattle.tcp_peer.specs.Run.{IsRun, run, start};
-ghost use Rattle.tcp_peer.specs.Examples.{peer, this, told, Says, exchange, took, Cannot};
+ghost use Rattle.tcp_peer.specs.Taken.{IsTakenRun};
+ghost use Rattle.tcp_peer.specs.Examples.{peer, this, told, Says, exchange, took, Cannot, server, recovery, other_client, first_client_first};
 
 /// What a conforming peer may say, and a run in which it does.
 pub fn a_peer_may_be_honest()
@@ -50,4 +51,16 @@ pub fn bad_histories_are_excluded()
     ensures freed_more { Cannot (record (took []) { una = at 103 }) (bare_ack 301 102 ∷ []) }
     ensures sent_other { Cannot (record (took []) { sent = piece 101 301 (9 ∷ []) ∷ [] }) [] }
     ensures acknowledged_more { Cannot (record (took []) { sent = bare_ack 101 306 ∷ [] }) [] }
+{}
+
+/// A half-open connection: the server first answers a SYN for an old connection, and is reset. The whole is no run beside an honest peer,
+/// but it is one where the peer is honest of what is taken.
+pub fn an_old_answer_does_not_count()
+    ensures counts { IsTakenRun server (start 8 []) recovery }
+    ensures before { IsRun server (start 8 []) recovery → ⊥ }
+{}
+
+/// A listener that took one client's SYN and fell back is beside no other client in the same run, for it did take the first one's.
+pub fn another_clients_syn_counts()
+    ensures counts { IsTakenRun other_client (start 8 []) first_client_first → ⊥ }
 {}

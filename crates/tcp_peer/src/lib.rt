@@ -11,6 +11,7 @@ ghost use Rattle.tcp_theory.specs.Move.{Move, MayAll, after_all};
 ghost use Rattle.tcp_theory.specs.Alone.{AreResets, unopened};
 ghost use Rattle.tcp_peer.specs.Peer.{End, IsEnd};
 ghost use Rattle.tcp_peer.specs.Run.{Event, IsRun, run, start};
+ghost use Rattle.tcp_peer.specs.Taken.{IsTakenRun};
 ghost use Rattle.tcp_peer.specs.Safe.{IsSafeBeside};
 ghost use Rattle.tcp_peer.specs.Window.{CameInTheWindow, IsKept};
 
@@ -19,6 +20,13 @@ ghost use Rattle.tcp_peer.specs.Window.{CameInTheWindow, IsKept};
 pub fn streams_are_safe_beside_an_honest_peer()
     ensures safe { (peer : End) (room : ℕ) (resets : List Segment) (events : List Event) → IsEnd peer → AreResets resets
         → IsRun peer (start room resets) events → IsSafeBeside peer (run (start room resets) events) }
+{}
+
+/// The same of a peer that is honest where the side takes something, and at that moment: what a rule throws away may say anything, as a
+/// challenge ACK does that still names an old connection (RFC 9293, 3.5.1).
+pub fn honest_where_it_counts_is_enough()
+    ensures safe { (peer : End) (room : ℕ) (resets : List Segment) (events : List Event) → IsEnd peer → AreResets resets
+        → IsTakenRun peer (start room resets) events → IsSafeBeside peer (run (start room resets) events) }
 {}
 
 /// Whatever comes, honest or not: the byte that a side took in as its nth stood in a segment that came, n positions after the SYN, inside

@@ -83,7 +83,7 @@ impl Tcb {
         self.loss.reo_wnd_mult = self.loss.reo_wnd_mult.min(15) + 1;
     }
 
-    /// The window is as it was, recovery is over, nothing is to are retransmitted, and all that was sent of the send
+    /// The window is as it was, recovery is over, nothing is to be retransmitted, and all that was sent of the send
     /// queue is in flight. What is missing is waited for longer.
     fn undo(&mut self, queued: usize)
         requires { queued ≤ 2 ^ 30 }

@@ -1,0 +1,11 @@
+pub mod Oneself
+pub mod OneselfRuns
+pub mod Grown
+pub mod Honest
+pub mod Runs
+pub mod Knot
+pub mod Histories
+pub mod Replayed
+pub mod Nets
+pub mod Strict
+pub mod NetTaken
