@@ -31,7 +31,7 @@ pub enum Class {
     KindOfEndpoint,
     Endpoint,
     Address,
-    Tcb,
+    Cidr,
     Bytes,
     Budget,
 }
@@ -60,7 +60,7 @@ impl Class {
             Class::KindOfEndpoint => "kind of endpoint",
             Class::Endpoint => "endpoint",
             Class::Address => "address",
-            Class::Tcb => "block",
+            Class::Cidr => "block",
             Class::Bytes => "bytes",
             Class::Budget => "budget",
         }

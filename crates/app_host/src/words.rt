@@ -264,7 +264,7 @@ impl<'a> Words<'a> {
 
     /// An address with a prefix.
     pub fn cidr(&mut self) -> IpCidr {
-        self.parsed(Class::Tcb, IpCidr::default())
+        self.parsed(Class::Cidr, IpCidr::default())
     }
 
     /// All words that are left, as at most four blocks.
@@ -278,7 +278,7 @@ impl<'a> Words<'a> {
                 Ok(cidr) => {
                     let _ = found.try_push(cidr);
                 }
-                Err(_) => self.wrong(Class::Tcb),
+                Err(_) => self.wrong(Class::Cidr),
             }
         }
         self.end();

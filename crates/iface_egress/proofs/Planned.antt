@@ -17,7 +17,7 @@ use Rattle.socket_context.specs.Packet.{PacketValue, IsSendable}
 use Rattle.iface_tables.proofs.PathMtu.{mtu_within}
 use Rattle.iface_tables.specs.Inner.{mtu_to}
 use Rattle.iface_tables.specs.Inner.{InnerValue, is_local_broadcast, next_hop, link_by, link_of_hop, link_on, link_address, group_hardware_addr, all_stations}
-use Rattle.iface_tables.specs.Neighbor.{CacheValue, lookup, missing, answer_by, assembler_index_of, unless_failed, has_failed}
+use Rattle.iface_tables.specs.Neighbor.{CacheValue, lookup, missing, answer_by, neighbor_index_of, unless_failed, has_failed}
 use Rattle.iface_tables.specs.Best.{at_index}
 use Rattle.iface_tables.specs.Source.{source_v4, source_v6}
 use Rattle.iface_tables.specs.declared.link.LinkAddress.{LinkAddress}
@@ -71,7 +71,7 @@ link_by_is Known.NotFound hop other is = refl
 of_hop_is : (i : InnerValue) (o : Option IpAddress) (hop : IpAddress) → link_of_hop i o ≡ Link.Unknown hop → MayAsk i
 of_hop_is i None hop is = absurd cc
 of_hop_is i (Some next) hop is =
-    let entry : Option Neighbor = at_index (assembler_index_of i.neighbors.entries next) i.neighbors.entries in
+    let entry : Option Neighbor = at_index (neighbor_index_of i.neighbors.entries next) i.neighbors.entries in
     answer_is entry i.neighbors i.instant
     (unless_is (has_failed i.neighbors next i.instant) (answer_by entry i.neighbors i.instant) (link_by_is (lookup i.neighbors next i.instant) next hop is))
 

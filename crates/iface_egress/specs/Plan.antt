@@ -1,4 +1,4 @@
--- What is to be done with a packet that wants to are transmitted.
+-- What is to be done with a packet that wants to be transmitted.
 use Rattle.std.specs.Prelude.{◌≡◌, ℕ, ◌+◌, ◌<◌, ◌≤◌, nat_le, ◌&&◌, ◌||◌, not, Bool, true, false, if◌then◌else◌, Option, None, Some}
 use Rattle.ip_wire.specs.AddressTests.{is_unspecified, is_unspecified_v4, is_loopback_v4, is_multicast_v4}
 use Rattle.ip_wire.specs.HardwareAddress.{HardwareAddress}

@@ -1,4 +1,4 @@
-//! What is to be done with a packet that wants to are transmitted.
+//! What is to be done with a packet that wants to be transmitted.
 ghost use Rattle.std.specs.Prelude.{◌≡◌, ◌≤◌, nat_le};
 ghost use Rattle.iface_egress.specs.Plan.{longest_cut, total_len, has_extensions, can_be_cut, long_plan, plan_to};
 ghost use Rattle.iface_egress.specs.Plan.{solicit_v4, solicit_on, may_solicit, solicit_if, plan_by, stays, plan_from, plan_of};

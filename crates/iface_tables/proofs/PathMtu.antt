@@ -16,7 +16,7 @@ use Rattle.ip_wire.specs.AddressTests.{is_same_address}
 use Rattle.ip_wire.specs.IpAddress.{IpAddress}
 use Rattle.ip_wire.specs.IpAddress.TheVariants as Address
 use Rattle.iface_tables.specs.Best.{at_index}
-use Rattle.iface_tables.specs.PathMtu.{path_room, path_time, least_mtu, leads_to, assembler_index_of, path_to, narrowed, mtu_by, mtu_towards, end_by, end_towards}
+use Rattle.iface_tables.specs.PathMtu.{path_room, path_time, least_mtu, leads_to, path_index_of, path_to, narrowed, mtu_by, mtu_towards, end_by, end_towards}
 use Rattle.iface_tables.specs.PathMtu.{ends_before, victim, entered_at, entered, heard_of, is_news, lowered}
 use Rattle.iface_tables.specs.declared.path_mtu.Path.{Path}
 use Rattle.iface_tables.proofs.BestOf.{index_of_first_best-is}
@@ -144,8 +144,8 @@ itself (Address.Ipv4 a) = (bytes_eq-Decides a.0 a.0).1 refl
 itself (Address.Ipv6 a) = (bytes_eq-Decides a.0 a.0).1 refl
 
 entered_found : (paths : List Path) (new : Path) → find (leads_to new.destination) (entered paths new) ≡ Some new
-entered_found paths new = by (assembler_index_of paths new.destination) refl where
-  by : (o : Option ℕ) → assembler_index_of paths new.destination ≡ o → find (leads_to new.destination) (entered_at o paths new) ≡ Some new
+entered_found paths new = by (path_index_of paths new.destination) refl where
+  by : (o : Option ℕ) → path_index_of paths new.destination ≡ o → find (leads_to new.destination) (entered_at o paths new) ≡ Some new
   by (Some at) is = is_found (leads_to new.destination) paths at new is (itself new.destination)
   by None is =
       let none = none_found (leads_to new.destination) paths is in
@@ -233,7 +233,7 @@ same_address (Address.Ipv6 a) (Address.Ipv4 b) is = absurd (let no = is in cc)
 other_there : (d address other : IpAddress) → is_same_address address other ≡ false → is_same_address d address ≡ true → is_same_address d other ≡ false
 other_there d address other apart is = subst (λ (x : IpAddress). is_same_address x other ≡ false) (sym (same_address d address is)) apart
 
-other_by : (paths : List Path) (new : Path) (other : IpAddress) (o : Option ℕ) → assembler_index_of paths new.destination ≡ o
+other_by : (paths : List Path) (new : Path) (other : IpAddress) (o : Option ℕ) → path_index_of paths new.destination ≡ o
     → is_same_address new.destination other ≡ false → nat_lt (length paths) path_room ≡ true ⊎ is_some o ≡ true
     → find (leads_to other) (entered_at o paths new) ≡ find (leads_to other) paths
 other_by paths new other (Some at) is apart room =
@@ -245,7 +245,7 @@ other_by paths new other None is apart (inl room) =
 other_by paths new other None is apart (inr none) = absurd (let no = none in cc)
 
 others_by : (paths : List Path) (address other : IpAddress) (told : ℕ) (now later : ℤ) (whole : ℕ) → is_same_address address other ≡ false
-    → nat_lt (length paths) path_room ≡ true ⊎ is_some (assembler_index_of paths address) ≡ true
+    → nat_lt (length paths) path_room ≡ true ⊎ is_some (path_index_of paths address) ≡ true
     → mtu_towards (lowered paths address told now whole) other later whole ≡ mtu_towards paths other later whole
 unfolding mtu_towards lowered
 others_by paths address other told now later whole apart room =
@@ -253,7 +253,7 @@ others_by paths address other told now later whole apart room =
     mtu_towards paths other later whole) [
       | true ↦ ap (λ (o : Option Path). mtu_by o other later whole)
           (at_first (leads_to other) (entered paths (heard_of address told now))
-          ∙ other_by paths (heard_of address told now) other (assembler_index_of paths address) refl apart room
+          ∙ other_by paths (heard_of address told now) other (path_index_of paths address) refl apart room
           ∙ sym (at_first (leads_to other) paths))
       | false ↦ refl
     ]
@@ -264,7 +264,7 @@ pub others : (paths : List Path) (address other : IpAddress) (told : ℕ) (now l
 others paths address other told now later whole apart room = others_by paths address other told now later whole apart (inl room)
 
 pub known : (paths : List Path) (address other : IpAddress) (told : ℕ) (now later : ℤ) (whole : ℕ) → is_same_address address other ≡ false
-    → is_some (assembler_index_of paths address) ≡ true
+    → is_some (path_index_of paths address) ≡ true
     → mtu_towards (lowered paths address told now whole) other later whole ≡ mtu_towards paths other later whole
 known paths address other told now later whole apart index = others_by paths address other told now later whole apart (inr index)
 
@@ -284,7 +284,7 @@ victim_inside (p ∷ paths) some =
     omega (arith, index, best.1.0)
 
 entered_few : (paths : List Path) (new : Path) → length paths ≤ 8 → length (entered paths new) ≤ 8
-entered_few paths new few = by (assembler_index_of paths new.destination) where
+entered_few paths new few = by (path_index_of paths new.destination) where
   by : (o : Option ℕ) → length (entered_at o paths new) ≤ 8
   by (Some at) = omega (arith, length-set paths at new, few)
   by None = room (nat_lt (length paths) 8) refl where

@@ -12,7 +12,7 @@ use Rattle.base_index.proofs.Puts.{put_within, put_following, put_here, put_else
 use Rattle.ip_wire.specs.AddressTests.{is_same_address}
 use Rattle.ip_wire.specs.IpAddress.{IpAddress}
 use Rattle.iface_tables.specs.Indexed.{AreIndexed, AreIndexedBefore, key_of}
-use Rattle.iface_tables.specs.Neighbor.{is_of, assembler_index_of}
+use Rattle.iface_tables.specs.Neighbor.{is_of, neighbor_index_of}
 use Rattle.iface_tables.specs.declared.neighbor.Neighbor.{Neighbor}
 use Rattle.iface_tables.proofs.PathMtu.{same_address}
 
@@ -87,14 +87,14 @@ module _ (entries : List Neighbor) (keys : List ℕ) (address : IpAddress) (inde
   before_it at s = skipped s.from at s.none s.next.2
 
   pub found : (at : ℕ) (entry : Neighbor) → IsSought entries keys address (Some at) → slice_get entries at ≡ Some entry → is_of address entry ≡ true
-      → Some at ≡ assembler_index_of entries address
+      → Some at ≡ neighbor_index_of entries address
   found at entry s got is = sym (position_at (is_of address) entries at entry got is (before_it at s))
 
-  pub past_all : (at : ℕ) → IsSought entries keys address (Some at) → length entries ≤ at → None ≡ assembler_index_of entries address
+  pub past_all : (at : ℕ) → IsSought entries keys address (Some at) → length entries ≤ at → None ≡ neighbor_index_of entries address
   past_all at s past = sym (position_none (is_of address) entries
       (λ k y there. before_it at s k y (omega (arith, slice_get_within entries k y there, past)) there))
 
-  pub none_left : IsSought entries keys address None → None ≡ assembler_index_of entries address
+  pub none_left : IsSought entries keys address None → None ≡ neighbor_index_of entries address
   none_left s = sym (position_none (is_of address) entries
       (λ k y there. skipped s.from (length entries) s.none (λ i low high. s.next i low) k y (slice_get_within entries k y there) there))
 
@@ -129,7 +129,7 @@ module _ (entries : List Neighbor) (keys : List ℕ) (address : IpAddress) (inde
     tested : is_of address entry ≡ same
     tested = ap (λ (e : Neighbor). is_same_address e.protocol_addr address) read ∙ sym test
 
-    pub found_here : same ≡ true → Some at ≡ assembler_index_of entries address
+    pub found_here : same ≡ true → Some at ≡ neighbor_index_of entries address
     found_here holds = found at entry (at_link at link is s) got (tested ∙ holds)
 
     module _ (next : Option ℕ) (leads : (key : ℕ) → slice_get keys at ≡ Some key → IsNextWith key (at + 1) keys next) where
@@ -144,10 +144,10 @@ module _ (entries : List Neighbor) (keys : List ℕ) (address : IpAddress) (inde
   pub in_range_here : (at : ℕ) (link : Option ℕ) → link ≡ Some at → IsSought entries keys address link → at < length keys
   in_range_here at link is s = in_range at (at_link at link is s)
 
-  pub past_here : (at : ℕ) (link : Option ℕ) → link ≡ Some at → IsSought entries keys address link → length entries ≤ at → None ≡ assembler_index_of entries address
+  pub past_here : (at : ℕ) (link : Option ℕ) → link ≡ Some at → IsSought entries keys address link → length entries ≤ at → None ≡ neighbor_index_of entries address
   past_here at link is s past = past_all at (at_link at link is s) past
 
-  pub ended_here : (link : Option ℕ) → link ≡ None → IsSought entries keys address link → None ≡ assembler_index_of entries address
+  pub ended_here : (link : Option ℕ) → link ≡ None → IsSought entries keys address link → None ≡ neighbor_index_of entries address
   ended_here link is s = none_left (subst (λ (o : Option ℕ). IsSought entries keys address o) is s)
 
 -- KEYS THAT ARE GIVEN
@@ -206,7 +206,7 @@ pub before_removed : (xs : List Neighbor) (keys : List ℕ) (v : ℕ) (n : Neigh
 before_removed xs keys v n within indexed i e before got = indexed i e (omega (arith, before, within)) (kept_before xs v n i e before within got)
 
 -- in the place of one of the same address
-pub replaced : (xs : List Neighbor) (keys : List ℕ) (at : ℕ) (n : Neighbor) → AreIndexed xs keys → assembler_index_of xs n.protocol_addr ≡ Some at
+pub replaced : (xs : List Neighbor) (keys : List ℕ) (at : ℕ) (n : Neighbor) → AreIndexed xs keys → neighbor_index_of xs n.protocol_addr ≡ Some at
     → AreIndexed (slice_set xs at n) keys
 replaced xs keys at n indexed index i e before got = by (nat_lt i at) (nat_lt at i) refl refl where
   within : at < length xs

@@ -8,14 +8,14 @@ use Rattle.ip_wire.specs.HardwareAddress.{HardwareAddress}
 use Rattle.ip_wire.specs.IpAddress.{IpAddress}
 use Rattle.iface_tables.specs.declared.neighbor.Neighbor.{Neighbor}
 use Rattle.iface_tables.specs.declared.neighbor.Search.{Search}
-use Rattle.iface_tables.specs.Neighbor.{CacheValue, assembler_index_of, renewed, renewed_entry, ended, search_index, requested, silenced, one_more}
+use Rattle.iface_tables.specs.Neighbor.{CacheValue, neighbor_index_of, renewed, renewed_entry, ended, search_index, requested, silenced, one_more}
 
 -- as many elements written over a list are what it then holds
 pub refill-same : {X : Type 0} (xs ws : List X) → length ws ≡ length xs → refill (length xs) xs ws ≡ ws
 refill-same xs ws same = rw (drop_all (length ws) xs (omega (arith, same)), append-nil) (take_all (length xs) ws (omega (arith, same)))
 
 pub renewed-at : (v : CacheValue) (address : IpAddress) (hardware : HardwareAddress) (instant : ℤ) (at : ℕ) (entry : Neighbor) →
-    assembler_index_of v.entries address ≡ Some at → slice_get v.entries at ≡ Some entry
+    neighbor_index_of v.entries address ≡ Some at → slice_get v.entries at ≡ Some entry
     → renewed v address hardware instant ≡ record v {
       entries = slice_set v.entries at (renewed_entry entry hardware instant);
       searches =

@@ -44,8 +44,8 @@ abbrev pub is_of : IpAddress → Neighbor → Bool
 is_of address entry = is_same_address entry.protocol_addr address
 
 -- where the entry of an address stands
-abbrev pub assembler_index_of : List Neighbor → IpAddress → Option ℕ
-assembler_index_of entries address = position (is_of address) entries
+abbrev pub neighbor_index_of : List Neighbor → IpAddress → Option ℕ
+neighbor_index_of entries address = position (is_of address) entries
 
 -- what is known of an address without an entry that is believed
 abbrev pub missing : CacheValue → ℤ → Answer
@@ -104,7 +104,7 @@ unless_failed failed Known.Unanswered = Known.Unanswered
 
 abbrev pub lookup : CacheValue → IpAddress → ℤ → Answer
 lookup c address instant =
-    unless_failed (has_failed c address instant) (answer_by (at_index (assembler_index_of c.entries address) c.entries) c instant)
+    unless_failed (has_failed c address instant) (answer_by (at_index (neighbor_index_of c.entries address) c.entries) c instant)
 
 abbrev pub is_found : Answer → Bool
 is_found (Known.Found hardware) = true
@@ -138,7 +138,7 @@ ended searches address = ended_at (search_index searches address) searches
 -- who answers isn't looked for any more
 abbrev pub filled : CacheValue → Neighbor → CacheValue
 filled c new = record c {
-  entries = filled_at (assembler_index_of c.entries new.protocol_addr) c.room c.entries new;
+  entries = filled_at (neighbor_index_of c.entries new.protocol_addr) c.room c.entries new;
   searches = ended c.searches new.protocol_addr;
 }
 
@@ -161,8 +161,8 @@ is_known_by (Some entry) hardware = is_same_hardware entry.hardware_addr hardwar
 -- who is believed again isn't looked for any more
 abbrev pub renewed : CacheValue → IpAddress → HardwareAddress → ℤ → CacheValue
 renewed c address hardware instant = record c {
-  entries = renewed_at (assembler_index_of c.entries address) (at_index (assembler_index_of c.entries address) c.entries) c.entries hardware instant;
-  searches = if is_known_by (at_index (assembler_index_of c.entries address) c.entries) hardware then ended c.searches address else c.searches;
+  entries = renewed_at (neighbor_index_of c.entries address) (at_index (neighbor_index_of c.entries address) c.entries) c.entries hardware instant;
+  searches = if is_known_by (at_index (neighbor_index_of c.entries address) c.entries) hardware then ended c.searches address else c.searches;
 }
 
 -- after a request at this instant

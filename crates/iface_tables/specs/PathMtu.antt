@@ -33,11 +33,11 @@ abbrev pub leads_to : IpAddress → Path → Bool
 leads_to address p = is_same_address p.destination address
 
 -- where the entry of a destination stands
-abbrev pub assembler_index_of : List Path → IpAddress → Option ℕ
-assembler_index_of paths address = position (leads_to address) paths
+abbrev pub path_index_of : List Path → IpAddress → Option ℕ
+path_index_of paths address = position (leads_to address) paths
 
 abbrev pub path_to : List Path → IpAddress → Option Path
-path_to paths address = at_index (assembler_index_of paths address) paths
+path_to paths address = at_index (path_index_of paths address) paths
 
 -- a frame carries `whole` bytes, and the path as many as was told of it, but never less than the least
 abbrev pub narrowed : IpAddress → (told whole : ℕ) → ℕ
@@ -83,7 +83,7 @@ entered_at None paths new =
     if nat_lt (length paths) path_room then paths ++ new ∷ [] else remove paths (victim paths) ++ new ∷ []
 
 abbrev pub entered : List Path → Path → List Path
-entered paths new = entered_at (assembler_index_of paths new.destination) paths new
+entered paths new = entered_at (path_index_of paths new.destination) paths new
 
 abbrev pub heard_of : IpAddress → ℕ → ℤ → Path
 heard_of address told now = record { destination = address; told = told; until = now +ℤ pos path_time }

@@ -30,19 +30,19 @@ const FEW: usize = 4;
 /// Where the entry of this address stands.
 pub fn index_in(entries: &[Neighbor], keys: &Index, address: &IpAddress) -> Option<usize>
     requires { AreIndexed entries.now keys.now }
-    ensures index { result ≡ Neighbors.assembler_index_of entries.now address.now }
+    ensures index { result ≡ Neighbors.neighbor_index_of entries.now address.now }
     ensures in_range { ForSome result (λ at. at < length entries.now) }
 {
     if entries.len() <= FEW {
-        assembler_index_of(entries, address)
+        neighbor_index_of(entries, address)
     } else {
         index_by_key(entries, keys, address)
     }
 }
 
 /// The same by a look at each.
-fn assembler_index_of(entries: &[Neighbor], address: &IpAddress) -> Option<usize>
-    ensures index { result ≡ Neighbors.assembler_index_of entries.now address.now }
+fn neighbor_index_of(entries: &[Neighbor], address: &IpAddress) -> Option<usize>
+    ensures index { result ≡ Neighbors.neighbor_index_of entries.now address.now }
     ensures in_range { ForSome result (λ at. at < length entries.now) }
 {
     entries
@@ -53,7 +53,7 @@ fn assembler_index_of(entries: &[Neighbor], address: &IpAddress) -> Option<usize
 /// The same by the key of the address.
 fn index_by_key(entries: &[Neighbor], keys: &Index, address: &IpAddress) -> Option<usize>
     requires { AreIndexed entries.now keys.now }
-    ensures index { result ≡ Neighbors.assembler_index_of entries.now address.now }
+    ensures index { result ≡ Neighbors.neighbor_index_of entries.now address.now }
     ensures in_range { ForSome result (λ at. at < length entries.now) }
 {
     let mut link = keys.first(key_of(address));

@@ -3,7 +3,7 @@ ghost use Rattle.std.specs.Prelude.{◌≡◌, ℕ, ℤ, ◌+ℤ◌, ◌<ℤ◌,
 ghost use Rattle.ip_wire.specs.IpAddress.{IpAddress};
 ghost use Rattle.ip_wire.specs.IpAddress.TheVariants as Address;
 ghost use Rattle.ip_wire.specs.AddressTests.{is_same_address};
-ghost use Rattle.iface_tables.specs.PathMtu.{path_room, path_time, least_mtu, narrowed, mtu_towards, assembler_index_of, is_news, lowered};
+ghost use Rattle.iface_tables.specs.PathMtu.{path_room, path_time, least_mtu, narrowed, mtu_towards, path_index_of, is_news, lowered};
 ghost use Rattle.iface_tables.specs.declared.path_mtu.Path.{Path};
 
 /// Law: whatever was told, a packet may be as long as a frame carries or the least that a path is taken to carry, and is never longer
@@ -37,7 +37,7 @@ pub fn others_stay()
         → is_same_address address other ≡ false → nat_lt (length paths) path_room ≡ true
         → mtu_towards (lowered paths address told now whole) other later whole ≡ mtu_towards paths other later whole }
     ensures known { (paths : List Path) (address other : IpAddress) (told : ℕ) (now later : ℤ) (whole : ℕ)
-        → is_same_address address other ≡ false → is_some (assembler_index_of paths address) ≡ true
+        → is_same_address address other ≡ false → is_some (path_index_of paths address) ≡ true
         → mtu_towards (lowered paths address told now whole) other later whole ≡ mtu_towards paths other later whole }
     ensures few { (paths : List Path) (address : IpAddress) (told : ℕ) (now : ℤ) (whole : ℕ) → length paths ≤ path_room
         → length (lowered paths address told now whole) ≤ path_room }

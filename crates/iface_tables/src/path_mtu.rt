@@ -3,7 +3,7 @@
 ghost use Rattle.std.specs.Prelude.{◌≡◌, ◌≤◌, ◌<◌, [], length};
 ghost use Rattle.std.specs.Option.{ForSome};
 ghost use Rattle.net_base.specs.Time.{IsMoment};
-ghost use Rattle.iface_tables.specs.PathMtu.{least_mtu, assembler_index_of, path_to, narrowed, mtu_towards, end_towards, victim, entered, heard_of, lowered, counts, some_count};
+ghost use Rattle.iface_tables.specs.PathMtu.{least_mtu, path_index_of, path_to, narrowed, mtu_towards, end_towards, victim, entered, heard_of, lowered, counts, some_count};
 
 use arrayvec::ArrayVec;
 use ip_wire::{IpAddress, Ipv4Address};
@@ -120,7 +120,7 @@ impl Paths {
     fn enter(&mut self, path: Path)
         ensures { self.new ≡ entered self.old path }
     {
-        if let Some(at) = assembler_index_of(self.entries.as_slice(), &path.destination) {
+        if let Some(at) = path_index_of(self.entries.as_slice(), &path.destination) {
             self.entries[at] = path;
             return;
         }
@@ -157,8 +157,8 @@ fn narrowed(address: &IpAddress, told: usize, whole: usize) -> usize
 }
 
 /// Where the entry of this destination stands.
-fn assembler_index_of(paths: &[Path], address: &IpAddress) -> Option<usize>
-    ensures index { result ≡ assembler_index_of paths.now address.now }
+fn path_index_of(paths: &[Path], address: &IpAddress) -> Option<usize>
+    ensures index { result ≡ path_index_of paths.now address.now }
     ensures in_range { ForSome result (λ at. at < length paths.now) }
 {
     paths
@@ -170,7 +170,7 @@ fn assembler_index_of(paths: &[Path], address: &IpAddress) -> Option<usize>
 fn path_to(paths: &[Path], address: &IpAddress) -> Option<Path>
     ensures { result ≡ path_to paths.now address.now }
 {
-    match assembler_index_of(paths, address) {
+    match path_index_of(paths, address) {
         Some(at) => Some(paths[at]),
         None => None,
     }

@@ -5,7 +5,7 @@ use Rattle.ip_wire.specs.HardwareAddress.TheVariants as Hardware
 use Rattle.ip_wire.specs.IpAddress.{IpAddress}
 use Rattle.iface_tables.specs.Best.{at_index}
 use Rattle.iface_tables.specs.Inner.{InnerValue, at_instant, is_known_on, is_known_hop, next_hop}
-use Rattle.iface_tables.specs.Neighbor.{CacheValue, answer_by, missing, is_found, assembler_index_of, has_failed, unless_failed}
+use Rattle.iface_tables.specs.Neighbor.{CacheValue, answer_by, missing, is_found, neighbor_index_of, has_failed, unless_failed}
 use Rattle.iface_tables.specs.declared.neighbor.Neighbor.{Neighbor}
 use Rattle.iface_tables.specs.declared.neighbor.Answer.{Answer}
 use Rattle.iface_tables.specs.declared.neighbor.Answer.TheVariants as Known
@@ -47,7 +47,7 @@ module _ (asked : InnerValue) (t : ℤ) (since : asked.instant ≤ℤ t) (routes
   unknown_on : (hardware : HardwareAddress) (hop : IpAddress) → is_known_on hardware asked hop ≡ false → is_known_on hardware (at_instant t asked) hop ≡ false
   unknown_on Hardware.Ip hop unknown = unknown
   unknown_on (Hardware.Ethernet local) hop unknown =
-      let entry : Option Neighbor = at_index (assembler_index_of asked.neighbors.entries hop) asked.neighbors.entries in
+      let entry : Option Neighbor = at_index (neighbor_index_of asked.neighbors.entries hop) asked.neighbors.entries in
       let before : is_found (answer_by entry asked.neighbors asked.instant) ≡ false =
       sym (found_unless (has_failed asked.neighbors hop asked.instant) (answer_by entry asked.neighbors asked.instant)) ∙ unknown in
       found_unless (has_failed asked.neighbors hop t) (answer_by entry asked.neighbors t) ∙ unfound_by entry asked.neighbors asked.instant t since before

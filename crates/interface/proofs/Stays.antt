@@ -16,7 +16,7 @@ use Rattle.iface_ingress.specs.Ipv4Address.{Ipv4Address}
 use Rattle.iface_ingress.specs.Best.{at_index}
 use Rattle.iface_egress.specs.Inner.{mtu_to}
 use Rattle.iface_egress.specs.Inner.{InnerValue, is_local_broadcast, next_hop, link_by, link_of_hop, link_on, link_address, group_hardware_addr, all_stations}
-use Rattle.iface_ingress.specs.Neighbor.{CacheValue, lookup, missing, answer_by, assembler_index_of, unless_failed, has_failed}
+use Rattle.iface_ingress.specs.Neighbor.{CacheValue, lookup, missing, answer_by, neighbor_index_of, unless_failed, has_failed}
 use Rattle.iface_egress.specs.Source.{source_v4}
 use Rattle.iface_ingress.specs.LinkAddress.{LinkAddress}
 use Rattle.iface_ingress.specs.LinkAddress.TheVariants as Link
@@ -95,9 +95,9 @@ hop_limit i None knows = tt
 hop_limit i (Some hop) knows =
     links i.hardware (lookup i.neighbors hop i.instant) hop
     (unless_stays i.hardware (has_failed i.neighbors hop i.instant)
-    (answer_by (at_index (assembler_index_of i.neighbors.entries hop) i.neighbors.entries) i.neighbors i.instant)
-    (answers i.hardware (at_index (assembler_index_of i.neighbors.entries hop) i.neighbors.entries) i.neighbors i.instant
-    (at i.hardware (assembler_index_of i.neighbors.entries hop) i.neighbors.entries knows)))
+    (answer_by (at_index (neighbor_index_of i.neighbors.entries hop) i.neighbors.entries) i.neighbors i.instant)
+    (answers i.hardware (at_index (neighbor_index_of i.neighbors.entries hop) i.neighbors.entries) i.neighbors i.instant
+    (at i.hardware (neighbor_index_of i.neighbors.entries hop) i.neighbors.entries knows)))
 
 -- GROUPS
 

@@ -9,7 +9,7 @@ pub mod events;
 pub mod excluded;
 pub mod fragments;
 pub mod inboxes;
-pub mod known_hop_limit;
+pub mod known_hops;
 pub mod met;
 pub mod neighbors;
 pub mod peer_sides;

@@ -261,7 +261,7 @@ ranges_taken b header now =
 abbrev pub starts_again : Tcb → ℕ → Bool
 starts_again b count = begins_recovery b count || is_lost_again b
 
--- at the third, and where recovery begins, the segment at SND.UNA is to are retransmitted
+-- at the third, and where recovery begins, the segment at SND.UNA is to be retransmitted
 abbrev pub counted : Tcb → ℕ → ℤ → Tcb
 counted b count now = record b {
   sender = record b.sender {

@@ -246,8 +246,8 @@ loss_timed_out b = record initial_loss {
   undo = if b.sender.syn_unacked then None else undo_begun b;
 }
 
--- A probe is due. Where nothing is held, nor was lost, the last segment is to are retransmitted (RFC 8985, 7.3). Else what isn't held is lost, and
--- what was retransmitted, too, since nothing came of it for two round trips: the segment at SND.UNA is to are retransmitted (RFC 8985, 6.2, step 5). So it is
+-- A probe is due. Where nothing is held, nor was lost, the last segment is to be retransmitted (RFC 8985, 7.3). Else what isn't held is lost, and
+-- what was retransmitted, too, since nothing came of it for two round trips: the segment at SND.UNA is to be retransmitted (RFC 8985, 6.2, step 5). So it is
 -- where it was waited for long enough; no other one is lost by that.
 abbrev pub probes_tail : Tcb → Bool
 probes_tail b = is_none b.loss.reorder_until && ((b.sender.recover == 0) && (held b.loss.board.runs == 0))

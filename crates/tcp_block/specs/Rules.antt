@@ -108,7 +108,7 @@ abbrev pub has_payload : Tcb → AddressPair → ℕ → Ring ℕ → Bool
 has_payload b addresses ip_mtu queued =
     sends_choice b (length queued.queue) (size_limit b addresses ip_mtu) (payload_choice b addresses ip_mtu queued)
 
--- something is to are retransmitted: the segment at SND.UNA, since the third duplicate came, or a partial acknowledgement (RFC 5681, 3.2; RFC 6582,
+-- something is to be retransmitted: the segment at SND.UNA, since the third duplicate came, or a partial acknowledgement (RFC 5681, 3.2; RFC 6582,
 -- 3.2), the last segment as a probe, what is lost at the next hole, or what isn't lost, where no payload goes
 abbrev pub resends_beside : Tcb → Bool → Bool
 resends_beside b payload = may_send_data b.state && (b.sender.resend || (b.loss.probes || (fills_hole b || (is_sent_early b && not payload))))

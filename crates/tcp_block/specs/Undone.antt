@@ -40,7 +40,7 @@ prior_of (Some u) r = reno.restored r u.reno
 abbrev pub arrived_early : Tcb → Bool
 arrived_early b = b.reno.recovers && not (is_empty b.loss.board.runs)
 
--- The window is as it was, recovery is over, nothing is to are retransmitted, and all that was sent of the send queue is in flight. Where a recovery
+-- The window is as it was, recovery is over, nothing is to be retransmitted, and all that was sent of the send queue is in flight. Where a recovery
 -- began without need, since what was sent later was held, what is missing is waited for longer, in place of what a DSACK tells (RFC 8985, 6.2,
 -- step 4).
 abbrev pub undone_if : Bool → Tcb → ℕ → Tcb

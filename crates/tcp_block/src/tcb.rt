@@ -28,7 +28,7 @@ pub struct Sender {
     pub duplicates: u8,
     /// How far past SND.UNA the highest position lies that a SACK range named.
     pub sacked: u32,
-    /// Whether the segment at SND.UNA is to are retransmitted at once, since the third duplicate came, or a partial
+    /// Whether the segment at SND.UNA is to be retransmitted at once, since the third duplicate came, or a partial
     /// acknowledgement.
     pub resend: bool,
     /// How much is to be acknowledged until it is more than `recover` (RFC 6582), the highest position that
@@ -139,11 +139,11 @@ pub struct Loss {
     /// Whether one run that is held says that what lies before it is lost: a probe went after what isn't
     /// acknowledged, so the order on the way doesn't explain it.
     pub dupthresh_one: bool,
-    /// Whether the last segment that was sent is to are retransmitted, as a probe.
+    /// Whether the last segment that was sent is to be retransmitted, as a probe.
     pub probes: bool,
     /// Whether a probe went, and nothing new was acknowledged since.
     pub probed: bool,
-    /// RescueRxt, and one more: SND.UNA has to be there for the last segment to are retransmitted though nothing says that
+    /// RescueRxt, and one more: SND.UNA has to be there for the last segment to be retransmitted though nothing says that
     /// it is lost (RFC 6675, 4, NextSeg, and 5).
     pub rescue_rxt: u32,
     /// When a probe goes, if nothing new is acknowledged.

@@ -97,7 +97,7 @@ module _ (window : RenoValue) where
   asked_kept b now k =
       cond_both (is_over now b.timers.counts_from) _ b (IsKept window) (λ _. record { undo = k.undo; reno = k.reno; syn = k.syn }) (λ _. k)
 
-  -- whatever was to are retransmitted before
+  -- whatever was to be retransmitted before
   went_kept : (b : Tcb) (o : OpenOffer) (queued : ℕ) → IsKept window b → IsKept window (was_sent b o queued)
   went_kept b o queued k = record {
     undo = armed_kept c (record c.loss { undo = undo_sent c b.loss.undo o.instant }) o.instant (sent_kept c b.loss.undo o.instant k.undo);

@@ -285,7 +285,7 @@ module _ (most n : ℕ) where
       })
       b (λ (c : Tcb). Few most n (mending_of c)) (λ _. h) (λ _. h)
 
-  -- a loss probe is due: in a recovery the segment at SND.UNA is to are retransmitted
+  -- a loss probe is due: in a recovery the segment at SND.UNA is to be retransmitted
   pub probed_few : (b : Tcb) → (b.reno.recovers ≡ true → 1 ≤ b.sender.recover) → Few most n (mending_of b) → Few most n (mending_of (loss_probed b))
   probed_few b lasts h = at (probes_tail b) refl where
     none : probes_tail b ≡ true → b.sender.recover ≡ 0

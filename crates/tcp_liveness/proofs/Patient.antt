@@ -112,7 +112,7 @@ said_as mtu v pair named = ap (λ (names : Option FourTuple). says_in names mtu 
 abbrev said_in : PairValue → Side → ℕ
 said_in p side = said (mtu_of p side) (socket_of p side)
 
--- nothing is to are retransmitted; and the timer runs, or the window is closed
+-- nothing is to be retransmitted; and the timer runs, or the window is closed
 record IsSteady (v : TcpValue) : Type 0 where
   resend : v.tcb.sender.resend ≡ false
   probes : v.tcb.loss.probes ≡ false
@@ -379,7 +379,7 @@ module _ (n : ℕ) (p : PairValue) (side : Side) (r : IsReached p) (s : BothStay
       began : distance_of o.segment.seq_number u.tcb.receiver.next ≡ had_in p side
       began = ap (λ (a : SeqNumber). distance_of a u.tcb.receiver.next) goes.number ∙ had_still
 
-      -- where nothing is to are retransmitted, as much goes as once the timer has run out
+      -- where nothing is to be retransmitted, as much goes as once the timer has run out
       module _ (before : IsSteady (socket_of p side)) where
         steady_v : IsSteady v
         steady_v = subst IsSteady (sym (same_own p side)) before

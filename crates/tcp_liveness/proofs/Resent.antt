@@ -1,4 +1,4 @@
--- What is to are retransmitted was sent.
+-- What is to be retransmitted was sent.
 use Rattle.std.proofs.Common.{◌≡◌, ℕ, zero, suc, ◌+◌, ◌-◌, ◌*◌, ◌<◌, ◌≤◌, ◌==◌, ◌&&◌, ◌||◌, nat_le, nat_lt, not, min, max, ℤ, Bool, true, false}
 use Rattle.std.proofs.Common.{if◌then◌else◌, List, [], ◌∷◌}
 use Rattle.std.proofs.Common.{length, take, Option, Some, None, is_some, refl, sym, ap, ◌∙◌, subst, arith}
@@ -60,7 +60,7 @@ use Rattle.tcp_liveness.specs.Reached.{IsReached, both_started}
 use Rattle.tcp_liveness.proofs.Events.{of_side, by_steps}
 use Rattle.tcp_liveness.proofs.Leads.{IsLed, event_led, led_side, new_led, unoffered_led}
 
--- what is to are retransmitted, how much is to be acknowledged until recovery may begin again, and what was sent
+-- what is to be retransmitted, how much is to be acknowledged until recovery may begin again, and what was sent
 pub record Again : Type 0 where
   pub resend : Bool
   pub probes : Bool
@@ -79,7 +79,7 @@ pub record WasSent (a : Again) : Type 0 where
 abbrev Sent : Tcb → Type 0
 Sent b = WasSent (again_of b)
 
--- nothing is to are retransmitted
+-- nothing is to be retransmitted
 none_sent : (snd_max : ℕ) (syn : Bool) → WasSent (record { resend = false; probes = false; recover = 0; snd_max = snd_max; syn = syn })
 none_sent snd_max syn = record { resend = λ e. clash (sym e); probes = λ e. clash (sym e); recover = omega arith }
 
@@ -558,7 +558,7 @@ reached_again p side r =
       second = record { led = new_led r.b.room r.b.ring; sent = none_sent 0 false };
     }))).sent
 
--- what is to are retransmitted was sent
+-- what is to be retransmitted was sent
 pub again_sent : (p : PairValue) (side : Side) → IsReached p → (socket_of p side).tcb.sender.syn_unacked ≡ false
     → (addresses : AddressPair) (mtu : ℕ) (queued : Ring ℕ)
     → resends (socket_of p side).tcb addresses mtu queued ≡ true → 1 ≤ (socket_of p side).tcb.sender.snd_max

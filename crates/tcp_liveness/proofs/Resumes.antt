@@ -237,7 +237,7 @@ module _ (cx : ContextValue) (v : TcpValue) (pair : FourTuple) (b : Tcb) (s : St
     by : (limit queued offset : ℕ) → 1 ≤ limit → 1 ≤ queued → offset ≡ 0 → 1 ≤ min limit (queued - offset)
     by limit queued offset e f g = omega arith
 
-  -- what is to are retransmitted at once, from SND.UNA on
+  -- what is to be retransmitted at once, from SND.UNA on
   abbrev again : Choice
   again = resend_from b pair.addresses cx.ip_mtu v.queued 0
 

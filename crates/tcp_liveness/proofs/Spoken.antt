@@ -110,7 +110,7 @@ room_is b none slow =
 pub record IsRoused (addresses : AddressPair) (mtu : ℕ) (old new : Tcb) : Type 0 where
   pub timeouts : new.sender.timeouts ≤ old.sender.timeouts + 1
   pub unanswered : new.sender.unanswered ≡ old.sender.unanswered
-  -- what wasn't to are retransmitted isn't, whatever payload goes
+  -- what wasn't to be retransmitted isn't, whatever payload goes
   pub again : old.sender.resend ≡ false → old.loss.probes ≡ false → (payload : Bool) → resends_beside new payload ≡ false
   pub voice : voice_of addresses mtu new ≡ voice_of addresses mtu old
   pub slowed : is_some old.timers.retransmit_at ≡ true → IsSlowed new
@@ -253,7 +253,7 @@ went_probes b o queued = armed_probes d (record d.loss { undo = undo_sent d d.lo
 went_runs : (b : Tcb) (o : OpenOffer) (queued : ℕ) → is_some (was_sent b o queued).timers.retransmit_at ≡ true
 went_runs b o queued = started b.timers.retransmit_at (timeout_from o.instant (nxt_moved b (end_of b o) queued o.instant).round_trip)
 
--- nothing is to are retransmitted
+-- nothing is to be retransmitted
 not_again : (sends resend probes more : Bool) → sends ≡ true → (sends && (resend || (probes || more))) ≡ false → (resend ≡ false) × (probes ≡ false)
 not_again false resend probes more e f = clash (sym e)
 not_again true true probes more e f = clash f
@@ -313,7 +313,7 @@ module _ (cx : ContextValue) (v : TcpValue) (pair : FourTuple) (b : Tcb) (s : St
   abbrev told : Tcb → OpenOffer → Tcb
   told d o = recorded d o (room_of v.received)
 
-  -- what is to are retransmitted
+  -- what is to be retransmitted
   fast : resends b pair.addresses cx.ip_mtu v.queued ≡ true
       → Speaks (offer_choice Kind.FastRetransmission cx x pair (resend_choice b pair.addresses cx.ip_mtu v.queued))
   fast e k is _ =

@@ -270,7 +270,7 @@ impl Socket {
         }
     }
 
-    /// What is to are retransmitted.
+    /// What is to be retransmitted.
     fn resend_part(&self, addresses: &AddressPair, ip_mtu: usize) -> Part
         ensures part { IsPartOf self.now (choice_of result) }
         ensures value { choice_of result ≡ resend_choice self.now.tcb addresses.now ip_mtu self.now.queued }

@@ -25,7 +25,7 @@ use Rattle.iface_ingress.proofs.OneContent.{one-content}
 use Rattle.iface_tables.specs.Best.{at_index}
 use Rattle.iface_tables.specs.Inner.{InnerValue, at_instant, is_local, next_hop, link_by, link_of_hop, link_on, link_address}
 use Rattle.iface_tables.specs.Inner.{all_stations, group_hardware_addr, with_neighbor}
-use Rattle.iface_tables.specs.Neighbor.{CacheValue, lookup, missing, answer_by, assembler_index_of, is_of, unless_failed, has_failed, filled, filled_at, victim}
+use Rattle.iface_tables.specs.Neighbor.{CacheValue, lookup, missing, answer_by, neighbor_index_of, is_of, unless_failed, has_failed, filled, filled_at, victim}
 use Rattle.iface_tables.specs.Neighbor.{entry_lifetime}
 use Rattle.iface_tables.specs.declared.link.LinkAddress.TheVariants as Link
 use Rattle.iface_tables.specs.declared.neighbor.Answer.{Answer}
@@ -59,11 +59,11 @@ module _ (room : ℕ) (entries : List Neighbor) (new : Neighbor) where
     by true = find_last ours entries new none (itself new.protocol_addr)
     by false = find_last ours (remove entries (victim entries)) new (none_removed ours entries (victim entries) none) (itself new.protocol_addr)
 
-  entry : at_index (assembler_index_of (filled_at (assembler_index_of entries new.protocol_addr) room entries new) new.protocol_addr)
-      (filled_at (assembler_index_of entries new.protocol_addr) room entries new) ≡ Some new
+  entry : at_index (neighbor_index_of (filled_at (neighbor_index_of entries new.protocol_addr) room entries new) new.protocol_addr)
+      (filled_at (neighbor_index_of entries new.protocol_addr) room entries new) ≡ Some new
   entry =
-      at_first ours (filled_at (assembler_index_of entries new.protocol_addr) room entries new)
-      ∙ entered (assembler_index_of entries new.protocol_addr) refl
+      at_first ours (filled_at (neighbor_index_of entries new.protocol_addr) room entries new)
+      ∙ entered (neighbor_index_of entries new.protocol_addr) refl
 
 pub known_now : (c : CacheValue) (new : Neighbor) (instant : ℤ) → int_lt instant new.expires_at ≡ true
     → lookup (filled c new) new.protocol_addr instant ≡ Known.Found new.hardware_addr

@@ -100,19 +100,19 @@ module _ {D : Type 0} (moves : D → Move → D → Type 0) where
 
   -- THE ROUNDS
 
-  module _ (hop : IpAddress) (hop_limit : List IpAddress) (last : Option ℤ) where
+  module _ (hop : IpAddress) (hops : List IpAddress) (last : Option ℤ) where
     -- these steps ask for others, and are rounds
     record Passing (steps : List (OutStep moves)) : Type 0 where
       rounds : List Round
       many : length rounds ≡ length steps
       are : AreRounds rounds
-      over : AllByRecursion (PassesOver hop last hop_limit) rounds
+      over : AllByRecursion (PassesOver hop last hops) rounds
       later : (h : IpAddress) (m : ℤ) → IsLater h m steps → AllByRecursion (Since h m) rounds
 
     none_passes : Passing []
     none_passes = record { rounds = []; many = refl; are = tt; over = tt; later = λ h m is. tt }
 
-    module _ (x : OutStep moves) (more : List (OutStep moves)) (before : GoesBefore moves x more) (waited : IsWaitedFor moves hop hop_limit x)
+    module _ (x : OutStep moves) (more : List (OutStep moves)) (before : GoesBefore moves x more) (waited : IsWaitedFor moves hop hops x)
         (start : last_request (known_at x) hop ≡ last) (a : Awaited) (turn : next_awaited (host_in moves x) x.old.slots ≡ Some a) where
       abbrev now : InnerValue
       now = host_in moves x
@@ -121,13 +121,13 @@ module _ {D : Type 0} (moves : D → Move → D → Type 0) where
       round = record { host = now; slots = x.old.slots; asked = a; turn = turn }
 
       asks : AsksThen moves x a.hop
-      asks = step_asks_in_turn moves hop_limit x a waited.freely turn
+      asks = step_asks_in_turn moves hops x a waited.freely turn
 
       room : nat_lt (length (known_at x).searches) search_room ≡ true
       room = has_room (nat_lt (length (known_at x).searches) search_room) waited.freely.room
 
-      who : WaitsAt now (WaitsOn now hop_limit) x.old.slots a
-      who = next_offset now (WaitsOn now hop_limit) x.old.slots a waited.freely.waiting turn
+      who : WaitsAt now (WaitsOn now hops) x.old.slots a
+      who = next_offset now (WaitsOn now hops) x.old.slots a waited.freely.waiting turn
 
       abbrev awaited : IsAwaited now x.old.slots hop
       awaited = waited.awaited
@@ -137,7 +137,7 @@ module _ {D : Type 0} (moves : D → Move → D → Type 0) where
           asked_last now awaited.slot.inner awaited.awaited awaited.waits
           ∙ ap (last_request (known_at x)) awaited.whom ∙ start
 
-      passes : is_same_address a.hop hop ≡ false → PassesOver hop last hop_limit round
+      passes : is_same_address a.hop hop ≡ false → PassesOver hop last hops round
       passes apart = record {
         n = awaited.n;
         slot = awaited.slot;
@@ -178,7 +178,7 @@ module _ {D : Type 0} (moves : D → Move → D → Type 0) where
           by (inl asked) = inl (inr asked)
           by (inr others) = inr (passing apart others)
 
-    asked_or_passing : (steps : List (OutStep moves)) → AreInOrder moves steps → AllByRecursion (IsWaitedFor moves hop hop_limit) steps → LastIs hop last steps
+    asked_or_passing : (steps : List (OutStep moves)) → AreInOrder moves steps → AllByRecursion (IsWaitedFor moves hop hops) steps → LastIs hop last steps
         → IsAskedFor moves hop steps ⊎ Passing steps
     asked_or_passing [] order waited start = inr none_passes
     asked_or_passing (x ∷ more) order waited start =
@@ -188,18 +188,18 @@ module _ {D : Type 0} (moves : D → Move → D → Type 0) where
         decided x more order.0 waited.0 start turn.0 turn.1 (is_same_address turn.0.hop hop) refl
         (λ then_start. asked_or_passing more order.1 waited.1 then_start)
 
-    asked_by : (steps : List (OutStep moves)) → IsOneOf hop hop_limit → length hop_limit ≤ length steps → IsAskedFor moves hop steps ⊎ Passing steps
+    asked_by : (steps : List (OutStep moves)) → IsOneOf hop hops → length hops ≤ length steps → IsAskedFor moves hop steps ⊎ Passing steps
         → IsAskedFor moves hop steps
     asked_by steps ours enough (inl asked) = asked
     asked_by steps ours enough (inr others) =
-        let few : length others.rounds < length hop_limit = asked_within others.rounds hop_limit hop last others.are others.over ours in
+        let few : length others.rounds < length hops = asked_within others.rounds hops hop last others.are others.over ours in
         let many = others.many in
         absurd (omega (arith, few, many, enough))
 
-  pub has_its_turn : (hop_limit : List IpAddress) (hop : IpAddress) (steps : List (OutStep moves)) → AreInOrder moves steps
-      → AllByRecursion (IsWaitedFor moves hop hop_limit) steps → IsOneOf hop hop_limit → length hop_limit ≤ length steps → IsAskedFor moves hop steps
-  has_its_turn hop_limit hop [] order waited ours enough =
-      asked_by hop hop_limit never [] ours enough (asked_or_passing hop hop_limit never [] order waited tt)
-  has_its_turn hop_limit hop (x ∷ more) order waited ours enough =
-      asked_by hop hop_limit (last_request (known_at x) hop) (x ∷ more) ours enough
-      (asked_or_passing hop hop_limit (last_request (known_at x) hop) (x ∷ more) order waited refl)
+  pub has_its_turn : (hops : List IpAddress) (hop : IpAddress) (steps : List (OutStep moves)) → AreInOrder moves steps
+      → AllByRecursion (IsWaitedFor moves hop hops) steps → IsOneOf hop hops → length hops ≤ length steps → IsAskedFor moves hop steps
+  has_its_turn hops hop [] order waited ours enough =
+      asked_by hop hops never [] ours enough (asked_or_passing hop hops never [] order waited tt)
+  has_its_turn hops hop (x ∷ more) order waited ours enough =
+      asked_by hop hops (last_request (known_at x) hop) (x ∷ more) ours enough
+      (asked_or_passing hop hops (last_request (known_at x) hop) (x ∷ more) order waited refl)

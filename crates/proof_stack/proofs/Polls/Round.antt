@@ -105,27 +105,27 @@ module _ (hop : IpAddress) (last : Option ℤ) (all : List IpAddress) where
       asked_for_since later.host later.slots then.n then.slot later.asked then.awaited later.turn then.stands then.waits again.0 again.1 in
       never_late r.host.instant again.0 since.0 again.2 since.2 (over.due since.0 (sym then.since ∙ since.1))
 
-  module _ (r : Round) (over : Over r) (hop_limit : List IpAddress) (here : IsOneOf r.asked.hop hop_limit) where
-    others : (rs : List Round) → AllByRecursion (Counts r) rs → AllByRecursion Over rs → AllByRecursion (λ q. IsOneOf q.asked.hop hop_limit) rs
-        → AllByRecursion (λ q. IsOneOf q.asked.hop (without r.asked.hop hop_limit here)) rs
+  module _ (r : Round) (over : Over r) (hops : List IpAddress) (here : IsOneOf r.asked.hop hops) where
+    others : (rs : List Round) → AllByRecursion (Counts r) rs → AllByRecursion Over rs → AllByRecursion (λ q. IsOneOf q.asked.hop hops) rs
+        → AllByRecursion (λ q. IsOneOf q.asked.hop (without r.asked.hop hops here)) rs
     others [] counts overs ones = tt
     others (q ∷ rs) counts overs ones =
-        (still_one r.asked.hop q.asked.hop hop_limit here ones.0 (apart r q counts.0 over overs.0), others rs counts.1 overs.1 ones.1)
+        (still_one r.asked.hop q.asked.hop hops here ones.0 (apart r q counts.0 over overs.0), others rs counts.1 overs.1 ones.1)
 
-  fewer : (rounds : List Round) (hop_limit : List IpAddress) → AreRounds rounds → AllByRecursion Over rounds
-      → AllByRecursion (λ r. IsOneOf r.asked.hop hop_limit) rounds → IsOneOf hop hop_limit → length rounds < length hop_limit
-  fewer [] hop_limit are overs ones ours = let some = one_less hop hop_limit ours in omega (arith, some)
-  fewer (r ∷ rs) hop_limit are overs ones ours =
-      let less : length rs < length (without r.asked.hop hop_limit ones.0) =
-      fewer rs (without r.asked.hop hop_limit ones.0) are.1 overs.1 (others r overs.0 hop_limit ones.0 rs are.0 overs.1 ones.1)
-      (still_one r.asked.hop hop hop_limit ones.0 ours (λ is. overs.0.other (sym is))) in
-      let some = one_less r.asked.hop hop_limit ones.0 in
+  fewer : (rounds : List Round) (hops : List IpAddress) → AreRounds rounds → AllByRecursion Over rounds
+      → AllByRecursion (λ r. IsOneOf r.asked.hop hops) rounds → IsOneOf hop hops → length rounds < length hops
+  fewer [] hops are overs ones ours = let some = one_less hop hops ours in omega (arith, some)
+  fewer (r ∷ rs) hops are overs ones ours =
+      let less : length rs < length (without r.asked.hop hops ones.0) =
+      fewer rs (without r.asked.hop hops ones.0) are.1 overs.1 (others r overs.0 hops ones.0 rs are.0 overs.1 ones.1)
+      (still_one r.asked.hop hop hops ones.0 ours (λ is. overs.0.other (sym is))) in
+      let some = one_less r.asked.hop hops ones.0 in
       omega (arith, less, some)
 
   each_one : (rounds : List Round) → AllByRecursion Over rounds → AllByRecursion (λ r. IsOneOf r.asked.hop all) rounds
   each_one [] overs = tt
   each_one (r ∷ rs) overs = (overs.0.another, each_one rs overs.1)
 
-pub asked_within : (rounds : List Round) (hop_limit : List IpAddress) (hop : IpAddress) (last : Option ℤ) → AreRounds rounds
-    → AllByRecursion (PassesOver hop last hop_limit) rounds → IsOneOf hop hop_limit → length rounds < length hop_limit
-asked_within rounds hop_limit hop last are overs ours = fewer hop last hop_limit rounds hop_limit are overs (each_one hop last hop_limit rounds overs) ours
+pub asked_within : (rounds : List Round) (hops : List IpAddress) (hop : IpAddress) (last : Option ℤ) → AreRounds rounds
+    → AllByRecursion (PassesOver hop last hops) rounds → IsOneOf hop hops → length rounds < length hops
+asked_within rounds hops hop last are overs ours = fewer hop last hops rounds hops are overs (each_one hop last hops rounds overs) ours

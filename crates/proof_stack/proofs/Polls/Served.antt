@@ -68,8 +68,8 @@ never_over m is = grind (arith, ints)
 
 -- THE STEP THAT ASKS
 
-module _ {D : Type 0} (moves : D → Move → D → Type 0) (hop_limit : List IpAddress) (n : ℕ) (v : UdpValue) (d : UdpMetadata × List ℕ) (hop : IpAddress)
-    (p : PacketValue) (x : OutStep moves) (waits : WaitsForHop moves hop_limit n v d hop p x) where
+module _ {D : Type 0} (moves : D → Move → D → Type 0) (hops : List IpAddress) (n : ℕ) (v : UdpValue) (d : UdpMetadata × List ℕ) (hop : IpAddress)
+    (p : PacketValue) (x : OutStep moves) (waits : WaitsForHop moves hops n v d hop p x) where
   abbrev now : InnerValue
   now = host_in moves x
 
@@ -99,7 +99,7 @@ module _ {D : Type 0} (moves : D → Move → D → Type 0) (hop_limit : List Ip
   is_awaited_now : awaited_in now slot ≡ Some awaited
   is_awaited_now = ap (awaited_by now) mark.1 ∙ ap (awaited_of now mark.0) hop_awaited
 
-  pub waited_for : IsWaitedFor moves hop hop_limit x
+  pub waited_for : IsWaitedFor moves hop hops x
   waited_for = record {
     freely = waits.freely;
     awaited = record {
@@ -118,7 +118,7 @@ module _ {D : Type 0} (moves : D → Move → D → Type 0) (hop_limit : List Ip
     next = someone_next now x.old.slots n slot awaited waits.first.stands is_awaited_now
 
     theirs : AsksThen moves x next.0.hop
-    theirs = step_asks_in_turn moves hop_limit x next.0 waits.freely next.1
+    theirs = step_asks_in_turn moves hops x next.0 waits.freely next.1
 
     -- were it the turn of another, a question for this hop would have gone less than a second ago
     asked_lately : is_same_address next.0.hop hop ≡ false → last_request known hop ≡ Some (x.instant +ℤ pos silent_time)
@@ -139,7 +139,7 @@ module _ {D : Type 0} (moves : D → Move → D → Type 0) (hop_limit : List Ip
       turn = record {
         meta = waits.first.meta;
         stands = waits.first.stands;
-        ready = (at_slot (WaitsOn now hop_limit) x.old.slots n slot waits.freely.waiting waits.first.stands awaited is_awaited_now).1.0;
+        ready = (at_slot (WaitsOn now hops) x.old.slots n slot waits.freely.waiting waits.first.stands awaited is_awaited_now).1.0;
       };
       whose = ap (λ (o : Option IpAddress). is_other o hop) ours ∙ ap not (itself hop);
       alone = λ nobody. absurd (let clash : no_turn ≡ Some hop = sym nobody ∙ ours in cc);
@@ -148,13 +148,13 @@ module _ {D : Type 0} (moves : D → Move → D → Type 0) (hop_limit : List Ip
 
 -- THE EXCHANGE
 
-module _ {D E : Type 0} (from : D → Move → D → Type 0) (at : E → Move → E → Type 0) (hop_limit : List IpAddress) (n : ℕ) (v : UdpValue)
+module _ {D E : Type 0} (from : D → Move → D → Type 0) (at : E → Move → E → Type 0) (hops : List IpAddress) (n : ℕ) (v : UdpValue)
     (d : UdpMetadata × List ℕ) (own node : EthernetAddress) (a asked : Ipv4Address) (p : PacketValue) (some : d.0.endpoint.port ≢ 0) where
   abbrev hop : IpAddress
   hop = Address.Ipv4 asked
 
   abbrev Waits : OutStep from → Type 0
-  Waits x = WaitsForHop from hop_limit n v d hop p x
+  Waits x = WaitsForHop from hops n v d hop p x
 
   abbrev Arrives : OutStep from → Type 0
   Arrives x = ArrivesFrom from at own node a asked p v.settings d x
@@ -165,7 +165,7 @@ module _ {D E : Type 0} (from : D → Move → D → Type 0) (at : E → Move �
       let first : IsStillFirst e.s0.slots n v d (destination_of p.header) = waits.first in
       subst (λ (settings : UdpSettings). WaitsFollowing e.r3.slots m meta w (as_received (source_of p.header) settings d)) first.settings
       (exchanged_with from at e n m first.value w d first.more own node a asked p meta can.wide can.both
-      (asks_first from hop_limit n v d hop p (first_of e) waits asks) first.first some
+      (asks_first from hops n v d hop p (first_of e) waits asks) first.first some
       (subst (λ (settings : UdpSettings). HasToAsk (at_instant e.asked e.s0.host.inner) settings d hop p) (sym first.settings) waits.needs) can.via can.short
       (subst (λ (settings : UdpSettings). IsExpected (at_instant e.read e.r0.host.inner) e.r0.slots (Hardware.Ethernet node) p.header (ports_of settings d) m
       meta w) (sym first.settings) can.expected)
@@ -186,11 +186,11 @@ module _ {D E : Type 0} (from : D → Move → D → Type 0) (at : E → Move �
       let less : it.0 < length more = it.2 in
       (suc it.0, it.1, (let then_less : suc it.0 < suc (length more) = omega (arith, less) in then_less), it.3, it.4)
 
-  each_waited_for : (steps : List (OutStep from)) → AllByRecursion Waits steps → AllByRecursion (IsWaitedFor from hop hop_limit) steps
+  each_waited_for : (steps : List (OutStep from)) → AllByRecursion Waits steps → AllByRecursion (IsWaitedFor from hop hops) steps
   each_waited_for [] waits = tt
-  each_waited_for (x ∷ more) waits = (waited_for from hop_limit n v d hop p x waits.0, each_waited_for more waits.1)
+  each_waited_for (x ∷ more) waits = (waited_for from hops n v d hop p x waits.0, each_waited_for more waits.1)
 
-  pub arrives_once : (steps : List (OutStep from)) → AreInOrder from steps → AllByRecursion Waits steps → IsOneOf hop hop_limit → length hop_limit ≤ length steps
+  pub arrives_once : (steps : List (OutStep from)) → AreInOrder from steps → AllByRecursion Waits steps → IsOneOf hop hops → length hops ≤ length steps
       → Any Arrives steps
   arrives_once steps order waits ours enough =
-      once steps waits (has_its_turn from hop_limit hop steps order (each_waited_for steps waits) ours enough)
+      once steps waits (has_its_turn from hops hop steps order (each_waited_for steps waits) ours enough)

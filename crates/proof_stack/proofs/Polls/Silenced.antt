@@ -10,7 +10,7 @@ use Rattle.ip_wire.specs.IpAddress.{IpAddress}
 use Rattle.iface_tables.specs.Best.{at_index}
 use Rattle.iface_tables.specs.Inner.{InnerValue, is_local_broadcast, next_hop, link_by, link_of_hop, link_on, link_address, all_stations}
 use Rattle.iface_tables.specs.Inner.{group_hardware_addr}
-use Rattle.iface_tables.specs.Neighbor.{CacheValue, lookup, missing, answer_by, assembler_index_of, unless_failed, has_failed, has_failed_by, is_failed}
+use Rattle.iface_tables.specs.Neighbor.{CacheValue, lookup, missing, answer_by, neighbor_index_of, unless_failed, has_failed, has_failed_by, is_failed}
 use Rattle.iface_tables.specs.Neighbor.{is_found}
 use Rattle.iface_tables.specs.Neighbor.{answer_of, first_search, is_search_for, last_request, most_requests, oldest_search}
 use Rattle.iface_tables.specs.Neighbor.{one_more, requested, search_room, searched_at, silent_time}
@@ -118,7 +118,7 @@ module _ (c : CacheValue) (hop : IpAddress) (instant : ℤ) where
   -- it is still asked for, and not again yet
   pub silent_lookup : lookup c hop instant ≡ Known.NotFound → lookup asked hop instant ≡ Known.RateLimited
   silent_lookup is =
-      let entry : Option Neighbor = at_index (assembler_index_of c.entries hop) c.entries in
+      let entry : Option Neighbor = at_index (neighbor_index_of c.entries hop) c.entries in
       ap (λ (b : Bool). unless_failed b (answer_by entry asked instant)) not_failed
       ∙ ap (unless_failed false) (limited entry (not_known (has_failed c hop instant) (answer_by entry c instant) is))
 
@@ -145,7 +145,7 @@ module _ (c : CacheValue) (hop : IpAddress) (instant : ℤ) where
   -- who may be asked for is so where the silence is over
   pub loud : (c' : CacheValue) (other : IpAddress) → lookup c' other instant ≡ Known.NotFound → int_lt instant c'.silent ≡ false
   loud c' other is =
-      let entry : Option Neighbor = at_index (assembler_index_of c'.entries other) c'.entries in
+      let entry : Option Neighbor = at_index (neighbor_index_of c'.entries other) c'.entries in
       loud_answer c' entry (loud_unless (has_failed c' other instant) (answer_by entry c' instant) is)
 
   -- nobody else is asked for, either

@@ -41,7 +41,7 @@ use Rattle.proof_stack.specs.Progress.Exchanged.{AreNeighbors, IsServed}
 use Rattle.proof_stack.specs.Progress.Inbox.{WaitsAmongThem}
 use Rattle.proof_stack.specs.Progress.Leave.{BringsWhatWent, LiesAmong}
 use Rattle.proof_stack.specs.Progress.OnEthernet.{FourSteps, TwoSteps, answer, answered, asked, asked_again, datagram_to, exchange_of, expecting, for_b, for_nobody}
-use Rattle.proof_stack.specs.Progress.OnEthernet.{frame, hop_limit, knowing_b, nobodys, packet, passed_over, question, reached, relieved, second, node, taken}
+use Rattle.proof_stack.specs.Progress.OnEthernet.{frame, hops, knowing_b, nobodys, packet, passed_over, question, reached, relieved, second, node, taken}
 use Rattle.proof_stack.specs.Progress.OnEthernet.{tenth, told, waits_for}
 use Rattle.proof_stack.specs.Progress.Queued.{CanGo, FindsDatagram, HasTurn, ports_of}
 use Rattle.proof_stack.specs.Progress.Ready.{HasRoomFollowing, IsExpectedThroughout}
@@ -274,7 +274,7 @@ module _ (t : TwoSteps) (f : FourSteps) where
 
 pub arrives_there : WaitsFollowing reached.slots 0 nobody bound_b (as_received (source_of packet.header) for_b.settings (datagram_to (address B)))
 arrives_there =
-    delivered PortMove PortMove hop_limit 0 for_b (datagram_to (address B)) (node A) (node B) (address A) (address B) packet some_port
+    delivered PortMove PortMove hops 0 for_b (datagram_to (address B)) (node A) (node B) (address A) (address B) packet some_port
     (exchange_of two_steps four_steps) 0 nobody bound_b (then_waits two_steps) (asks_b two_steps) (can_deliver two_steps four_steps)
 
 -- BOTH AS POLLS, of hosts that know each other

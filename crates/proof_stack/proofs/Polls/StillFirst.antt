@@ -18,7 +18,7 @@ use Rattle.iface_ingress.specs.Socket.{Socket}
 use Rattle.iface_ingress.specs.Socket.TheVariants as Kind
 use Rattle.iface_tables.specs.Best.{at_index}
 use Rattle.iface_tables.specs.Inner.{InnerValue, at_instant, all_stations, context_of, group_hardware_addr, has_neighbor, is_crowded, is_known_hop, is_known_on, is_local_broadcast, link_address, link_by, link_of_hop, link_on, next_hop}
-use Rattle.iface_tables.specs.Neighbor.{CacheValue, answer_by, has_failed, is_found, lookup, assembler_index_of, requested, search_room, unless_failed}
+use Rattle.iface_tables.specs.Neighbor.{CacheValue, answer_by, has_failed, is_found, lookup, neighbor_index_of, requested, search_room, unless_failed}
 use Rattle.iface_tables.specs.declared.link.LinkAddress.{LinkAddress}
 use Rattle.iface_tables.specs.declared.link.LinkAddress.TheVariants as Link
 use Rattle.iface_tables.specs.declared.neighbor.Answer.{Answer}
@@ -96,12 +96,12 @@ module _ (c : CacheValue) (hop other : IpAddress) (instant : ℤ) (unknown : loo
       subst (λ (a : IpAddress). has_failed then_known a instant ≡ false) (same_address other hop same) (not_failed c other instant)
   fails_not false apart =
       others_fail_so c other hop instant apart room instant
-      ∙ not_failed_yet (has_failed c hop instant) (answer_by (at_index (assembler_index_of c.entries hop) c.entries) c instant) unknown
+      ∙ not_failed_yet (has_failed c hop instant) (answer_by (at_index (neighbor_index_of c.entries hop) c.entries) c instant) unknown
 
   -- it isn't known, and nobody is asked for
   still_limited : lookup then_known hop instant ≡ Known.RateLimited
   still_limited =
-      let entry : Option Neighbor = at_index (assembler_index_of c.entries hop) c.entries in
+      let entry : Option Neighbor = at_index (neighbor_index_of c.entries hop) c.entries in
       ap (λ (b : Bool). unless_failed b (answer_by entry then_known instant)) (fails_not (is_same_address other hop) refl)
       ∙ ap (unless_failed false) (limited c other instant entry (not_known c other instant (has_failed c hop instant) (answer_by entry c instant) unknown))
 

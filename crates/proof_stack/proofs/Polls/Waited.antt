@@ -456,7 +456,7 @@ module _ {D : Type 0} (moves : D → Move → D → Type 0) (hop : IpAddress) wh
         kept_then s goes.0 fragment.all e fragment.are
         (pass_asks goes.0 [] false ps n e stands (same_where i goes.0.inner same) (ap (λ (j : InnerValue). j.neighbors) same) pass)
 
-module _ {D : Type 0} (moves : D → Move → D → Type 0) (hop_limit : List IpAddress) (x : OutStep moves) (a : Awaited) (freely : GoesFreely moves hop_limit x) where
+module _ {D : Type 0} (moves : D → Move → D → Type 0) (hops : List IpAddress) (x : OutStep moves) (a : Awaited) (freely : GoesFreely moves hops x) where
   abbrev now : InnerValue
   now = host_in moves x
 
@@ -466,7 +466,7 @@ module _ {D : Type 0} (moves : D → Move → D → Type 0) (hop_limit : List Ip
 
   pub step_asks_in_turn : next_awaited (host_in moves x) x.old.slots ≡ Some a → AsksThen moves x a.hop
   step_asks_in_turn is =
-      let at : WaitsAt now (WaitsOn now hop_limit) x.old.slots a = next_offset now (WaitsOn now hop_limit) x.old.slots a freely.waiting is in
+      let at : WaitsAt now (WaitsOn now hops) x.old.slots a = next_offset now (WaitsOn now hops) x.old.slots a freely.waiting is in
       let e : Passed D = x.goes.0 in
       let asks : PassAsks moves a.hop now at.slot (at.such a at.waits).1 freely.room x.old.device e =
       egress moves a.hop now at.slot (at.such a at.waits).1 freely.room (sending x.instant x.old) x.old.slots at.n e refl (ap hop_of is) at.stands

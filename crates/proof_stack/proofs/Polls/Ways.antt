@@ -16,7 +16,7 @@ use Rattle.iface_tables.specs.Best.{at_index}
 use Rattle.iface_tables.specs.Inner.{InnerValue, is_local_broadcast, next_hop, link_by, link_of_hop, link_on, link_address, all_stations, group_hardware_addr}
 use Rattle.iface_tables.specs.Inner.{context_of, mtu_to}
 use Rattle.iface_tables.specs.Inner.{is_known_on, is_known_hop}
-use Rattle.iface_tables.specs.Neighbor.{CacheValue, lookup, missing, answer_by, assembler_index_of, unless_failed, has_failed, is_found}
+use Rattle.iface_tables.specs.Neighbor.{CacheValue, lookup, missing, answer_by, neighbor_index_of, unless_failed, has_failed, is_found}
 use Rattle.iface_tables.specs.declared.link.LinkAddress.{LinkAddress}
 use Rattle.iface_tables.specs.declared.link.LinkAddress.TheVariants as Link
 use Rattle.iface_tables.specs.declared.neighbor.Answer.{Answer}
@@ -124,7 +124,7 @@ module _ (i : InnerValue) (ident : ℕ) (silent : ℤ) (searches : List Search) 
   hop_still : (o : Option IpAddress) (to : HardwareAddress) → link_of_hop i o ≡ Link.Known to → link_of_hop later o ≡ Link.Known to
   hop_still None to is = is
   hop_still (Some hop) to is =
-      let entry : Option Neighbor = at_index (assembler_index_of i.neighbors.entries hop) i.neighbors.entries in
+      let entry : Option Neighbor = at_index (neighbor_index_of i.neighbors.entries hop) i.neighbors.entries in
       let found : IsAt to (answer_by entry i.neighbors i.instant) =
       at_failed (has_failed i.neighbors hop i.instant) (answer_by entry i.neighbors i.instant) to (at_link (lookup i.neighbors hop i.instant) hop to is) in
       link_at (lookup later.neighbors hop i.instant) hop to
@@ -147,7 +147,7 @@ module _ (i : InnerValue) (ident : ℕ) (silent : ℤ) (searches : List Search) 
   known_still : (hardware : HardwareAddress) (hop : IpAddress) → is_known_on hardware later hop ≡ is_known_on hardware i hop
   known_still Hardware.Ip hop = refl
   known_still (Hardware.Ethernet own) hop =
-      let entry : Option Neighbor = at_index (assembler_index_of i.neighbors.entries hop) i.neighbors.entries in
+      let entry : Option Neighbor = at_index (neighbor_index_of i.neighbors.entries hop) i.neighbors.entries in
       found_unless (has_failed later.neighbors hop i.instant) (answer_by entry later.neighbors i.instant)
       ∙ found_entry entry i.neighbors later.neighbors i.instant
       ∙ sym (found_unless (has_failed i.neighbors hop i.instant) (answer_by entry i.neighbors i.instant))

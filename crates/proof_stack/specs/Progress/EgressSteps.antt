@@ -48,7 +48,7 @@ StillNeeds i hop (Some item) =
 
 -- where the socket at a slot waits for a neighbour, that is one of these, and the socket still needs it
 abbrev pub WaitsOn : InnerValue → List IpAddress → SocketStorage Socket → Type 0
-WaitsOn i hop_limit slot = (a : Awaited) → awaited_in i slot ≡ Some a → IsOneOf a.hop hop_limit × StillNeeds i a.hop slot.inner
+WaitsOn i hops slot = (a : Awaited) → awaited_in i slot ≡ Some a → IsOneOf a.hop hops × StillNeeds i a.hop slot.inner
 
 -- a socket waits for this neighbour; and if it was asked for, its second to answer in is over
 pub record IsAwaited (i : InnerValue) (slots : List (SocketStorage Socket)) (hop : IpAddress) : Type 0 where
@@ -74,14 +74,14 @@ module _ {D : Type 0} (moves : D → Move → D → Type 0) where
   host_in x = at_instant x.instant x.old.host.inner
 
   -- In a step the device refuses nothing, the host keeps count of fewer neighbours than it can, and the sockets wait on.
-  pub record GoesFreely (hop_limit : List IpAddress) (x : OutStep) : Type 0 where
+  pub record GoesFreely (hops : List IpAddress) (x : OutStep) : Type 0 where
     pub free : RefusesNothing moves x.old.device x.new.device
     pub room : is_crowded (host_in x) ≡ false
-    pub waiting : AllByRecursion (WaitsOn (host_in x) hop_limit) x.old.slots
+    pub waiting : AllByRecursion (WaitsOn (host_in x) hops) x.old.slots
 
   -- and one of them waits for this neighbour
-  pub record IsWaitedFor (hop : IpAddress) (hop_limit : List IpAddress) (x : OutStep) : Type 0 where
-    pub freely : GoesFreely hop_limit x
+  pub record IsWaitedFor (hop : IpAddress) (hops : List IpAddress) (x : OutStep) : Type 0 where
+    pub freely : GoesFreely hops x
     pub awaited : IsAwaited (host_in x) x.old.slots hop
 
   -- WHAT A STEP ASKS FOR

@@ -120,8 +120,8 @@ passed_over = following_question 1 nobodys 2 in_vain
 abbrev pub asked_again : State PortValue
 asked_again = following_question 2 (address B) 3 passed_over
 
-abbrev pub hop_limit : List IpAddress
-hop_limit = Address.Ipv4 (address B) ∷ Address.Ipv4 nobodys ∷ []
+abbrev pub hops : List IpAddress
+hops = Address.Ipv4 (address B) ∷ Address.Ipv4 nobodys ∷ []
 
 -- the steps in which both wait, whoever shows that they are steps
 pub record TwoSteps : Type 0 where

@@ -33,7 +33,7 @@ IsOneOf a (b ∷ more) = (a ≡ b) ⊎ IsOneOf a more
 
 -- A socket waits for this neighbour, whose last request, if it was asked for, was to be answered by then; and in its slot another one of these is
 -- asked for.
-pub record PassesOver (hop : IpAddress) (last : Option ℤ) (hop_limit : List IpAddress) (r : Round) : Type 0 where
+pub record PassesOver (hop : IpAddress) (last : Option ℤ) (hops : List IpAddress) (r : Round) : Type 0 where
   pub n : ℕ
   pub slot : SocketStorage Socket
   pub awaited : Awaited
@@ -43,4 +43,4 @@ pub record PassesOver (hop : IpAddress) (last : Option ℤ) (hop_limit : List Ip
   pub since : awaited.last_request ≡ last
   pub due : (when : ℤ) → last ≡ Some when → when ≤ℤ r.host.instant
   pub other : r.asked.hop ≢ hop
-  pub another : IsOneOf r.asked.hop hop_limit
+  pub another : IsOneOf r.asked.hop hops

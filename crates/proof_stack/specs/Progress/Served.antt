@@ -27,9 +27,9 @@ use Rattle.proof_stack.specs.Progress.EgressSteps.{AsksThen, GoesFreely, OutStep
 
 -- A step goes freely, and before it the UDP socket at a slot has the datagram first in its queue, and waits for its destination. The next hop there,
 -- this one, has to be asked for; if it was asked for, its second to answer in is over; and the packet isn't given up after the question.
-pub record WaitsForHop {D : Type 0} (moves : D → Move → D → Type 0) (hop_limit : List IpAddress) (n : ℕ) (v : UdpValue) (d : UdpMetadata × List ℕ)
+pub record WaitsForHop {D : Type 0} (moves : D → Move → D → Type 0) (hops : List IpAddress) (n : ℕ) (v : UdpValue) (d : UdpMetadata × List ℕ)
     (hop : IpAddress) (p : PacketValue) (x : OutStep moves) : Type 0 where
-  pub freely : GoesFreely moves hop_limit x
+  pub freely : GoesFreely moves hops x
   pub first : IsStillFirst x.old.slots n v d (destination_of p.header)
   pub waits : is_some first.meta.waiting ≡ true
   pub needs : HasToAsk (host_in moves x) v.settings d hop p

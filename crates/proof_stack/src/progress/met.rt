@@ -20,7 +20,7 @@ ghost use Rattle.proof_stack.specs.Progress.InARow.{both_gone, both_reached, exp
 ghost use Rattle.proof_stack.specs.Progress.Leave.{BringsWhatWent};
 ghost use Rattle.proof_stack.specs.Progress.Numerals.{datagram, expecting, now, packet, queuing, reached, relieved, sender};
 ghost use Rattle.proof_stack.specs.Progress.OnEthernet as Ethernet;
-ghost use Rattle.proof_stack.specs.Progress.OnEthernet.{FourSteps, TwoSteps, datagram_to, exchange_of, for_b, hop_limit, in_vain, knowing_nobody, second, node};
+ghost use Rattle.proof_stack.specs.Progress.OnEthernet.{FourSteps, TwoSteps, datagram_to, exchange_of, for_b, hops, in_vain, knowing_nobody, second, node};
 ghost use Rattle.proof_stack.specs.Progress.OnEthernet.{knowing_b, steps_of, tenth};
 ghost use Rattle.proof_stack.specs.Progress.Queued.{CanGo, HasTurn, HasWay, ports_of};
 ghost use Rattle.proof_stack.specs.Progress.Ready.{HasRoomFollowing, IsExpectedThroughout};
@@ -77,15 +77,15 @@ pub fn a_host_meets_what_waiting_datagrams_ask_for()
     ensures begins { EgressStep PortMove (second 0) knowing_nobody None in_vain }
     ensures steps { TwoSteps }
     ensures order { (t : TwoSteps) → AreInOrder PortMove (steps_of t) }
-    ensures waited { (t : TwoSteps) → AllByRecursion (IsWaitedFor PortMove (Address.Ipv4 (address B)) hop_limit) (steps_of t) }
+    ensures waited { (t : TwoSteps) → AllByRecursion (IsWaitedFor PortMove (Address.Ipv4 (address B)) hops) (steps_of t) }
     ensures waits { (t : TwoSteps)
-        → AllByRecursion (WaitsForHop PortMove hop_limit 0 for_b (datagram_to (address B)) (Address.Ipv4 (address B)) Ethernet.packet) (steps_of t) }
+        → AllByRecursion (WaitsForHop PortMove hops 0 for_b (datagram_to (address B)) (Address.Ipv4 (address B)) Ethernet.packet) (steps_of t) }
     ensures patient { has_waited (record { waiting = Some (record { neighbor = Address.Ipv4 (address B); since = pos 0; silent_until = second 1 }) })
         (Address.Ipv4 (address B)) crowded_time (second 1) ≡ false }
-    ensures ours { IsOneOf (Address.Ipv4 (address B)) hop_limit }
+    ensures ours { IsOneOf (Address.Ipv4 (address B)) hops }
     ensures asks { (t : TwoSteps) → IsAskedFor PortMove (Address.Ipv4 (address B)) (steps_of t) }
     ensures rounds { (rounds : List Round) × (length rounds ≡ 1) × AreRounds rounds
-        × AllByRecursion (PassesOver (Address.Ipv4 (address B)) (Some (second 1)) hop_limit) rounds }
+        × AllByRecursion (PassesOver (Address.Ipv4 (address B)) (Some (second 1)) hops) rounds }
 {}
 
 /// Law: and what `a_waiting_datagram_arrives` asks of an exchange is met by one that begins with the second of these steps: B answers, and reads abc.

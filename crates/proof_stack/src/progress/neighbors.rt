@@ -91,11 +91,11 @@ pub fn turns_come_round()
         → a.since ≤ℤ b.since }
     ensures counts { (c : CacheValue) (hop : IpAddress) (instant : ℤ)
         → last_request (requested c hop instant) hop ≡ Some (instant +ℤ pos silent_time) }
-    ensures within { (rounds : List Round) (hop_limit : List IpAddress) (hop : IpAddress) (last : Option ℤ)
+    ensures within { (rounds : List Round) (hops : List IpAddress) (hop : IpAddress) (last : Option ℤ)
         → AreRounds rounds
-        → AllByRecursion (PassesOver hop last hop_limit) rounds
-        → IsOneOf hop hop_limit
-        → length rounds < length hop_limit }
+        → AllByRecursion (PassesOver hop last hops) rounds
+        → IsOneOf hop hops
+        → length rounds < length hops }
 {}
 
 /// Law: a host on Ethernet that reads an ARP request for an own address, from a host of one of its networks, answers to that host with its

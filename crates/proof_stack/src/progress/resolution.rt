@@ -35,8 +35,8 @@ pub fn a_queued_datagram_needs_its_hop()
 /// neighbours that question alone changes something. So it is where each of them still needs its neighbour, which may be asked for now, the host keeps
 /// count of fewer neighbours than it can, and the device refuses nothing.
 pub fn waiting_sockets_ask_in_turn<D: Device>()
-    ensures { (hop_limit : List IpAddress) (x : OutStep D.moves) (a : Awaited)
-        → GoesFreely D.moves hop_limit x
+    ensures { (hops : List IpAddress) (x : OutStep D.moves) (a : Awaited)
+        → GoesFreely D.moves hops x
         → next_awaited (host_in D.moves x) x.old.slots ≡ Some a
         → AsksThen D.moves x a.hop }
 {}
@@ -53,10 +53,10 @@ pub fn nobody_is_asked_for_in_silence<D: Device>()
 /// Law: a neighbour has its turn within as many steps as there are neighbours that sockets wait for. Of so many steps of the egress path, each of which
 /// goes freely and finds a socket that waits for it, one asks for it, whoever else is waited for and in whatever order they came.
 pub fn a_neighbor_has_its_turn<D: Device>()
-    ensures { (hop_limit : List IpAddress) (hop : IpAddress) (steps : List (OutStep D.moves))
+    ensures { (hops : List IpAddress) (hop : IpAddress) (steps : List (OutStep D.moves))
         → AreInOrder D.moves steps
-        → AllByRecursion (IsWaitedFor D.moves hop hop_limit) steps
-        → IsOneOf hop hop_limit
-        → length hop_limit ≤ length steps
+        → AllByRecursion (IsWaitedFor D.moves hop hops) steps
+        → IsOneOf hop hops
+        → length hops ≤ length steps
         → IsAskedFor D.moves hop steps }
 {}

@@ -57,12 +57,12 @@ pub fn a_packet_may_leave_throughout<E: Device>()
 /// neighbours that sockets wait for, in each of which the first datagram of a UDP socket waits for this next hop, one asks for it. And if from that
 /// step on the link brings question, answer and packet, the datagram waits at the UDP socket of the other host that it is for.
 pub fn a_waiting_datagram_arrives<D: Device, E: Device>()
-    ensures { (hop_limit : List IpAddress) (n : ℕ) (v : UdpValue) (d : UdpMetadata × List ℕ) (own node : EthernetAddress) (a asked : Ipv4Address)
+    ensures { (hops : List IpAddress) (n : ℕ) (v : UdpValue) (d : UdpMetadata × List ℕ) (own node : EthernetAddress) (a asked : Ipv4Address)
         (p : PacketValue) (steps : List (OutStep D.moves))
         → AreInOrder D.moves steps
-        → AllByRecursion (WaitsForHop D.moves hop_limit n v d (Address.Ipv4 asked) p) steps
-        → IsOneOf (Address.Ipv4 asked) hop_limit
-        → length hop_limit ≤ length steps
+        → AllByRecursion (WaitsForHop D.moves hops n v d (Address.Ipv4 asked) p) steps
+        → IsOneOf (Address.Ipv4 asked) hops
+        → length hops ≤ length steps
         → d.0.endpoint.port ≢ 0
         → Any (ArrivesFrom D.moves E.moves own node a asked p v.settings d) steps }
 {}

@@ -28,7 +28,7 @@ ghost use Rattle.proof_stack.specs.Worlds.Hosts.{text};
 
 use super::at_once::nobody_waits_without_hardware_addresses;
 use super::events::peer_sides_proceed_by_their_events;
-use super::known_hop_limit::nobody_waits_where_hosts_know_each_other;
+use super::known_hops::nobody_waits_where_hosts_know_each_other;
 use lan::host_laws::one_outcome;
 
 /// Law: a poll takes the first of the frames that wait for its host, and no more of them than its budget. None that it sends is empty, or too long to be

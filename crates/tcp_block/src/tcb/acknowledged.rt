@@ -412,7 +412,7 @@ impl Tcb {
         }
     }
 
-    /// There were so many duplicates in a row. At the third the segment at SND.UNA is to are retransmitted, and fast
+    /// There were so many duplicates in a row. At the third the segment at SND.UNA is to be retransmitted, and fast
     /// recovery begins where more than `recover` is acknowledged; or it is waited for.
     pub fn count(&mut self, count: u8, now: Instant)
         requires { IsMoment now }

@@ -121,7 +121,7 @@ impl Tcb {
         self.loss.reorder_until = None;
     }
 
-    /// Where a probe is due: the last segment is to are retransmitted, or the one at SND.UNA.
+    /// Where a probe is due: the last segment is to be retransmitted, or the one at SND.UNA.
     pub fn probe_loss(&mut self, now: Instant)
         ensures { self.new ≡ loss_probed_by now self.old }
     {

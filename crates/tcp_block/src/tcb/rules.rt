@@ -72,7 +72,7 @@ impl Tcb {
             && self.sender.flight_size == 0
     }
 
-    /// Whether something is to are retransmitted before any payload: the segment at SND.UNA, the last one as a probe, or
+    /// Whether something is to be retransmitted before any payload: the segment at SND.UNA, the last one as a probe, or
     /// what is lost at the next hole.
     pub fn resends_first(&self) -> bool
         ensures { result ≡ resends_beside self.now true }
@@ -80,14 +80,14 @@ impl Tcb {
         self.state.may_send_data() && (self.sender.resend || self.loss.probes || self.fills_hole())
     }
 
-    /// Whether something is to are retransmitted where no payload goes.
+    /// Whether something is to be retransmitted where no payload goes.
     pub fn resends_last(&self) -> bool
         ensures { result ≡ may_send_data self.now.state && is_sent_early self.now }
     {
         self.state.may_send_data() && self.is_sent_early()
     }
 
-    /// Whether something is to are retransmitted, where `payload` says whether payload may go.
+    /// Whether something is to be retransmitted, where `payload` says whether payload may go.
     pub(crate) fn resends(&self, payload: bool) -> bool
         ensures { result ≡ resends_beside self.now payload }
     {

@@ -65,7 +65,7 @@ impl Tcb {
         self.freed_by(by, queued) != 0 && self.answers_undo(header)
     }
 
-    /// The window is as it was, recovery is over, nothing is to are retransmitted, and all that was sent of the send
+    /// The window is as it was, recovery is over, nothing is to be retransmitted, and all that was sent of the send
     /// queue is in flight. What is missing is waited for longer.
     fn undo(&mut self, queued: usize)
         requires { queued ≤ 2 ^ 30 }

@@ -23,7 +23,7 @@ use Rattle.iface_ingress.specs.EthernetRepr.{EthernetRepr}
 use Rattle.sockets.specs.Packet.{PayloadValue, ControlV4, ControlV6, Bytes, Datagram, Segment}
 use Rattle.iface_tables.specs.Best.{at_index}
 use Rattle.iface_tables.specs.Inner.{InnerValue, context_of, with_neighbor, is_for_us}
-use Rattle.iface_tables.specs.Neighbor.{entry_lifetime, renewed_entry, renewed_at, filled_at, assembler_index_of, victim}
+use Rattle.iface_tables.specs.Neighbor.{entry_lifetime, renewed_entry, renewed_at, filled_at, neighbor_index_of, victim}
 use Rattle.iface_tables.specs.declared.neighbor.Neighbor.{Neighbor}
 use Rattle.iface_egress.specs.Fragments.{LeftValue}
 use Rattle.iface_ingress.specs.Arp as Arps
@@ -92,13 +92,13 @@ renewed_all (Some at) (Some entry) entries hardware instant is all =
 
 near_neighbor : (i : InnerValue) (address : IpAddress) (hardware_addr : EthernetAddress) → AreNear i → AreNear (with_neighbor i address (Hardware.Ethernet hardware_addr))
 near_neighbor i address hardware_addr near =
-    filled_near (assembler_index_of i.neighbors.entries address) i.neighbors.room i.neighbors.entries
+    filled_near (neighbor_index_of i.neighbors.entries address) i.neighbors.room i.neighbors.entries
     (record { protocol_addr = address; hardware_addr = Hardware.Ethernet hardware_addr; expires_at = i.instant +ℤ pos entry_lifetime }) near tt
 
 near_renewed_by : (i : InnerValue) (link : Option EthernetRepr) (sender : IpAddress) → AreNear i → AreNear (renewed_by i link sender)
 near_renewed_by i None sender near = near
 near_renewed_by i (Some link) sender near =
-    renewed_all (assembler_index_of i.neighbors.entries sender) (at_index (assembler_index_of i.neighbors.entries sender) i.neighbors.entries) i.neighbors.entries
+    renewed_all (neighbor_index_of i.neighbors.entries sender) (at_index (neighbor_index_of i.neighbors.entries sender) i.neighbors.entries) i.neighbors.entries
     (Hardware.Ethernet link.src_addr) i.instant refl near
 
 near_renewed : (i : InnerValue) (link : Option EthernetRepr) (ip : IpRepr) → AreNear i → AreNear (renewed i link ip)

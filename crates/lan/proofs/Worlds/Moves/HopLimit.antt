@@ -36,7 +36,7 @@ use Rattle.iface_egress.specs.Departing.{HasSettingsOf}
 use Rattle.iface_tables.specs.Best.{at_index}
 use Rattle.iface_tables.specs.Inner.{InnerValue, at_instant, context_of, is_broadcast_of, is_local_broadcast, next_hop, link_by, link_of_hop, link_on, link_address}
 use Rattle.iface_tables.specs.Inner.{all_stations, group_hardware_addr, with_error, with_neighbor, with_path, with_renewal}
-use Rattle.iface_tables.specs.Neighbor.{CacheValue, lookup, missing, answer_by, assembler_index_of, is_of, unless_failed, has_failed, filled_at, victim}
+use Rattle.iface_tables.specs.Neighbor.{CacheValue, lookup, missing, answer_by, neighbor_index_of, is_of, unless_failed, has_failed, filled_at, victim}
 use Rattle.iface_tables.specs.Neighbor.{entry_lifetime, renewed_at, renewed_entry}
 use Rattle.iface_tables.specs.declared.link.LinkAddress.{LinkAddress}
 use Rattle.iface_tables.specs.declared.link.LinkAddress.TheVariants as Link
@@ -117,7 +117,7 @@ module _ (t : ℤ) (hop : IpAddress) (to : HardwareAddress) where
   believed_of c is =
       answered c (find (is_of hop) c.entries) refl
       (ap (λ (o : Option Neighbor). answer_by o c t) (sym (at_first (is_of hop) c.entries))
-      ∙ unless_found (has_failed c hop t) (answer_by (at_index (assembler_index_of c.entries hop) c.entries) c t) is)
+      ∙ unless_found (has_failed c hop t) (answer_by (at_index (neighbor_index_of c.entries hop) c.entries) c t) is)
 
   lookup_of : (c : CacheValue) → IsBelieved c.entries → lookup c hop t ≡ Known.Found to
   lookup_of c b =
@@ -134,7 +134,7 @@ module _ (t : ℤ) (hop : IpAddress) (to : HardwareAddress) where
   apart_there d address apart is = subst (λ (x : IpAddress). is_same_address x hop ≡ false) (sym (same_address d address is)) apart
 
   abbrev filled_in : ℕ → List Neighbor → Neighbor → List Neighbor
-  filled_in room entries new = filled_at (assembler_index_of entries new.protocol_addr) room entries new
+  filled_in room entries new = filled_at (neighbor_index_of entries new.protocol_addr) room entries new
 
   removed_most : (xs : List Neighbor) (v : ℕ) (new : Neighbor) → length xs ≤ length (remove xs v ++ new ∷ [])
   removed_most xs v new =
@@ -195,13 +195,13 @@ module _ (t : ℤ) (hop : IpAddress) (to : HardwareAddress) where
     by true is =
         let same : new.protocol_addr ≡ hop = same_address new.protocol_addr hop is in record {
           entry = new;
-          found = own_entry room entries new (assembler_index_of entries new.protocol_addr) refl same;
+          found = own_entry room entries new (neighbor_index_of entries new.protocol_addr) refl same;
           lives = late;
           is = told same;
         }
     by false is = record {
       entry = b.entry;
-      found = other_entry room entries new b.entry (assembler_index_of entries new.protocol_addr) refl is fits b.found;
+      found = other_entry room entries new b.entry (neighbor_index_of entries new.protocol_addr) refl is fits b.found;
       lives = b.lives;
       is = b.is;
     }
@@ -209,7 +209,7 @@ module _ (t : ℤ) (hop : IpAddress) (to : HardwareAddress) where
   -- AN ENTRY RENEWED
 
   abbrev renewed_in : List Neighbor → IpAddress → HardwareAddress → ℤ → List Neighbor
-  renewed_in entries address hardware now = renewed_at (assembler_index_of entries address) (at_index (assembler_index_of entries address) entries) entries hardware now
+  renewed_in entries address hardware now = renewed_at (neighbor_index_of entries address) (at_index (neighbor_index_of entries address) entries) entries hardware now
 
   renewed_length : (entries : List Neighbor) (o : Option ℕ) (e : Option Neighbor) (hardware : HardwareAddress) (now : ℤ) →
       length (renewed_at o e entries hardware now) ≡ length entries
@@ -304,7 +304,7 @@ module _ (t : ℤ) (hop : IpAddress) (to : HardwareAddress) where
     fills i address hardware told = record {
       instant = refl;
       room = λ has.
-          let more = no_fewer i.neighbors.room i.neighbors.entries new (assembler_index_of i.neighbors.entries address) in
+          let more = no_fewer i.neighbors.room i.neighbors.entries new (neighbor_index_of i.neighbors.entries address) in
           let fits : length (filled_in i.neighbors.room i.neighbors.entries new) < i.neighbors.room = has in
           omega (arith, more, fits);
       believed = λ now so has b. filled_so i.neighbors.room i.neighbors.entries new (told so)
@@ -317,12 +317,12 @@ module _ (t : ℤ) (hop : IpAddress) (to : HardwareAddress) where
     renews i address hardware = record {
       instant = refl;
       room = λ has.
-          let same = renewed_length entries (assembler_index_of entries address) (at_index (assembler_index_of entries address) entries) hardware i.instant in
+          let same = renewed_length entries (neighbor_index_of entries address) (at_index (neighbor_index_of entries address) entries) hardware i.instant in
           let fits : length (renewed_in entries address hardware i.instant) < i.neighbors.room = has in
           omega (arith, same, fits);
       believed = λ now so has b.
           subst (λ (u : ℤ). IsBelieved (renewed_in entries address hardware u)) (sym now)
-          (renewed_so entries address hardware (assembler_index_of entries address) (at_index (assembler_index_of entries address) entries) refl refl b);
+          (renewed_so entries address hardware (neighbor_index_of entries address) (at_index (neighbor_index_of entries address) entries) refl refl b);
     } where
       entries : List Neighbor
       entries = i.neighbors.entries

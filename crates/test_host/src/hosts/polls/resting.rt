@@ -40,7 +40,7 @@ fn others_rest(rt: HostRuntime) -> Result<(), Fail> {
 
 /// A connection whose SYN isn't answered has its turns, for it waits for an instant.
 #[test]
-fn who_waits_for_a_instant_has_turns(rt: HostRuntime) -> Result<(), Fail> {
+fn who_waits_for_an_instant_has_turns(rt: HostRuntime) -> Result<(), Fail> {
     let mut host = Host::new(rt.alloc(), &TCP)?;
     assert!(rt; host.connect());
     host.poll(2);

@@ -3,7 +3,7 @@ use Rattle.std.proofs.lemmas.Bool.{leb-true}
 use Rattle.ip_wire.specs.IpAddress.TheVariants as Address
 use Rattle.lan.specs.declared.at_link.history.event.Side.TheVariants.{B}
 use Rattle.sim_link.specs.Port.{PortMove}
-use Rattle.proof_stack.specs.Progress.OnEthernet.{hop_limit, steps_of}
+use Rattle.proof_stack.specs.Progress.OnEthernet.{hops, steps_of}
 use Rattle.proof_stack.specs.Worlds.Hosts.{address}
 use Rattle.proof_stack.proofs.Polls.Rotates.{has_its_turn}
 use Rattle.proof_stack.proofs.Polls.SomeNeighbors.{are_waited_for, begins, both_wait_on, in_order, passes_over, two_steps}
@@ -32,7 +32,7 @@ returns-clause-ours c = inl refl
 
 pub returns-clause-asks : goal.returns-clause-asks
 returns-clause-asks c t =
-    has_its_turn PortMove hop_limit (Address.Ipv4 (address B)) (steps_of t) (in_order t) (are_waited_for t) (inl refl) (leb-true 2 2 refl)
+    has_its_turn PortMove hops (Address.Ipv4 (address B)) (steps_of t) (in_order t) (are_waited_for t) (inl refl) (leb-true 2 2 refl)
 
 pub returns-clause-rounds : goal.returns-clause-rounds
 returns-clause-rounds c = passes_over

@@ -12,4 +12,4 @@ pub returns-clause-counts : goal.returns-clause-counts
 returns-clause-counts c cache hop instant = counted cache hop instant
 
 pub returns-clause-within : goal.returns-clause-within
-returns-clause-within c rounds hop_limit hop last are overs ours = asked_within rounds hop_limit hop last are overs ours
+returns-clause-within c rounds hops hop last are overs ours = asked_within rounds hops hop last are overs ours

@@ -1,5 +1,0 @@
-use Rattle.proof_stack.proofs.EventHopLimit.{waits_for_none_known}
-use Rattle.proof_stack.proofs.progress.known_hop_limit.nobody_waits_for_a_known_neighbor.Goals as goal
-
-pub returns : goal.returns
-returns c = waits_for_none_known
