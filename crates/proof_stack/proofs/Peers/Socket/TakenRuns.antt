@@ -1,5 +1,5 @@
 -- Each run of a socket alongside a peer that is honest of what the socket takes, and a listener that begins anew.
-use Rattle.std.proofs.Common.{◌≡◌, ℕ, not, ◌&&◌, Bool, true, false, if◌then◌else◌, List, [], ◌∷◌, ◌++◌, length, refl, sym, subst}
+use Rattle.std.proofs.Common.{◌≡◌, ℕ, not, Bool, true, false, if◌then◌else◌, List, [], ◌∷◌, ◌++◌, length, refl, sym, subst}
 use Rattle.std.proofs.lemmas.Bool.{and_parts}
 use Rattle.ip_wire.specs.IpRepr.{IpRepr}
 use Rattle.ip_wire.specs.TcpHeader.{TcpHeader}
@@ -8,7 +8,6 @@ use Rattle.tcp_theory.specs.Alone.{AreResets, unopened}
 use Rattle.tcp_theory.specs.Move.{listening}
 use Rattle.tcp_theory.specs.Move.Move.{Listens as SideListens}
 use Rattle.tcp_theory.specs.Segment.{Segment}
-use Rattle.tcp_theory.specs.Side.{Side}
 use Rattle.tcp_block.specs.State.{State}
 use Rattle.tcp_block.specs.State.TheVariants as In
 use Rattle.tcp_block.specs.Arrival.{arrives, is_void_syn}

@@ -7,7 +7,7 @@ use Rattle.ip_wire.specs.TcpHeader.{TcpHeader}
 use Rattle.tcp_block.specs.Context.{ContextValue}
 use Rattle.tcp_block.specs.State.{State}
 use Rattle.tcp_block.specs.State.TheVariants as In
-use Rattle.tcp_block.specs.Arrival.{is_before_window, is_void_syn, challenges_first, challenges_syn}
+use Rattle.tcp_block.specs.Arrival.{is_before_window, is_void_syn, challenges_first}
 use Rattle.tcp_block.specs.Checks.{acknowledgement_check, opening_check, synchronized_check, is_in_window, lies_before}
 use Rattle.tcp_block.specs.Checks.Check.{Passes, Resets}
 use Rattle.tcp_block.specs.Controls.{is_syn, is_rst}
