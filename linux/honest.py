@@ -10,7 +10,7 @@ A capture is read as one made at one end of the link. Its format is pcap (`tcpdu
 Of each connection an end's stream is what its program wrote, where that is known, else the bytes that the capture has first at each position.
 A segment that isn't honest is refused if the end that gets it takes something from it (crates/proof_stack/specs/PeerHost/TakenRun.antt); it is
 told, and nothing more, if that end drops, challenges or resets it. Segments with a wrong checksum are left out, since a host drops them, and so
-are fragments. The status is 0 if nothing was refused, in `try` also only if each change was.
+are fragments. The status is 0 if something was read and nothing refused, in `try` also only if each change was.
 """
 import ipaddress
 import random
@@ -114,14 +114,17 @@ def scale_of(options):
     return None
 
 
-def segment_in(link, number, frame):
-    """The TCP segment of a frame, if it has one whose checksum is right."""
+def segment_in(link, number, frame, wrong):
+    """The TCP segment of a frame, if it has one; the frame is put among the wrong ones if its checksum doesn't hold."""
     packet = packet_at(link, frame)
     found = None if packet is None or len(frame) < packet + 20 else tcp_in(frame, packet)
     if found is None:
         return None
     start, end, pseudo = found
-    if end - start < 20 or checksum(pseudo + frame[start:end]):
+    if end - start < 20:
+        return None
+    if checksum(pseudo + frame[start:end]):
+        wrong.append(number)
         return None
     source_port, destination_port, seq, ack, offset, flags, window = struct.unpack(">HHIIBBH", frame[start:start + 16])
     head = start + 4 * (offset >> 4)
@@ -134,9 +137,9 @@ def segment_in(link, number, frame):
                    bytes(frame[head:end]), number, head, start)
 
 
-def segments_of(capture):
+def segments_of(capture, wrong):
     link, frames = frames_of(capture)
-    found = (segment_in(link, number, frame) for number, frame in enumerate(frames, 1))
+    found = (segment_in(link, number, frame, wrong) for number, frame in enumerate(frames, 1))
     return [it for it in found if it is not None]
 
 
@@ -356,6 +359,7 @@ def connections_of(segments):
 class Verdict:
     segments: int = 0
     connections: int = 0
+    wrong: list = field(default_factory=list)  # frames with a wrong checksum
     thrown_away: list = field(default_factory=list)  # not honest, and not taken
     refused: list = field(default_factory=list)  # not honest, and taken
     fresh: list = field(default_factory=list)  # with bytes that were new to the end that took them
@@ -380,7 +384,7 @@ def replay(connection, streams, verdict):
 
 def verdict_of(capture, streams):
     verdict = Verdict()
-    for connection in connections_of(segments_of(capture)):
+    for connection in connections_of(segments_of(capture, verdict.wrong)):
         verdict.connections += 1
         replay(connection, streams, verdict)
     return verdict
@@ -388,11 +392,13 @@ def verdict_of(capture, streams):
 
 def report(name, verdict):
     print(f"{name}: {verdict.connections} connections, {verdict.segments} segments; not honest: {len(verdict.refused)} that were taken, "
-          f"{len(verdict.thrown_away)} that were thrown away")
+          f"{len(verdict.thrown_away)} that were thrown away; {len(verdict.wrong)} left out, with a wrong checksum")
     for what, which in (("refused", verdict.refused), ("thrown away", verdict.thrown_away)):
         for it in which[:20]:
             print(f"  {what}: {it}")
-    return not verdict.refused
+    if not verdict.segments:
+        print("  nothing was read: where a device sums up for its host, a capture has no checksums (ethtool -K DEVICE tx off)")
+    return bool(verdict.segments) and not verdict.refused
 
 
 # ONE BYTE CHANGED
@@ -456,8 +462,12 @@ def main(words):
         return 2
     well = True
     for name in words:
-        with open(name, "rb") as it:
-            well = report(name, verdict_of(it.read(), {})) and well
+        try:
+            with open(name, "rb") as it:
+                well = report(name, verdict_of(it.read(), {})) and well
+        except (OSError, ValueError) as it:
+            print(f"{name}: {it}")
+            well = False
     return 0 if well else 1
 
 
