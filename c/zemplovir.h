@@ -149,6 +149,8 @@ typedef struct zv_settings {
     size_t frames;       /* how many frames may wait each way */
     uint8_t keyed;       /* 0 where the first sequence numbers are random words, else they are by the key (RFC 6528) */
     uint8_t isn_key[16]; /* from a true source, and known to nobody else */
+    uint8_t without_host_requirements; /* 0 where the host does what RFC 1122 and the standards after it ask of one on a network of many,
+                                        * with a table of 256 neighbours; else it does as smoltcp, with one of four */
 } zv_settings;
 
 typedef struct zv_counts {

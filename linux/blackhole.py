@@ -1,11 +1,12 @@
 #!/usr/bin/env python3
 """A path that carries less than its ends' links, and whose end drops fragments, as firewalls do, in a network namespace of its own (unshare -n):
 
-    blackhole.py PUMP HOST [SIZE [SECONDS]]
+    blackhole.py PUMP HOST [SIZE [SECONDS [silent]]]
 
-A station fetches a page of a megabyte from the program `host` over a link that drops each IPv4 packet of more than SIZE bytes (1400) and each
-fragment: first one that tells the sender of a packet that may not be cut (RFC 1191), then one that says nothing (RFC 2923). Then the same
-from a Linux server, whose sysctl tcp_mtu_probing is 1 in the second case. A page has so many SECONDS (15). PUMP is linux/pump.c, built.
+A station fetches a page of a megabyte from the program `host`, and from a Linux server, over a link that drops each IPv4 packet of more than
+SIZE bytes (1400) and each fragment, and tells the sender of a packet that may not be cut (RFC 1191). `silent`: it says nothing (RFC 2923), which
+the host doesn't notice, and Linux only where its sysctl tcp_mtu_probing is 1, as it is here then. A page has so many SECONDS (15). PUMP is
+linux/pump.c, built.
 """
 import select, socket, struct, sys, threading, time
 
@@ -82,7 +83,7 @@ def page(station, at, seconds):
 
 def main():
     pump, program, *rest = sys.argv[1:]
-    size, seconds = int(rest[0]) if rest else 1400, float(rest[1]) if rest[1:] else 15
+    size, seconds, telling = int(rest[0]) if rest else 1400, float(rest[1]) if rest[1:] else 15, "silent" not in rest
     stations.SERVER = SERVER
     host, pages, namespaces, (station,) = stations.set_up(pump, program, 1)
     # the station's end leaves the bridge, and the forwarder joins it again
@@ -94,20 +95,21 @@ def main():
         sh("nsenter", "-t", str(process.pid), "-n", "ethtool", "-K", name, "tx", "off", "gso", "off", "tso", "off")
     ends, tells, dropped, well = threading.Event(), threading.Event(), [], []
     threading.Thread(target=forward, args=(ends, "s0", "tap0", size, tells, dropped)).start()
+    if telling:
+        tells.set()
+    else:
+        sh("nsenter", "-t", str(namespaces[0].pid), "-n", "sh", "-c", "echo 1 > /proc/sys/net/ipv4/tcp_mtu_probing")
     try:
-        for telling in (True, False):
-            (tells.set if telling else tells.clear)()
-            sh("nsenter", "-t", str(namespaces[0].pid), "-n", "sh", "-c", f"echo {0 if telling else 1} > /proc/sys/net/ipv4/tcp_mtu_probing; ip route flush cache")
-            for name, at in (("the host", OURS), ("Linux", stations.LINUX_SERVER)):
-                before = len(dropped)
-                got, took = page(station, at, seconds)
-                what = f"{name}: {got} bytes in {took:.2f} s through a path of {size} that {'tells' if telling else 'says nothing'}"
-                well.append(say(f"{what}; {len(dropped) - before} packets dropped", got > 1_000_000 and took < 5))
+        for name, at in (("the host", OURS), ("Linux", stations.LINUX_SERVER)):
+            before = len(dropped)
+            got, took = page(station, at, seconds)
+            what = f"{name}: {got} bytes in {took:.2f} s through a path of {size} that {'tells' if telling else 'says nothing'}"
+            well.append(say(f"{what}; {len(dropped) - before} packets dropped", got > 1_000_000 and took < 5))
     finally:
         ends.set()
         for it in (host, pages, *namespaces):
             it.terminate()
-    return 0 if well[0] and well[2] else 1
+    return 0 if well[0] else 1
 
 
 if __name__ == "__main__":

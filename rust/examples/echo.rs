@@ -109,6 +109,7 @@ fn main() -> Result<(), Box<dyn std::error::Error>> {
         random_seed: u64::from_ne_bytes(seed),
         isn_key: Some(key),
         frames: 256,
+        host_requirements: true,
     };
     let began = std::time::Instant::now();
     let mut host = Interface::new(&config, Instant::ZERO)?;

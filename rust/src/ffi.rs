@@ -34,6 +34,7 @@ pub struct Settings {
     pub frames: usize,
     pub keyed: u8,
     pub isn_key: [u8; 16],
+    pub without_host_requirements: u8,
 }
 
 /// What an interface has counted since it was made.

@@ -78,6 +78,9 @@ pub struct Config {
     pub isn_key: Option<[u8; 16]>,
     /// How many frames may wait each way.
     pub frames: usize,
+    /// Whether the host does what RFC 1122 and the standards after it ask of one on a network of many, with a table of 256 neighbours; else it
+    /// does as smoltcp, with one of four.
+    pub host_requirements: bool,
 }
 
 /// The place of a socket.
@@ -150,6 +153,7 @@ impl Interface {
             frames: config.frames,
             keyed: config.isn_key.is_some().into(),
             isn_key: config.isn_key.unwrap_or_default(),
+            without_host_requirements: (!config.host_requirements).into(),
         };
         let mut host = ffi::Host { inside: null_mut() };
         done(unsafe { ffi::zv_host_new(&mut host, &settings, now.micros) })?;

@@ -21,7 +21,9 @@ pub fn address(number: u8) -> IpAddress {
 fn bare(alloc: Global, wire: &Wire, number: u8) -> Result<Interface> {
     let config = Config {
         random_seed: u64::from(number),
-        ..Config::new(HardwareAddress::Ethernet(EthernetAddress([2, 0, 0, 0, 0, number])))
+        ..Config::with_host_requirements(HardwareAddress::Ethernet(EthernetAddress([
+            2, 0, 0, 0, 0, number,
+        ])))
     };
     Ok(Interface::new(alloc, &config, wire, Instant::ZERO)?)
 }

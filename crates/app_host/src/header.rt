@@ -23,6 +23,7 @@ pub enum Verb {
     Mac,
     IsnKey,
     Checksums,
+    HostRequirements,
 }
 
 /// What a script asks for before its line `start`.
@@ -33,6 +34,7 @@ pub struct Header {
     hardware: HardwareAddress,
     begins: Instant,
     isn_key: Option<[u8; 16]>,
+    host_requirements: bool,
     specs: Vec<SocketSpec>,
 }
 
@@ -58,6 +60,7 @@ impl Header {
             },
             begins: Instant::ZERO,
             isn_key: None,
+            host_requirements: false,
             specs: Vec::new(alloc),
         })
     }
@@ -85,6 +88,10 @@ impl Header {
             Verb::Checksums => {
                 words.host();
                 self.device.checksum = checksums(words);
+            }
+            Verb::HostRequirements => {
+                words.host();
+                self.host_requirements = words.switch();
             }
         }
         words.end();
@@ -137,6 +144,7 @@ impl Header {
         let config = Config {
             random_seed: self.seed,
             isn_key: self.isn_key,
+            host_requirements: self.host_requirements,
             ..Config::new(self.hardware)
         };
         match Interface::new(alloc, &config, wire, self.begins) {

@@ -102,6 +102,7 @@ fn of_header(word: &str) -> Line {
         "mac" => Line::Header(header::Verb::Mac),
         "isn_key" => Line::Header(header::Verb::IsnKey),
         "checksums" => Line::Header(header::Verb::Checksums),
+        "host_requirements" => Line::Header(header::Verb::HostRequirements),
         _ => Line::Unknown,
     }
 }

@@ -26,7 +26,7 @@ use Rattle.ip_wire.specs.IpAddress.TheVariants as Ip
 use Rattle.ip_wire.specs.Ipv4Address.{Ipv4Address}
 use Rattle.ip_wire.specs.Ipv6Address.{Ipv6Address}
 use Rattle.iface_tables.specs.Route.{RoutesValue, no_routes, is_all_v6, is_gateway_v4, is_gateway_v6, IsGateway, IsAdded, has_room, without, without_at}
-use Rattle.iface_tables.specs.Settings.{MadeUnless, default_config, table_room, refusal, is_unicast_hardware, is_stranger, made, with_addresses, routes_of, with_routes, with_route_table}
+use Rattle.iface_tables.specs.Settings.{MadeUnless, network_config, table_room, refusal, is_unicast_hardware, is_stranger, made, with_addresses, routes_of, with_routes, with_route_table}
 use Rattle.iface_tables.proofs.RouteTable.{same_room}
 use Rattle.iface_tables.specs.declared.config.NewError.{NewError}
 use Rattle.iface_tables.specs.declared.config.NewError.TheVariants as New
@@ -41,7 +41,7 @@ not_below a b is = grind (arith)
 
 -- at an instant of the stack an interface is refused for a hardware address that is no hardware address's alone
 pub refusal_is : (hardware : HardwareAddress) (seed : ℕ) (key : Option (List ℕ)) (instant : ℤ) → IsMoment instant
-    → refusal (record (default_config hardware) { random_seed = seed; isn_key = key }) (capabilities_of hardware) instant ≡
+    → refusal (record (network_config hardware) { random_seed = seed; isn_key = key }) (capabilities_of hardware) instant ≡
     (if is_unicast_hardware hardware then None else Some New.NotUnicast)
 refusal_is Hardware.Ip seed key instant is = rw (not_below instant (pos 0) is.0, not_below (pos last_instant) instant is.1) refl
 refusal_is (Hardware.Ethernet a) seed key instant is = rw (not_below instant (pos 0) is.0, not_below (pos last_instant) instant is.1) refl

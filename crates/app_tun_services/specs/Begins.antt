@@ -7,7 +7,7 @@ use Rattle.interface.specs.Set.{free}
 use Rattle.interface.specs.Item.{Item}
 use Rattle.interface.specs.SocketStorage.{SocketStorage}
 use Rattle.iface_tables.specs.Route.{RoutesValue, IsGateway}
-use Rattle.iface_tables.specs.Settings.{default_config, is_unicast_hardware, made, with_addresses, with_routes}
+use Rattle.iface_tables.specs.Settings.{network_config, is_unicast_hardware, made, with_addresses, with_routes}
 use Rattle.iface_tables.specs.declared.config.Config.{Config}
 use Rattle.iface_tables.specs.declared.route.Route.{Route}
 use Rattle.ip_wire.specs.AddressTests.{is_unicast, is_unspecified}
@@ -60,7 +60,7 @@ capabilities_of hardware =
     record { medium = medium_of hardware; max_transmission_unit = MTU + head_len (medium_of hardware); checksum = all_checksums Both }
 
 abbrev pub config_of : Settings → Config
-config_of s = record (default_config s.hardware) { random_seed = s.seed; isn_key = s.isn_key }
+config_of s = record (network_config s.hardware) { random_seed = s.seed; isn_key = s.isn_key }
 
 -- one host's address, or the unspecified one
 abbrev pub is_host_address : IpAddress → Bool

@@ -93,7 +93,7 @@ fn initial(
     let config = Config {
         random_seed: settings.seed,
         isn_key: settings.isn_key,
-        ..Config::new(settings.hardware)
+        ..Config::with_host_requirements(settings.hardware)
     };
     match Interface::new(alloc, &config, drain, now) {
         Ok(interface) => Ok(interface),

@@ -1,5 +1,5 @@
 -- What the calls of a host answer and leave.
-use Rattle.std.specs.Prelude.{◌≡◌, ℕ, ℤ, ◌+◌, ◌^◌, ◌-◌, min, Bool, List, [], length, Option, None, Some, Result, Ok, Err, MatchResult}
+use Rattle.std.specs.Prelude.{◌≡◌, ℕ, ℤ, ◌+◌, ◌^◌, ◌-◌, min, Bool, true, false, List, [], length, Option, None, Some, Result, Ok, Err, MatchResult}
 use Rattle.net_base.specs.Capabilities.{all_checksums}
 use Rattle.net_base.specs.Checksum.TheVariants as Checksum
 use Rattle.net_base.specs.Time.{IsMoment}
@@ -20,7 +20,7 @@ use Rattle.interface.specs.Instant.{poll_instant}
 use Rattle.interface.specs.Made.{new_host}
 use Rattle.interface.specs.Polls.{Polls}
 use Rattle.interface.specs.State.{state}
-use Rattle.interface.specs.Settings.{default_config, refusal}
+use Rattle.interface.specs.Settings.{default_config, network_config, refusal}
 use Rattle.interface.specs.SocketStorage.{SocketStorage}
 use Rattle.interface.specs.Inner.{at_instant}
 use Rattle.interface.specs.Config.{Config}
@@ -89,8 +89,14 @@ abbrev pub device_of : Settings → DeviceCapabilities
 device_of settings =
     record { medium = medium_of settings.hardware; max_transmission_unit = settings.mtu; checksum = all_checksums Checksum.Both }
 
+-- of a host on a network of many, or as smoltcp's
+abbrev pub initial_config : Bool → HardwareAddress → Config
+initial_config true hardware = network_config hardware
+initial_config false hardware = default_config hardware
+
 abbrev pub config_of : Settings → Config
-config_of settings = record (default_config (hardware_of settings.hardware)) { random_seed = settings.seed; isn_key = settings.isn_key }
+config_of settings =
+    record (initial_config settings.host_requirements (hardware_of settings.hardware)) { random_seed = settings.seed; isn_key = settings.isn_key }
 
 -- A HOST THAT IS MADE
 

@@ -2,7 +2,7 @@
 ghost use Rattle.std.specs.Prelude.{◌≡◌, length};
 ghost use Rattle.c_calls.specs.Link.{next_len, fetch_answer, fetched};
 ghost use Rattle.c_calls.specs.Codes.{coded};
-ghost use Rattle.c_calls.specs.Calls.{counted, NewHost, TakesFrame, fetched_from, or_empty, PollsAt, AsksAt, device_of, config_of};
+ghost use Rattle.c_calls.specs.Calls.{counted, NewHost, TakesFrame, fetched_from, or_empty, PollsAt, AsksAt, device_of, initial_config, config_of};
 ghost use Rattle.c_calls.specs.Added.{MakesSocket};
 ghost use Rattle.c_calls.specs.Backlogs.{may_be_removed, removed_by};
 ghost use Rattle.c_calls.specs.Codes.{of_fetch};
@@ -31,6 +31,8 @@ pub struct Settings {
     pub isn_key: Option<[u8; 16]>,
     /// How many frames may wait each way.
     pub frames: usize,
+    /// Whether it does what is asked of a host on a network of many, where smoltcp does otherwise; with a table of 256 neighbours.
+    pub host_requirements: bool,
 }
 
 /// What a host has counted since it was made, each up to the largest number.
@@ -89,6 +91,16 @@ fn capabilities(settings: &Settings) -> DeviceCapabilities
     }
 }
 
+fn initial_config(host_requirements: bool, hardware_addr: HardwareAddress) -> Config
+    ensures { result ≡ initial_config host_requirements hardware_addr }
+{
+    if host_requirements {
+        Config::with_host_requirements(hardware_addr)
+    } else {
+        Config::new(hardware_addr)
+    }
+}
+
 fn config(settings: &Settings) -> Config
     ensures { result ≡ config_of settings.now }
 {
@@ -99,7 +111,7 @@ fn config(settings: &Settings) -> Config
     Config {
         random_seed: settings.seed,
         isn_key: settings.isn_key,
-        ..Config::new(hardware_addr)
+        ..initial_config(settings.host_requirements, hardware_addr)
     }
 }
 

@@ -1,8 +1,10 @@
 -- What becomes of a packet on egress, at a device that may refuse a frame (RFC 791, section 3.2; RFC 8200, section 4.5;
 -- RFC 1122, section 2.3.2; RFC 4861, section 7.2.2).
-use Rattle.std.specs.Prelude.{◌≡◌, ℕ, Bool, true, false, List, Option, Some}
+use Rattle.std.specs.Prelude.{◌≡◌, ◌&&◌, ℕ, Bool, true, false, List, Option, Some}
 use Rattle.net_base.specs.Device.{Move}
 use Rattle.ip_wire.specs.HardwareAddress.{HardwareAddress}
+use Rattle.ip_wire.specs.IpProtocol.{IpProtocol}
+use Rattle.ip_wire.specs.IpProtocol.TheVariants as Protocol
 use Rattle.ip_wire.specs.IpRepr.{IpRepr}
 use Rattle.ip_wire.specs.IpRepr.TheVariants as Ip
 use Rattle.ip_wire.specs.Ipv4Repr.{Ipv4Repr}
@@ -30,10 +32,19 @@ frame_len_of i d = len_from i.hardware d
 abbrev pub Departs : {D : Type 0} → (D → Move → D → Type 0) → D → InnerValue → Departure → Bool → D → Type 0
 Departs moves old i d gone new = Emits moves old (frame_of i d) (frame_len_of i d) gone new
 
--- NUMBERS: every IPv4 datagram takes the next identification, and may be cut; one of IPv6 takes it where it is cut
+-- NUMBERS: every IPv4 datagram takes the next identification, and may be cut, but for TCP's segments on a network of many; one of IPv6 takes it
+-- where it is cut
+
+abbrev pub is_tcp : IpProtocol → Bool
+is_tcp Protocol.Tcp = true
+is_tcp _ = false
+
+-- a path that can't carry a segment says so, in place of cutting it (RFC 1191, section 3; RFC 9293, section 3.7.2)
+abbrev pub is_never_cut : InnerValue → Ipv4Repr → Bool
+is_never_cut i v = i.host_requirements && is_tcp v.next_header
 
 abbrev pub numbered_v4 : InnerValue → Ipv4Repr → Ipv4Repr
-numbered_v4 i v = record v { ident = i.ident; dont_frag = false }
+numbered_v4 i v = record v { ident = i.ident; dont_frag = is_never_cut i v }
 
 abbrev pub numbered_header : InnerValue → IpRepr → IpRepr
 numbered_header i (Ip.Ipv4 v) = Ip.Ipv4 (numbered_v4 i v)

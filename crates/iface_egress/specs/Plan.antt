@@ -103,11 +103,11 @@ plan_from i here busy header =
 abbrev pub plan_of : InnerValue → Bool → IpRepr → Plan
 plan_of i busy header = plan_from i (comes_from_here i header) busy header
 
--- neither from nor for a loopback address, for an address that is specified, and from one that a host can have
+-- neither from nor for a loopback address, for an address that is specified, and from one that a host has
 abbrev pub is_ordinary : InnerValue → Ipv4Repr → Bool
 is_ordinary i v =
     not (is_loopback_v4 v.src_addr || is_loopback_v4 v.dst_addr) && not (is_unspecified_v4 v.dst_addr)
-    && not (is_local_broadcast i (Address.Ipv4 v.src_addr) || is_multicast_v4 v.src_addr)
+    && not (is_local_broadcast i (Address.Ipv4 v.src_addr) || (is_multicast_v4 v.src_addr || is_unspecified_v4 v.src_addr))
 
 -- a packet comes from here, and goes whole to this hardware address, whether fragments of a datagram wait or not
 pub record GoesDirect (i : InnerValue) (header : IpRepr) (to : HardwareAddress) : Type 0 where

@@ -7,7 +7,7 @@ ghost use Rattle.iface_tables.specs.Inner.{mtu_to};
 ghost use Rattle.ip_wire.specs.Ip.{destination_of};
 ghost use Rattle.iface_egress.specs.Departure as Departures;
 ghost use Rattle.iface_egress.specs.FastPath.{direct_packet};
-ghost use Rattle.iface_egress.specs.IsTransmitted.{IsTransmitted, FragmentIsTransmitted, Asked, WasSent, WasCut, numbered_v4, numbered_header, numbered, after_header, cut_header, cut_of};
+ghost use Rattle.iface_egress.specs.IsTransmitted.{IsTransmitted, FragmentIsTransmitted, Asked, WasSent, WasCut, is_never_cut, numbered_v4, numbered_header, numbered, after_header, cut_header, cut_of};
 
 use crate::fill::send;
 use crate::fragmenter::{Cut, Fragmenter};
@@ -15,7 +15,7 @@ use crate::frame::{CutHeader, DirectFrame, NeighborQuery, Whole, ask};
 use crate::payload::{Carried, Direct};
 use crate::plan::{Plan, plan_for};
 use iface_tables::InterfaceInner;
-use ip_wire::{HardwareAddress, IpAddress, IpRepr, Ipv4Repr};
+use ip_wire::{HardwareAddress, IpAddress, IpProtocol, IpRepr, Ipv4Repr};
 use net_base::Device;
 use socket_context::{Context, Packet};
 
@@ -244,13 +244,21 @@ fn cut_header(inner: &InterfaceInner, header: &IpRepr) -> CutHeader
     }
 }
 
+/// Whether no router may cut a packet: a segment of TCP on a network of many, where a path that can't
+/// carry it says so (RFC 1191, section 3). A firewall may drop the fragments that were made of it.
+fn is_never_cut(inner: &InterfaceInner, header: &Ipv4Repr) -> bool
+    ensures { result ≡ is_never_cut inner.now header.now }
+{
+    inner.host_requirements() && matches!(header.next_header, IpProtocol::Tcp)
+}
+
 /// The header with the host's next number.
 fn numbered_v4(inner: &InterfaceInner, header: &Ipv4Repr) -> Ipv4Repr
     ensures { result ≡ numbered_v4 inner.now header.now }
 {
     Ipv4Repr {
         ident: inner.ident(),
-        dont_frag: false,
+        dont_frag: is_never_cut(inner, header),
         ..*header
     }
 }
@@ -259,12 +267,10 @@ fn numbered_v4(inner: &InterfaceInner, header: &Ipv4Repr) -> Ipv4Repr
 fn numbered_header(inner: &InterfaceInner, header: &IpRepr) -> IpRepr
     ensures { result ≡ numbered_header inner.now header.now }
 {
-    let mut numbered = *header;
-    if let IpRepr::Ipv4(header) = &mut numbered {
-        header.ident = inner.ident();
-        header.dont_frag = false;
+    match header {
+        IpRepr::Ipv4(header) => IpRepr::Ipv4(numbered_v4(inner, header)),
+        IpRepr::Ipv6(header) => IpRepr::Ipv6(*header),
     }
-    numbered
 }
 
 /// A packet of this header went whole.

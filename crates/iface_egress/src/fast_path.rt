@@ -55,7 +55,9 @@ fn is_ordinary(inner: &InterfaceInner, header: &Ipv4Repr) -> bool
     let (source, destination) = (header.src_addr, header.dst_addr);
     !(source.is_loopback() || destination.is_loopback())
         && !destination.is_unspecified()
-        && !(inner.is_broadcast(&IpAddress::Ipv4(source)) || source.is_multicast())
+        && !(inner.is_broadcast(&IpAddress::Ipv4(source))
+            || source.is_multicast()
+            || source.is_unspecified())
 }
 
 /// Whether a packet is no longer than the path to its destination carries.

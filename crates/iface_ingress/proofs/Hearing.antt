@@ -120,9 +120,9 @@ asked-local i header target false asked =
     second (is_local_solicited_node i header.dst_addr || is_local i (Address.Ipv6 header.dst_addr)) (is_local i (Address.Ipv6 target)) asked
 
 answer-by : (local : EthernetAddress) (i : InnerValue) (header : Ipv6Repr) (target : Ipv6Address) (p : PacketValue) (b : Bool) → is_asked i header target ≡ b
-    → (if b then Some (advertisement local target header.src_addr) else None) ≡ Some p → IsAnswer i header p
+    → (if b then Some (advertisement i.host_requirements local target header.src_addr) else None) ≡ Some p → IsAnswer i header p
 answer-by local i header target p true asked is =
-    let packet : advertisement local target header.src_addr ≡ p = cc is in
+    let packet : advertisement i.host_requirements local target header.src_addr ≡ p = cc is in
     subst (IsAnswer i header) packet (refl, asked-local i header target (is_unspecified_v6 header.src_addr) asked, refl)
 answer-by local i header target p false asked is = absurd (cc is)
 

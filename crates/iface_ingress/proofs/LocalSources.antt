@@ -257,6 +257,6 @@ asked_local i false to target is =
 pub advertisement_local : (local : EthernetAddress) (i : InnerValue) (header : Ipv6Repr) (target : Ipv6Address) (p : PacketValue)
     → answer local i header target ≡ Some p → is_local i (source_of p.header) ≡ true
 advertisement_local local i header target p is =
-    let parts = chosen (is_asked i header target) (Some (advertisement local target header.src_addr)) p is in
-    ap (λ (q : PacketValue). is_local i (source_of q.header)) (sym (one_packet (advertisement local target header.src_addr) p parts.1))
+    let parts = chosen (is_asked i header target) (Some (advertisement i.host_requirements local target header.src_addr)) p is in
+    ap (λ (q : PacketValue). is_local i (source_of q.header)) (sym (one_packet (advertisement i.host_requirements local target header.src_addr) p parts.1))
     ∙ asked_local i (is_unspecified_v6 header.src_addr) header.dst_addr target parts.0

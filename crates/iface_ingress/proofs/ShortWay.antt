@@ -13,7 +13,7 @@ use Rattle.ip_wire.specs.IpRepr.TheVariants as Ip
 use Rattle.ip_wire.specs.Ipv4 as Ipv4
 use Rattle.ip_wire.specs.Ipv4Fragment.{Ipv4Fragment}
 use Rattle.ip_wire.specs.Ipv4Repr.{Ipv4Repr}
-use Rattle.iface_tables.specs.Inner.{InnerValue, is_local, is_member_of, is_local_broadcast, is_loopback_in, is_loopback_of, is_for_us}
+use Rattle.iface_tables.specs.Inner.{InnerValue, is_local, is_member_of, is_local_broadcast, is_loopback_in, is_loopback_of, is_for_us, never_comes}
 use Rattle.iface_ingress.specs.Arrives.{Arrived, Arrives, ArrivesAs, ArrivesV4, Brings, Hands, renewed, assemblers_after, whole_after}
 use Rattle.iface_ingress.specs.Delivered.{Slots, is_taken_raw, packet_delivered}
 use Rattle.iface_ingress.specs.Incoming.{IncomingValue, Ip4, IsContent, IsPacketV4}
@@ -21,25 +21,28 @@ use Rattle.iface_ingress.specs.Reassembled.{Assemblers, passes_filter, is_sender
 use Rattle.iface_ingress.specs.FastPath.{StandsFollowing, StandsIn, is_plain, is_fast, TakesPacket}
 use Rattle.iface_ingress.proofs.FragmentAssemblers.{assemblers_stay, whole_stays}
 
-record IsPlain (l m s o : Bool) : Type 0 where
+record IsPlain (l m s o n : Bool) : Type 0 where
   from : l ≡ false
   loopback : m ≡ false
   sender : s ≡ true
   local : o ≡ true
+  seen : n ≡ false
 
-plain_by : (l m s o : Bool) → (not (l || m) && s && o) ≡ true → IsPlain l m s o
-plain_by false false true true is = record { from = refl; loopback = refl; sender = refl; local = refl }
-plain_by true m s o is = absurd cc
-plain_by false true s o is = absurd cc
-plain_by false false false o is = absurd cc
-plain_by false false true false is = absurd cc
+plain_by : (l m s o n : Bool) → (not (l || m) && s && o && not n) ≡ true → IsPlain l m s o n
+plain_by false false true true false is = record { from = refl; loopback = refl; sender = refl; local = refl; seen = refl }
+plain_by true m s o n is = absurd cc
+plain_by false true s o n is = absurd cc
+plain_by false false false o n is = absurd cc
+plain_by false false true false n is = absurd cc
+plain_by false false true true true is = absurd cc
 
-in_by : (h s l x m y : Bool) → h ≡ true → s ≡ true → l ≡ false → m ≡ false → (h && s && not ((l && x) || (m && y))) ≡ true
-in_by true true false x false y _ _ _ _ = refl
-in_by false s l x m y is _ _ _ = absurd cc
-in_by true false l x m y _ is _ _ = absurd cc
-in_by true true true x m y _ _ is _ = absurd cc
-in_by true true false x true y _ _ _ is = absurd cc
+in_by : (h s l x m y n : Bool) → h ≡ true → s ≡ true → l ≡ false → m ≡ false → n ≡ false → (h && s && not ((l && x) || ((m && y) || n))) ≡ true
+in_by true true false x false y false _ _ _ _ _ = refl
+in_by true true false x false y true _ _ _ _ is = absurd cc
+in_by false s l x m y n is _ _ _ _ = absurd cc
+in_by true false l x m y n _ is _ _ _ = absurd cc
+in_by true true true x m y n _ _ is _ _ = absurd cc
+in_by true true false x true y n _ _ _ is _ = absurd cc
 
 us_by : (o b c d : Bool) → o ≡ true → (o || b || c || d) ≡ true
 us_by true b c d is = refl
@@ -58,11 +61,13 @@ arrives : (i : InnerValue) (timeout : ℕ) (assemblers : Assemblers) (slots : Sl
 arrives i timeout assemblers slots link header fragment payload a heard uncut is hands =
     let content : Option IncomingValue = Some (Ip4 link header fragment payload) in
     let plain =
-    plain_by (is_loopback_v4 header.src_addr) (is_loopback_v4 header.dst_addr) (is_sender i header.src_addr) (is_local i (Address.Ipv4 header.dst_addr)) is in
+    plain_by (is_loopback_v4 header.src_addr) (is_loopback_v4 header.dst_addr) (is_sender i header.src_addr) (is_local i (Address.Ipv4 header.dst_addr))
+    (never_comes i (Address.Ipv4 header.src_addr) (Address.Ipv4 header.dst_addr)) is in
     let let_in : is_taken_in i (Ip4 link header fragment payload) ≡ true =
     in_by (passes_filter i link) (is_sender i header.src_addr) (is_loopback_v4 header.src_addr)
     (not (list_any (is_loopback_of (Address.Ipv4 header.src_addr)) i.addresses)) (is_loopback_v4 header.dst_addr)
-    (not (list_any (is_loopback_of (Address.Ipv4 header.dst_addr)) i.addresses)) heard plain.sender plain.from plain.loopback in
+    (not (list_any (is_loopback_of (Address.Ipv4 header.dst_addr)) i.addresses))
+    (never_comes i (Address.Ipv4 header.src_addr) (Address.Ipv4 header.dst_addr)) heard plain.sender plain.from plain.loopback plain.seen in
     let taken : taken_in i content ≡ content = ap (λ (b : Bool). if b then content else None) let_in in
     let none : part_of content ≡ None = ap (λ (b : Bool). if b then Some (part_v4 header fragment payload) else None) uncut in
     let us : is_for_us i (Address.Ipv4 header.dst_addr) ≡ true =

@@ -10,7 +10,7 @@ use Rattle.ip_wire.specs.IpAddress.TheVariants as Address
 use Rattle.ip_wire.specs.IpRepr.TheVariants as Ip
 use Rattle.ip_wire.specs.Ipv4Fragment.{Ipv4Fragment}
 use Rattle.ip_wire.specs.Ipv4Repr.{Ipv4Repr}
-use Rattle.iface_tables.specs.Inner.{InnerValue, is_local}
+use Rattle.iface_tables.specs.Inner.{InnerValue, is_local, never_comes}
 use Rattle.iface_ingress.specs.Delivered.{Slots, is_taken_raw, packet_delivered}
 use Rattle.iface_ingress.specs.Incoming.{IsFramed, IsPacketV4}
 use Rattle.iface_ingress.specs.Reassembled.{passes_filter, is_sender, is_fragment}
@@ -30,10 +30,11 @@ StandsIn (Hardware.Ethernet local) i frame link bytes = StandsFollowing i frame 
 
 -- WHICH PACKET GOES
 
--- a packet comes from one host for a local address, and no loopback address is in it
+-- a packet comes from one other host for a local address, and no loopback address is in it
 abbrev pub is_plain : InnerValue → Ipv4Repr → Bool
 is_plain i header =
     not (is_loopback_v4 header.src_addr || is_loopback_v4 header.dst_addr) && is_sender i header.src_addr && is_local i (Address.Ipv4 header.dst_addr)
+    && not (never_comes i (Address.Ipv4 header.src_addr) (Address.Ipv4 header.dst_addr))
 
 -- it is whole, too
 abbrev pub is_fast : InnerValue → Ipv4Repr → Ipv4Fragment → Bool

@@ -84,22 +84,23 @@ all_nodes = record { 0 = 0xff ∷ 2 ∷ replicate 13 0 ++ 1 ∷ [] }
 abbrev pub told_at : Ipv6Address → Ipv6Address
 told_at asker = if is_unspecified_v6 asker then all_nodes else asker
 
-abbrev pub flags_for : Ipv6Address → NdiscNeighborFlags
-flags_for asker = record { router = false; solicited = not (is_unspecified_v6 asker); overrides = false }
+abbrev pub flags_for : Bool → Ipv6Address → NdiscNeighborFlags
+flags_for overrides asker = record { router = false; solicited = not (is_unspecified_v6 asker); overrides = overrides }
 
 -- the own link address, from the target
 abbrev pub advertisement_header : Ipv6Address → Ipv6Address → Ipv6Repr
 advertisement_header target to =
     record { src_addr = target; dst_addr = to; next_header = Protocol.Icmpv6; payload_len = 32; hop_limit = 255 }
 
-abbrev pub advertisement : EthernetAddress → Ipv6Address → Ipv6Address → PacketValue
-advertisement local target asker =
+abbrev pub advertisement : Bool → EthernetAddress → Ipv6Address → Ipv6Address → PacketValue
+advertisement overrides local target asker =
     packet_of (Ip.Ipv6 (advertisement_header target (told_at asker)))
-    (ControlV6 (Icmpv6.Ndisc (Advertisement (flags_for asker) target (Some local.0))) [])
+    (ControlV6 (Icmpv6.Ndisc (Advertisement (flags_for overrides asker) target (Some local.0))) [])
 
+-- with host requirements it replaces what who asked knew: an own address is one host's alone (RFC 4861, section 7.2.4)
 abbrev pub answer : EthernetAddress → InnerValue → Ipv6Repr → Ipv6Address → Option PacketValue
 answer local i header target =
-    if is_asked i header target then Some (advertisement local target header.src_addr) else None
+    if is_asked i header target then Some (advertisement i.host_requirements local target header.src_addr) else None
 
 -- ARRIVAL of a message in a packet with this header, at this Ethernet address; a medium without hardware addresses has no
 -- neighbour messages

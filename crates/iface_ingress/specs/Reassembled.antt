@@ -25,7 +25,7 @@ use Rattle.wire_ipv6_headers.specs.declared.headers.Following.TheVariants as End
 use Rattle.iface_tables.specs.contracts.key.FragKeyPartialEq.TheImpl as Key
 use Rattle.iface_tables.specs.declared.key.FragKey.{FragKey}
 use Rattle.iface_tables.specs.declared.key.FragKey.TheVariants as Keys
-use Rattle.iface_tables.specs.Inner.{InnerValue, is_local_solicited_node, is_foreign_loopback}
+use Rattle.iface_tables.specs.Inner.{InnerValue, is_local_solicited_node, is_foreign_loopback, never_comes}
 use Rattle.iface_tables.specs.Reassembly.{AssemblerValue, freed, assembler_index_for}
 use Rattle.iface_tables.specs.Assemblers.{changed_at, completed_at, with_fragment_of, overlaps_datagram, without_datagram}
 
@@ -61,9 +61,10 @@ abbrev pub is_sender_v6 : InnerValue → Ipv6Repr → Bool
 is_sender_v6 i header = is_unicast_v6 header.src_addr || is_probe i header
 
 -- a packet from or to a loopback address comes to a host alone that has one of its family (RFC 1122, section 3.2.1.3; RFC 4291,
--- section 2.5.3)
+-- section 2.5.3), and one between addresses that are never seen on a link to none
 abbrev pub is_astray : InnerValue → IpAddress → IpAddress → Bool
-is_astray i source destination = is_foreign_loopback i source || is_foreign_loopback i destination
+is_astray i source destination =
+    is_foreign_loopback i source || (is_foreign_loopback i destination || never_comes i source destination)
 
 -- what the host takes in of a frame's content
 abbrev pub is_taken_in : InnerValue → IncomingValue → Bool

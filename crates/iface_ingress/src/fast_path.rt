@@ -17,8 +17,8 @@ use crate::reassemble::{is_fragment, is_sender, passes_filter};
 use crate::reply::Reply;
 use iface_egress::{InterfaceInner, Slots};
 use ip_wire::{
-    EthernetFrame, EthernetProtocol, EthernetRepr, HardwareAddress, IpCidr, IpRepr, Ipv4Address,
-    Ipv4Fragment, Ipv4Packet, Ipv4Repr,
+    EthernetFrame, EthernetProtocol, EthernetRepr, HardwareAddress, IpAddress, IpCidr, IpRepr,
+    Ipv4Address, Ipv4Fragment, Ipv4Packet, Ipv4Repr,
 };
 use sockets::{Context, Socket};
 
@@ -150,13 +150,17 @@ fn is_fast(inner: &InterfaceInner, header: &Ipv4Repr, fragment: Ipv4Fragment) ->
     !is_fragment(fragment) && is_plain(inner, header)
 }
 
-/// Whether a packet comes from one host for a local address, and no loopback address is in it.
+/// Whether a packet comes from one other host for a local address, and no loopback address is in it.
 fn is_plain(inner: &InterfaceInner, header: &Ipv4Repr) -> bool
     ensures { result ≡ is_plain inner.now header.now }
 {
     !(header.src_addr.is_loopback() || header.dst_addr.is_loopback())
         && is_sender(inner, &header.src_addr)
         && is_local(inner, &header.dst_addr)
+        && !inner.never_comes(
+            &IpAddress::Ipv4(header.src_addr),
+            &IpAddress::Ipv4(header.dst_addr),
+        )
 }
 
 /// Whether this is a local address, without making one of either family of it.

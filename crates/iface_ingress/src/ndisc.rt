@@ -46,9 +46,10 @@ pub fn hear(
                 return None;
             }
             let asked = is_asked(inner, header, target_addr);
+            let overrides = inner.host_requirements();
             learn(inner, header.src_addr, lladdr);
             if asked {
-                Some(advertisement(&local, *target_addr, header.src_addr))
+                Some(advertisement(overrides, &local, *target_addr, header.src_addr))
             } else {
                 None
             }
@@ -189,27 +190,28 @@ fn told_at(asker: Ipv6Address) -> Ipv6Address
 }
 
 /// What is said of an answer to who asked.
-fn flags_for(asker: &Ipv6Address) -> NdiscNeighborFlags
-    ensures { result ≡ flags_for asker.now }
+fn flags_for(overrides: bool, asker: &Ipv6Address) -> NdiscNeighborFlags
+    ensures { result ≡ flags_for overrides asker.now }
 {
     NdiscNeighborFlags {
         router: false,
         solicited: !asker.is_unspecified(),
-        overrides: false,
+        overrides,
     }
 }
 
 /// The packet that tells who asked the link address of a target, which is the own one.
 fn advertisement(
+    overrides: bool,
     local: &EthernetAddress,
     target_addr: Ipv6Address,
     asker: Ipv6Address,
 ) -> Packet<'static>
-    ensures packet { packet_value result ≡ advertisement local.now target_addr asker }
+    ensures packet { packet_value result ≡ advertisement overrides local.now target_addr asker }
     ensures sendable { IsSendable (packet_value result) }
 {
     let message = Icmpv6Repr::Ndisc(NdiscRepr::NeighborAdvert {
-        flags: flags_for(&asker),
+        flags: flags_for(overrides, &asker),
         target_addr,
         lladdr: Some(RawHardwareAddress::from(*local)),
     });

@@ -146,11 +146,13 @@ pub(crate) fn is_control(protocol: IpProtocol) -> bool
     }
 }
 
-/// Whether one of a packet's addresses is a loopback address of a family of which the host has none.
+/// Whether one of a packet's addresses is a loopback address of a family of which the host has none, or the two are never seen on a link.
 fn is_astray(inner: &InterfaceInner, source: &IpAddress, destination: &IpAddress) -> bool
     ensures { result ≡ is_astray inner.now source.now destination.now }
 {
-    inner.is_foreign_loopback(source) || inner.is_foreign_loopback(destination)
+    inner.is_foreign_loopback(source)
+        || inner.is_foreign_loopback(destination)
+        || inner.never_comes(source, destination)
 }
 
 /// Whether an IPv4 packet is one fragment of its datagram.

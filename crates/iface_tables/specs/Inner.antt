@@ -35,8 +35,9 @@ use Rattle.iface_tables.specs.declared.route.Route.{Route}
 -- that has none; the longest IP packet of a frame; the checksums that the stack handles itself; the key of 16 bytes by which first
 -- numbers of connections are told, if there is one; the local addresses, and whether every address is one; the routes, how many there can
 -- be, and the neighbours;
--- the identification of the next IPv4 datagram; the instant up to which errors that went are counted; what was told of paths; and
--- whether nothing ran yet.
+-- the identification of the next IPv4 datagram; the instant up to which errors that went are counted; what was told of paths;
+-- whether nothing ran yet; and whether it does what RFC 1122 and the standards after it ask of a host on a network of many, where smoltcp
+-- does otherwise.
 pub record InnerValue : Type 0 where
   pub instant : ℤ
   pub random : ℕ
@@ -53,6 +54,7 @@ pub record InnerValue : Type 0 where
   pub errors_until : ℤ
   pub paths : List Path
   pub initial : Bool
+  pub host_requirements : Bool
 
 -- OWN ADDRESSES
 
@@ -122,6 +124,20 @@ abbrev pub is_for_us : InnerValue → IpAddress → Bool
 is_for_us i address =
     is_local i address || is_member_of i address || is_local_broadcast i address || is_loopback_in address
 
+-- a local address: nobody else sends from it
+abbrev pub is_local_source : InnerValue → IpAddress → Bool
+is_local_source i source = not (is_unspecified source) && list_any (is_address_of source) i.addresses
+
+-- ::ffff:0:0/96, whose addresses stand for IPv4 ones within a host (RFC 4291, section 2.5.5.2)
+abbrev pub is_mapped : IpAddress → Bool
+is_mapped (Ip.Ipv4 a) = false
+is_mapped (Ip.Ipv6 a) = bytes_eq (take 12 a.0) (replicate 10 0 ++ 0xff ∷ 0xff ∷ [])
+
+-- With host requirements no packet comes over a device from a local address, and none from or to an IPv4-mapped one (RFC 1122, section
+-- 3.2.1.3; RFC 4942, section 2.2).
+abbrev pub never_comes : InnerValue → IpAddress → IpAddress → Bool
+never_comes i source destination = i.host_requirements && (is_local_source i source || (is_mapped source || is_mapped destination))
+
 -- ADDRESSES THAT STAY IN A HOST, AND SOURCES (RFC 1122, section 3.2.1.3; RFC 4291, sections 2.5.3 and 2.7)
 
 abbrev pub is_loopback_of : IpAddress → IpCidr → Bool
@@ -131,11 +147,22 @@ is_loopback_of address cidr = is_loopback (cidr_address cidr) && are_of_one_fami
 abbrev pub is_foreign_loopback : InnerValue → IpAddress → Bool
 is_foreign_loopback i address = is_loopback address && not (list_any (is_loopback_of address) i.addresses)
 
+-- 255.255.255.255
+abbrev pub is_limited_broadcast : IpAddress → Bool
+is_limited_broadcast (Ip.Ipv4 a) = is_broadcast_v4 a
+is_limited_broadcast (Ip.Ipv6 a) = false
+
+-- With host requirements nothing comes from the unspecified address, but what goes to all hosts of the network, as a client of DHCP asks
+-- for an address (RFC 1122, section 3.2.1.3; RFC 2131, section 4.1; RFC 4291, section 2.5.2).
+abbrev pub is_nameless : InnerValue → IpAddress → IpAddress → Bool
+is_nameless i source destination = is_unspecified source && (i.host_requirements && not (is_limited_broadcast destination))
+
 -- A packet for this destination may come from this address: it is that of all hosts or of a group never, and a loopback address
 -- only where the destination is one, too.
 abbrev pub may_be_source : InnerValue → IpAddress → IpAddress → Bool
 may_be_source i source destination =
-    not (is_local_broadcast i source || is_multicast source) && (not (is_loopback source) || is_loopback destination)
+    not (is_local_broadcast i source || (is_multicast source || is_nameless i source destination))
+    && (not (is_loopback source) || is_loopback destination)
 
 -- WAY OUT
 

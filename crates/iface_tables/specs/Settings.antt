@@ -31,7 +31,18 @@ table_room = 4
 
 abbrev pub default_config : HardwareAddress → Config
 default_config hardware =
-    record { random_seed = 0; hardware_addr = hardware; isn_key = None; neighbor_cache_count = table_room; max_route_count = table_room }
+    record {
+      random_seed = 0;
+      hardware_addr = hardware;
+      isn_key = None;
+      neighbor_cache_count = table_room;
+      max_route_count = table_room;
+      host_requirements = false;
+    }
+
+-- the same on a network of many
+abbrev pub network_config : HardwareAddress → Config
+network_config hardware = record (default_config hardware) { neighbor_cache_count = 256; host_requirements = true }
 
 abbrev pub is_of_medium : HardwareAddress → Medium → Bool
 is_of_medium Hardware.Ip Medium.Ethernet = false
@@ -83,6 +94,7 @@ made config device instant = record {
   errors_until = pos 0;
   paths = [];
   initial = true;
+  host_requirements = config.host_requirements;
 }
 
 -- A refusal has its reason. Without one it is made, or there is no memory for it.

@@ -1,7 +1,7 @@
 //! How a host is made, and what its settings refuse.
 ghost use Rattle.std.specs.Prelude.{◌≡◌};
 ghost use Rattle.iface_tables.specs.Refusals.{new_error_text, hardware_addr_error_text};
-ghost use Rattle.iface_tables.specs.Settings.{default_config, is_of_medium, is_unicast_hardware, is_mtu, refusal};
+ghost use Rattle.iface_tables.specs.Settings.{default_config, network_config, is_of_medium, is_unicast_hardware, is_mtu, refusal};
 
 use ip_wire::{HardwareAddress, IPV4_MIN_MTU};
 use net_base::{DeviceCapabilities, Instant, Medium};
@@ -9,6 +9,9 @@ use std::fmt;
 
 /// How many local addresses a host keeps, and how many neighbours and routes where its configuration names no other number.
 pub const TABLE_ROOM: usize = 4;
+
+/// How many neighbours a host keeps on a network of many.
+const NETWORK_NEIGHBORS: usize = 256;
 
 /// The longest IPv4 packet.
 const MAX_MTU: usize = 65_535;
@@ -27,10 +30,12 @@ pub struct Config {
     pub neighbor_cache_count: usize,
     /// How many routes are kept at a time.
     pub max_route_count: usize,
+    /// Whether the host does what RFC 1122 and the standards after it ask of a host on a network of many, where smoltcp does otherwise.
+    pub host_requirements: bool,
 }
 
 impl Config {
-    /// This hardware address, random words of the seed 0, no key, and tables of four neighbours and four routes.
+    /// This hardware address, random words of the seed 0, no key, tables of four neighbours and four routes, and smoltcp's ways.
     pub fn new(hardware_addr: HardwareAddress) -> Config
         ensures { result ≡ default_config hardware_addr }
     {
@@ -40,6 +45,18 @@ impl Config {
             isn_key: None,
             neighbor_cache_count: TABLE_ROOM,
             max_route_count: TABLE_ROOM,
+            host_requirements: false,
+        }
+    }
+
+    /// The same, but for a network of many: with host requirements, and a table of 256 neighbours.
+    pub fn with_host_requirements(hardware_addr: HardwareAddress) -> Config
+        ensures { result ≡ network_config hardware_addr }
+    {
+        Config {
+            neighbor_cache_count: NETWORK_NEIGHBORS,
+            host_requirements: true,
+            ..Config::new(hardware_addr)
         }
     }
 }

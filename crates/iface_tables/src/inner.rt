@@ -12,6 +12,7 @@ ghost use Rattle.iface_tables.specs.Neighbor as Neighbors;
 ghost use Rattle.iface_tables.specs.PathMtu.{some_count};
 ghost use Rattle.iface_tables.specs.Inner.{is_local, is_address_of, is_on_local_network, is_this, is_broadcast_of, is_local_broadcast, is_all_systems};
 ghost use Rattle.iface_tables.specs.Inner.{is_all_nodes, solicits, solicits_cidr, is_local_solicited_node, is_probed, is_member_of, is_loopback_in};
+ghost use Rattle.iface_tables.specs.Inner.{is_limited_broadcast, is_nameless, is_local_source, is_mapped, never_comes};
 ghost use Rattle.iface_tables.specs.Inner.{is_for_us, is_loopback_of, is_foreign_loopback, may_be_source, next_hop, group_hardware_addr, link_by, link_address};
 ghost use Rattle.iface_tables.specs.Inner.{is_known_hop, has_neighbor, is_in_link_prefix, is_on_link, at_instant};
 ghost use Rattle.iface_tables.specs.Inner.{with_next_ident, with_neighbor, with_renewal, with_request, awaited_hop};
@@ -32,12 +33,15 @@ use ip_wire::{
 };
 use net_base::{ChecksumCapabilities, DeviceCapabilities, Duration, Instant, Rand};
 use socket_context::Context;
-use socket_context::addresses::{are_of_one_family, is_multicast, is_same_address};
+use socket_context::addresses::{are_of_one_family, is_multicast, is_same_address, is_unspecified};
 use std::alloc::Global;
 use std::marker::Model;
 
 /// The first half of each link-local address, `fe80::/64`.
 const LINK_PREFIX: [u8; 8] = [0xfe, 0x80, 0, 0, 0, 0, 0, 0];
+
+/// The first bytes of each IPv6 address that stands for an IPv4 one, `::ffff:0:0/96`.
+const MAPPED_PREFIX: [u8; 12] = [0, 0, 0, 0, 0, 0, 0, 0, 0, 0, 0xff, 0xff];
 
 /// A host alongside its sockets and its slots.
 #[derive(Debug, Drop)]
@@ -56,6 +60,7 @@ pub struct InterfaceInner {
     errors_until: Instant,
     paths: Paths,
     is_fresh: bool,
+    host_requirements: bool,
 }
 
 impl Model for InterfaceInner {
@@ -82,6 +87,7 @@ impl Model for InterfaceInner {
       errors_until = i.errors_until;
       paths = i.paths;
       initial = i.is_fresh;
+      host_requirements = i.host_requirements;
     } };
 
     ghost invariant = { λ i. IsMoment i.instant × (576 ≤ i.ip_mtu) × (i.ip_mtu ≤ 65535) };
@@ -123,6 +129,7 @@ impl InterfaceInner {
             errors_until: Instant::ZERO,
             paths: Paths::new(),
             is_fresh: true,
+            host_requirements: config.host_requirements,
         })
     }
 
@@ -154,6 +161,13 @@ impl InterfaceInner {
         ensures { result ≡ self.now.initial }
     {
         self.is_fresh
+    }
+
+    /// Whether the host does what RFC 1122 and the standards after it ask of a host on a network of many, where smoltcp does otherwise.
+    pub fn host_requirements(&self) -> bool
+        ensures { result ≡ self.now.host_requirements }
+    {
+        self.host_requirements
     }
 
     /// The local addresses with their networks.
@@ -309,8 +323,34 @@ impl InterfaceInner {
     pub fn may_be_source(&self, source: &IpAddress, destination: &IpAddress) -> bool
         ensures { result ≡ may_be_source self.now source.now destination.now }
     {
-        !(self.is_broadcast(source) || is_multicast(source))
+        !(self.is_broadcast(source)
+            || is_multicast(source)
+            || self.is_nameless(source, destination))
             && (!is_loopback(source) || is_loopback(destination))
+    }
+
+    /// Whether a packet from the unspecified address to this one would say nothing of who sends it, which a host on a network of many
+    /// never does.
+    fn is_nameless(&self, source: &IpAddress, destination: &IpAddress) -> bool
+        ensures { result ≡ is_nameless self.now source.now destination.now }
+    {
+        is_unspecified(source) && self.host_requirements && !is_limited_broadcast(destination)
+    }
+
+    /// Whether no packet between these addresses comes over a device, on a network of many: it says that it is from here, or one of
+    /// them stands for an IPv4 address.
+    pub fn never_comes(&self, source: &IpAddress, destination: &IpAddress) -> bool
+        ensures { result ≡ never_comes self.now source.now destination.now }
+    {
+        self.host_requirements
+            && (self.is_local_source(source) || is_mapped(source) || is_mapped(destination))
+    }
+
+    /// Whether this is a local address, but the unspecified one.
+    fn is_local_source(&self, source: &IpAddress) -> bool
+        ensures { result ≡ is_local_source self.now source.now }
+    {
+        !is_unspecified(source) && is_in_list(self.ip_addrs.as_slice(), source)
     }
 }
 
@@ -691,6 +731,29 @@ fn is_loopback(address: &IpAddress) -> bool
     match address {
         IpAddress::Ipv4(address) => address.is_loopback(),
         IpAddress::Ipv6(address) => address.is_loopback(),
+    }
+}
+
+/// Whether this is the address of all hosts of the network that the packet is in.
+fn is_limited_broadcast(address: &IpAddress) -> bool
+    ensures { result ≡ is_limited_broadcast address.now }
+{
+    match address {
+        IpAddress::Ipv4(address) => address.is_broadcast(),
+        IpAddress::Ipv6(_) => false,
+    }
+}
+
+/// Whether this IPv6 address stands for an IPv4 one.
+fn is_mapped(address: &IpAddress) -> bool
+    ensures { result ≡ is_mapped address.now }
+{
+    match address {
+        IpAddress::Ipv4(_) => false,
+        IpAddress::Ipv6(address) => {
+            let (prefix, _) = address.0.split_at(12);
+            prefix == MAPPED_PREFIX.as_slice()
+        }
     }
 }
 

@@ -82,6 +82,20 @@ keeps_in i i' same =
       route_room = i.route_room;
       initial = x;
     }) same.initial
+    ∙ ap (λ x. record i' {
+      instant = i.instant;
+      hardware = i.hardware;
+      mtu = i.mtu;
+      checksums = i.checksums;
+      isn_key = i.isn_key;
+      addresses = i.addresses;
+      any_ip = i.any_ip;
+      routes =
+          i.routes;
+      route_room = i.route_room;
+      initial = i.initial;
+      host_requirements = x;
+    }) same.host_requirements
 
 pub settings_kept : (t : ℤ) (i i' : InnerValue) → KeepsSettings (at_instant t i) i' → HasSettingsOf i i'
 settings_kept t i i' keeps = record {
@@ -91,6 +105,7 @@ settings_kept t i i' keeps = record {
   addresses = ap (λ (x : InnerValue). x.addresses) keeps;
   isn_key = ap (λ (x : InnerValue). x.isn_key) keeps;
   any_ip = ap (λ (x : InnerValue). x.any_ip) keeps;
+  host_requirements = ap (λ (x : InnerValue). x.host_requirements) keeps;
   routes = ap (λ (x : InnerValue). x.routes) keeps;
 }
 
@@ -102,5 +117,6 @@ settings_then a b c first second = record {
   addresses = second.addresses ∙ first.addresses;
   isn_key = second.isn_key ∙ first.isn_key;
   any_ip = second.any_ip ∙ first.any_ip;
+  host_requirements = second.host_requirements ∙ first.host_requirements;
   routes = second.routes ∙ first.routes;
 }

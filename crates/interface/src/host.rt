@@ -88,6 +88,13 @@ impl Interface {
         self.inner.hardware_addr()
     }
 
+    /// Whether the host does what RFC 1122 and the standards after it ask of a host on a network of many, where smoltcp does otherwise.
+    pub fn host_requirements(&self) -> bool
+        ensures { result ≡ self.now.inner.host_requirements }
+    {
+        self.inner.host_requirements()
+    }
+
     /// The local addresses with their networks.
     pub fn ip_addrs(&self) -> &[IpCidr]
         ensures { result.now ≡ self.now.inner.addresses }

@@ -15,7 +15,7 @@ pub enum WorldError {
     Mtu,
     /// A TCP socket has a buffer of no bytes.
     Buffers,
-    /// A host has been used, or has a client of DHCP or DNS, which sends datagrams by itself.
+    /// A host has been used, has a client of DHCP or DNS, which sends datagrams by itself, or does what is asked of a host on a network of many.
     NotFresh,
     /// A growth was refused.
     Memory,
@@ -42,7 +42,8 @@ fn world_error_text(error: WorldError) -> &'static str
         WorldError::Checksums => "a checksum is off",
         WorldError::Mtu => "an IP MTU is out of 576 to 65535 bytes",
         WorldError::Buffers => "a TCP buffer of no bytes",
-        WorldError::NotFresh => "a host was used before, or has a client of DHCP or DNS",
+        WorldError::NotFresh =>
+            "a host was used before, has a client of DHCP or DNS, or host requirements",
         WorldError::Memory => "out of memory",
     }
 }

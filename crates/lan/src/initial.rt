@@ -118,6 +118,7 @@ fn is_fresh(host: &Host) -> bool
         && host.port.sent().is_empty()
         && host.port.waiting().is_empty()
         && are_unused(&host.sockets)
+        && !host.interface.host_requirements()
 }
 
 fn are_unused(sockets: &SocketSet<Socket>) -> bool

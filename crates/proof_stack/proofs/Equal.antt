@@ -467,11 +467,13 @@ Decides-scoreboard a b =
 pub Decides-undo : (a b : Undo) → Decides (Undoing.ghosts.eq a b) (a ≡ b)
 Decides-undo a b =
     let all =
-    Decides-and _ _ (Decides-reno a.reno b.reno) (Decides-option (λ (x y : ℕ). x == y) Decides-eqb a.tsval b.tsval) in (
+    Decides-and _ _ (Decides-reno a.reno b.reno)
+    (Decides-and _ _ (Decides-option (λ (x y : ℕ). x == y) Decides-eqb a.tsval b.tsval)
+    (Decides-option (λ (x y : ℤ). int_eq x y) Decides-int_eq a.answers_from b.answers_from)) in (
       λ yes.
           let parts = all.0 yes in
-          λ i. record { reno = parts.0 i; tsval = parts.1 i },
-      λ e. all.1 (both (ap (λ (v : Undo). v.reno) e) (ap (λ (v : Undo). v.tsval) e)),
+          λ i. record { reno = parts.0 i; tsval = parts.1.0 i; answers_from = parts.1.1 i },
+      λ e. all.1 (both (ap (λ (v : Undo). v.reno) e) (both (ap (λ (v : Undo). v.tsval) e) (ap (λ (v : Undo). v.answers_from) e))),
     )
 
 pub Decides-loss : (a b : Loss) → Decides (Lost.ghosts.eq a b) (a ≡ b)

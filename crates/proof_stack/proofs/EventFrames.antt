@@ -21,7 +21,7 @@ use Rattle.iface_egress.specs.declared.plan.Plan.TheVariants as Way
 use Rattle.iface_ingress.specs.Packet.{Segment, packet_of}
 use Rattle.iface_ingress.specs.Sent.{AreSealed, CanBeRead}
 use Rattle.iface_ingress.specs.WellFormed.{IsWellFormed}
-use Rattle.iface_tables.specs.Inner.{InnerValue, link_address, may_be_source, mtu_to}
+use Rattle.iface_tables.specs.Inner.{InnerValue, is_limited_broadcast, link_address, may_be_source, mtu_to}
 use Rattle.iface_tables.specs.PathMtu.{least_mtu, mtu_by, mtu_towards, narrowed, path_to}
 use Rattle.iface_tables.specs.declared.link.LinkAddress.{LinkAddress}
 use Rattle.iface_tables.specs.declared.link.LinkAddress.TheVariants as Link
@@ -72,12 +72,15 @@ stayed first i seen = record {
   addresses = seen.addresses;
   isn_key = seen.isn_key;
   any_ip = seen.any_ip;
+  host_requirements = seen.host_requirements;
   routes = refl;
 }
 
 module _ (i i' : InnerValue) (same : HasSettingsOf i i') where
   may_come : (a b : IpAddress) → may_be_source i' a b ≡ may_be_source i a b
-  may_come a b k = not (broadcast i i' same a k || is_multicast a) && (not (is_loopback a) || is_loopback b)
+  may_come a b k =
+      not (broadcast i i' same a k || (is_multicast a || (is_unspecified a && (same.host_requirements k && not (is_limited_broadcast b)))))
+      && (not (is_loopback a) || is_loopback b)
 
   pub never_same : (ip : IpRepr) → never_leaves i' ip ≡ never_leaves i ip
   never_same ip k =

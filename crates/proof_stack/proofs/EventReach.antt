@@ -15,7 +15,7 @@ use Rattle.iface_egress.specs.Plan.{never_leaves}
 use Rattle.iface_ingress.specs.Processed.{is_for_many}
 use Rattle.iface_ingress.specs.Reassembled.{is_astray}
 use Rattle.iface_ingress.proofs.LocalSources.{own_of}
-use Rattle.iface_tables.specs.Inner.{InnerValue, is_broadcast_of, is_foreign_loopback, is_for_us, is_local_broadcast, is_loopback_in, is_loopback_of, may_be_source}
+use Rattle.iface_tables.specs.Inner.{InnerValue, is_broadcast_of, is_foreign_loopback, is_for_us, is_local_broadcast, is_limited_broadcast, is_loopback_in, is_loopback_of, may_be_source, never_comes}
 use Rattle.tcp_state.specs.Endpoints.{local_of, remote_of}
 use Rattle.tcp_state.specs.declared.endpoints.FourTuple.{FourTuple}
 use Rattle.tcp_state.specs.declared.state.State.{State as TcpState}
@@ -79,10 +79,13 @@ no_loop : (loop any : Bool) → (loop && not any) ≡ false → any ≡ false �
 no_loop true any is none = clash ((λ k. not (sym none k)) ∙ is)
 no_loop false any is none = refl
 
-may_so : (many loop far : Bool) → many ≡ false → loop ≡ false → (not many && (not loop || far)) ≡ true
-may_so false false far one two = refl
-may_so true loop far one two = clash one
-may_so false true far one two = clash two
+may_so : (all group nobody many loop far : Bool) → (all || group) ≡ false → nobody ≡ false → loop ≡ false
+    → (not (all || (group || (nobody && many))) && (not loop || far)) ≡ true
+may_so false false false many false far one two three = refl
+may_so true group nobody many loop far one two three = clash one
+may_so false true nobody many loop far one two three = clash one
+may_so false false true many loop far one two three = clash two
+may_so false false false many true far one two three = clash three
 
 leaves_so : (nowhere foreign may : Bool) → nowhere ≡ false → foreign ≡ false → may ≡ true → (nowhere || (foreign || not may)) ≡ false
 leaves_so false false true one two three = refl
@@ -118,6 +121,7 @@ outward_so (Address.Ipv6 a) outward = outward
 -- what a segment that came between two hosts tells of a host without loopback addresses
 pub record AreHosts (i : InnerValue) (pair : FourTuple) : Type 0 where
   pub remote : is_unspecified (remote_of pair.addresses) ≡ false
+  pub local : is_unspecified (local_of pair.addresses) ≡ false
   pub one : is_for_many i (local_of pair.addresses) ≡ false
   pub remote_here : is_foreign_loopback i (remote_of pair.addresses) ≡ false
   pub outward : is_loopback (local_of pair.addresses) ≡ false
@@ -128,12 +132,14 @@ are_hosts i pair outward between =
     let from : IpAddress = remote_of pair.addresses in
     let one = no_or (is_unspecified from) (is_unspecified to || (is_local_broadcast i to || is_multicast to)) between.somebody in
     let two = no_or (is_unspecified to) (is_local_broadcast i to || is_multicast to) one.1 in
-    let home = no_or (is_foreign_loopback i from) (is_foreign_loopback i to) between.here in
+    let home = no_or (is_foreign_loopback i from) (is_foreign_loopback i to || never_comes i from to) between.here in
+    let here = no_or (is_foreign_loopback i to) (never_comes i from to) home.1 in
     record {
       remote = one.0;
+      local = two.0;
       one = two.1;
       remote_here = home.0;
-      outward = no_loop (is_loopback to) (list_any (is_loopback_of to) i.addresses) home.1 (none_such to i.addresses outward);
+      outward = no_loop (is_loopback to) (list_any (is_loopback_of to) i.addresses) here.0 (none_such to i.addresses outward);
     }
 
 back : (side : Side) → other (other side) ≡ side
@@ -158,7 +164,8 @@ module _ (starts : Starts) (pairs : Side → FourTuple) where
         (λ k. is_unspecified (along.destination k)
         || (is_foreign_loopback i (along.destination k) || not (may_be_source i (along.source k) (along.destination k))))
         ∙ leaves_so (is_unspecified destination) (is_foreign_loopback i destination) (may_be_source i source destination) is.remote is.remote_here
-        (may_so (is_for_many i source) (is_loopback source) (is_loopback destination) is.one is.outward)
+        (may_so (is_local_broadcast i source) (is_multicast source) (is_unspecified source)
+        (i.host_requirements && not (is_limited_broadcast destination)) (is_loopback source) (is_loopback destination) is.one is.local is.outward)
 
     comes : (side : Side) (ip : IpRepr) → GoesAlong (pairs side) ip → IsForHost (first (other side)) Hardware.Ip ip
     comes side ip along =

@@ -44,7 +44,7 @@ use Rattle.tcp_block.specs.Payload.{DataStored, data_stored, with_payload, with_
 use Rattle.tcp_block.specs.Payload.{fin_taken}
 use Rattle.tcp_block.specs.Timeout.{timeout_end, timeout_started, timed_out}
 use Rattle.tcp_block.specs.Timestamps.{tsval_taken, tsecr_taken}
-use Rattle.tcp_block.specs.Undone.{undone}
+use Rattle.tcp_block.specs.Undone.{undone, reordering_hinted}
 use Rattle.tcp_block.specs.Value.{TcpValue, Arrived, with_tcb, dropped, answered_with, unoffered, ended, queued_in, free_in, room_of}
 use Rattle.tcp_block.specs.declared.tcb.Tcb.{Tcb}
 
@@ -198,7 +198,7 @@ tsecr_ends : (v : TcpValue) (header : TcpHeader) (by : ℕ) (now : ℤ)
     → (acknowledged (tsecr_heard v header by now) by now).tcb.state ≡ (tcb_acknowledged v.tcb by (queued_in v) now).state
 tsecr_ends v header by now = either (is_closed (state_after_ack v.tcb by (queued_in v))) where
   either : (ends : Bool)
-      → (ended_if ends (in_state (una_moved (tsecr_taken (undone v.tcb header by (queued_in v)) header by now) by (queued_in v) now)
+      → (ended_if ends (in_state (una_moved (reordering_hinted (tsecr_taken (undone v.tcb header by (queued_in v)) header by now) by now) by (queued_in v) now)
       (state_after_ack v.tcb by (queued_in v)) now)).state
       ≡ (ended_if ends (in_state (una_moved v.tcb by (queued_in v) now) (state_after_ack v.tcb by (queued_in v)) now)).state
   either true = refl

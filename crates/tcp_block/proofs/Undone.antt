@@ -5,7 +5,7 @@ use Rattle.ip_wire.specs.TcpHeader.{TcpHeader}
 use Rattle.tcp_state.specs.Reno as reno
 use Rattle.tcp_block.specs.Acknowledged.{freed_by}
 use Rattle.tcp_block.specs.TcbRules.{one_if}
-use Rattle.tcp_block.specs.Undone.{answers_undo, is_needless, prior_of, arrived_early, undone_if, undone}
+use Rattle.tcp_block.specs.Undone.{answers_undo, is_needless, prior_of, arrived_early, reo_wnd_raised, undone_if, undone}
 use Rattle.tcp_block.specs.declared.tcb.Tcb.{Tcb}
 use Rattle.tcp_block.specs.declared.tcb.Undo.{Undo}
 
@@ -13,7 +13,7 @@ use Rattle.tcp_block.specs.declared.tcb.Undo.{Undo}
 abbrev pub undone_by : Undo → Tcb → ℕ → Tcb
 undone_by u b queued = record b {
   sender = record b.sender { flight_size = max b.sender.flight_size (min b.sender.snd_max (one_if b.sender.syn_unacked + queued)); resend = false; recover = 0 };
-  loss = record b.loss { credit = 0; reo_wnd_mult = if arrived_early b then min b.loss.reo_wnd_mult 15 + 1 else b.loss.reo_wnd_mult };
+  loss = record b.loss { credit = 0; reo_wnd_mult = if arrived_early b then reo_wnd_raised b.loss else b.loss.reo_wnd_mult };
   reno = reno.restored b.reno u.reno;
 }
 
@@ -43,7 +43,7 @@ undone_cases b header by queued P stays restored = at (is_needless b header by q
   with_undo : Option Undo → Tcb
   with_undo o = record b {
     sender = record b.sender { flight_size = max b.sender.flight_size (min b.sender.snd_max (one_if b.sender.syn_unacked + queued)); resend = false; recover = 0 };
-    loss = record b.loss { credit = 0; reo_wnd_mult = if arrived_early b then min b.loss.reo_wnd_mult 15 + 1 else b.loss.reo_wnd_mult };
+    loss = record b.loss { credit = 0; reo_wnd_mult = if arrived_early b then reo_wnd_raised b.loss else b.loss.reo_wnd_mult };
     reno = prior_of o b.reno;
   }
 

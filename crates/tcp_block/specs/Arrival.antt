@@ -21,7 +21,7 @@ use Rattle.tcp_state.specs.States.{is_closed, is_answering, is_time_wait}
 use Rattle.tcp_block.specs.Payload.{DataStored, with_payload, with_fin}
 use Rattle.tcp_block.specs.Timeout.{timeout_restarted}
 use Rattle.tcp_block.specs.Timestamps.{tsval_taken, tsecr_taken, is_stale}
-use Rattle.tcp_block.specs.Undone.{undone}
+use Rattle.tcp_block.specs.Undone.{undone, reordering_hinted}
 use Rattle.tcp_block.specs.Value.{TcpValue, Arrived, with_tcb, dropped, answered_with, unoffered, queued_in, free_in, room_of}
 
 -- a FIN that arrives again in TIME-WAIT restarts it
@@ -48,9 +48,9 @@ is_before_window v header size = not (is_answering v.tcb.state) && lies_before v
 abbrev pub is_repeated : TcpValue → TcpHeader → ℕ → Bool
 is_repeated v header size = is_before_window v header size && has_length header size
 
--- The round trip that the echo of a segment tells of. Where it says that nothing was lost, that is undone first.
+-- The round trip that the echo of a segment tells of. Where it says that nothing was lost, that is undone first; how soon it comes is a hint.
 abbrev pub tsecr_heard : TcpValue → TcpHeader → ℕ → ℤ → TcpValue
-tsecr_heard v header by now = with_tcb v (tsecr_taken (undone v.tcb header by (queued_in v)) header by now)
+tsecr_heard v header by now = with_tcb v (reordering_hinted (tsecr_taken (undone v.tcb header by (queued_in v)) header by now) by now)
 
 -- Outside the window, with an acknowledgement that passes. The acknowledgement of a segment that lies just before the window is taken,
 -- since the remote may have nothing else to say it in: all that it sends may be old here.

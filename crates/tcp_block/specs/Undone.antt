@@ -1,7 +1,7 @@
 -- The first acknowledgement of payload since a loss may answer what was sent first, and not what was retransmitted: then nothing was lost, and what
 -- was done is undone (RFC 3522 and 4015). Only evidence says so: a timestamp, or that nothing was retransmitted yet. That the acknowledgement comes
 -- soon is none, since a path may have become faster.
-use Rattle.std.specs.Prelude.{ℕ, ◌+◌, ◌==◌, not, ◌&&◌, min, max, Bool, true, false, if◌then◌else◌, Option, Some, None}
+use Rattle.std.specs.Prelude.{ℕ, ◌+◌, ◌==◌, not, ◌&&◌, min, max, ℤ, int_lt, Bool, true, false, if◌then◌else◌, Option, Some, None}
 use Rattle.ip_wire.specs.TcpHeader.{TcpHeader}
 use Rattle.ip_wire.specs.TcpTimestampRepr.{TcpTimestampRepr}
 use Rattle.tcp_state.specs.Reno as reno
@@ -10,6 +10,7 @@ use Rattle.tcp_state.specs.Scoreboard.{is_empty}
 use Rattle.tcp_block.specs.Acknowledged.{freed_by}
 use Rattle.tcp_block.specs.TcbRules.{one_if}
 use Rattle.tcp_block.specs.Timestamps.{uses_stamps, is_older}
+use Rattle.tcp_block.specs.declared.tcb.Loss.{Loss}
 use Rattle.tcp_block.specs.declared.tcb.Tcb.{Tcb}
 use Rattle.tcp_block.specs.declared.tcb.Undo.{Undo}
 
@@ -40,6 +41,10 @@ prior_of (Some u) r = reno.restored r u.reno
 abbrev pub arrived_early : Tcb → Bool
 arrived_early b = b.reno.recovers && not (is_empty b.loss.board.runs)
 
+-- what is missing is waited for longer, at most 16 quarters of the shortest round trip
+abbrev pub reo_wnd_raised : Loss → ℕ
+reo_wnd_raised l = min l.reo_wnd_mult 15 + 1
+
 -- The window is as it was, recovery is over, nothing is to be retransmitted, and all that was sent of the send queue is in flight. Where a recovery
 -- began without need, since what was sent later was held, what is missing is waited for longer, in place of what a DSACK tells (RFC 8985, 6.2,
 -- step 4).
@@ -52,10 +57,30 @@ undone_if needless b queued = record b {
   };
   loss = record b.loss {
     credit = if needless then 0 else b.loss.credit;
-    reo_wnd_mult = if needless && arrived_early b then min b.loss.reo_wnd_mult 15 + 1 else b.loss.reo_wnd_mult;
+    reo_wnd_mult = if needless && arrived_early b then reo_wnd_raised b.loss else b.loss.reo_wnd_mult;
   };
   reno = if needless then prior_of b.loss.undo b.reno else b.reno;
 }
 
 abbrev pub undone : Tcb → TcpHeader → ℕ → ℕ → Tcb
 undone b header by queued = undone_if (is_needless b header by queued) b queued
+
+-- A HINT OF REORDERING
+
+abbrev pub is_sooner : ℤ → Option ℤ → Bool
+is_sooner now None = false
+is_sooner now (Some instant) = int_lt now instant
+
+abbrev pub precedes_answer : Option Undo → ℤ → Bool
+precedes_answer None now = false
+precedes_answer (Some u) now = is_sooner now u.answers_from
+
+-- Something new is acknowledged sooner behind what was retransmitted than the shortest round trip (RFC 8985, 6.2, step 2): what was sent first came
+-- late, or the path became faster.
+abbrev pub hints_reordering : Tcb → ℕ → ℤ → Bool
+hints_reordering b by now = not (by == 0) && (arrived_early b && precedes_answer b.loss.undo now)
+
+-- So what is missing is waited for longer. It is no evidence, so all else stays as it is.
+abbrev pub reordering_hinted : Tcb → ℕ → ℤ → Tcb
+reordering_hinted b by now =
+    record b { loss = record b.loss { reo_wnd_mult = if hints_reordering b by now then reo_wnd_raised b.loss else b.loss.reo_wnd_mult } }

@@ -163,6 +163,8 @@ pub struct Undo {
     pub reno: Reno,
     /// The timestamp of what first was retransmitted since then. None where nothing did.
     pub tsval: Option<u32>,
+    /// The shortest round trip after that: from then on an answer to it may come.
+    pub answers_from: Option<Instant>,
 }
 
 /// How the congestion window is used (RFC 7661).

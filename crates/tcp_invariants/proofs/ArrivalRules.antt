@@ -37,7 +37,7 @@ use Rattle.tcp_block.specs.Value.{TcpValue, Arrived, with_tcb, dropped, answered
 use Rattle.tcp_block.specs.declared.tcb.Tcb.{Tcb}
 use Rattle.tcp_block.specs.Isn.{isn, draws_number}
 use Rattle.tcp_block.specs.Timestamps.{believed, tsval_taken, tsecr_taken}
-use Rattle.tcp_block.specs.Undone.{undone}
+use Rattle.tcp_block.specs.Undone.{undone, reordering_hinted}
 use Rattle.tcp_block.proofs.Undone.{undone_by, undone_cases}
 use Rattle.tcp_block.specs.declared.tcb.Undo.{Undo}
 use Rattle.tcp_invariants.specs.Flight.{flight_of, IsArmed, IsPastAll}
@@ -134,15 +134,18 @@ module _ (cx : ContextValue) (ip : IpRepr) (header : TcpHeader) where
       (λ _. skips old w.tcb _ _ goes refl refl refl refl refl)
       (λ _. skips old w.tcb _ _ goes refl refl refl refl refl)
 
+  abbrev tcb_heard : Tcb → ℕ → Tcb
+  tcb_heard b by = reordering_hinted (tsecr_taken b header by cx.instant) by cx.instant
+
   -- An echo leaves what is in flight. Where a loss is undone all is in flight that was sent, and what is left of it has a timer.
   heard_goes : (b : Tcb) (by queued : ℕ)
-      → Goes b (tcb_acknowledged (tsecr_taken (undone b header by queued) header by cx.instant) by queued cx.instant)
+      → Goes b (tcb_acknowledged (tcb_heard (undone b header by queued) by) by queued cx.instant)
   heard_goes b by queued =
       undone_cases b header by queued
-      (λ (c : Tcb). Goes b (tcb_acknowledged (tsecr_taken c header by cx.instant) by queued cx.instant)) plain anew_armed
+      (λ (c : Tcb). Goes b (tcb_acknowledged (tcb_heard c by) by queued cx.instant)) plain anew_armed
     where
-      plain : Goes b (tcb_acknowledged (tsecr_taken b header by cx.instant) by queued cx.instant)
-      plain = let goes = acked_goes (tsecr_taken b header by cx.instant) by queued cx.instant in record { armed = goes.armed; rises = goes.rises }
+      plain : Goes b (tcb_acknowledged (tcb_heard b by) by queued cx.instant)
+      plain = let goes = acked_goes (tcb_heard b by) by queued cx.instant in record { armed = goes.armed; rises = goes.rises }
 
       none : (syn : Bool) → (min (0 - one_if syn) queued == 0) ≡ true
       none syn = ap (λ (n : ℕ). n == 0) (least (one_if syn)) where
@@ -158,10 +161,10 @@ module _ (cx : ContextValue) (ip : IpRepr) (header : TcpHeader) where
       never false = refl
 
       anew_armed : (u : Undo) → b.loss.undo ≡ Some u → (freed_by b by queued == 0) ≡ false
-          → Goes b (tcb_acknowledged (tsecr_taken (undone_by u b queued) header by cx.instant) by queued cx.instant)
+          → Goes b (tcb_acknowledged (tcb_heard (undone_by u b queued) by) by queued cx.instant)
       anew_armed u some frees = at (is_closed (state_after_ack (undone_by u b queued) by queued)) where
         c : Tcb
-        c = tsecr_taken (undone_by u b queued) header by cx.instant
+        c = tcb_heard (undone_by u b queued) by
 
         goes : Goes c (tcb_acknowledged c by queued cx.instant)
         goes = acked_goes c by queued cx.instant

@@ -11,7 +11,7 @@ use Rattle.tcp_block.specs.Acknowledged.{acks_local_syn, acks_in_recovery, recov
 use Rattle.tcp_block.specs.Acknowledged.{begins_recovery, counted, is_lost_since, is_missed, is_third}
 use Rattle.tcp_block.specs.LossRecovery.{is_first_lost, is_passed, may_be_late}
 use Rattle.tcp_block.specs.Rules.{backed_off_now}
-use Rattle.tcp_block.specs.Undone.{is_needless, undone}
+use Rattle.tcp_block.specs.Undone.{is_needless, reo_wnd_raised, undone}
 use Rattle.tcp_block.specs.Validation.{grown_if_used}
 use Rattle.tcp_block.specs.declared.tcb.Tcb.{Tcb}
 use Rattle.tcp_invariants.proofs.OrderSteps.{clash}
@@ -76,7 +76,7 @@ not_waited b count now over again passed = waits_not b count over again passed n
 
 -- PATIENCE
 
-patient : (b : Tcb) (needless early : Bool) → early ≡ false → (if needless && early then min b.loss.reo_wnd_mult 15 + 1 else b.loss.reo_wnd_mult) ≡ b.loss.reo_wnd_mult
+patient : (b : Tcb) (needless early : Bool) → early ≡ false → (if needless && early then reo_wnd_raised b.loss else b.loss.reo_wnd_mult) ≡ b.loss.reo_wnd_mult
 patient b true false e = refl
 patient b false early e = refl
 patient b true true e = clash e

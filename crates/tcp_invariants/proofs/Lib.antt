@@ -35,6 +35,7 @@ pub mod RescueRules
 pub mod RescueEnds
 pub mod NextSegRules
 pub mod BeginRules
+pub mod HintRules
 pub mod HoleRules
 pub mod WindowSteps
 pub mod WindowRules

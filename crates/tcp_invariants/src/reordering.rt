@@ -1,6 +1,6 @@
 //! What may only be late is waited for (RFC 8985, 6.2).
 
-ghost use Rattle.std.specs.Prelude.{◌≡◌, ◌≤◌, ◌*◌, ◌==◌, ◌||◌, ◌≤ℤ◌, ℕ, ℤ, Bool, true, false, List, None};
+ghost use Rattle.std.specs.Prelude.{◌≡◌, ◌≤◌, ◌*◌, ◌==◌, ◌||◌, ◌+◌, min, ◌<ℤ◌, ◌≤ℤ◌, ℕ, ℤ, Bool, true, false, List, Some, None};
 ghost use Rattle.ip_wire.specs.TcpHeader.{TcpHeader};
 ghost use Rattle.net_base.specs.Ring.{Ring};
 ghost use Rattle.tcp_state.specs.Reno.{reduced};
@@ -15,9 +15,10 @@ ghost use Rattle.tcp_block.specs.TcbRules.{past_snd_max};
 ghost use Rattle.tcp_block.specs.LossRecovery.{loss_lowered, loss_probed_by};
 ghost use Rattle.tcp_block.specs.Rules.{backed_off_now, resends};
 ghost use Rattle.tcp_block.specs.Settled.{sent_as};
-ghost use Rattle.tcp_block.specs.Undone.{undone};
+ghost use Rattle.tcp_block.specs.Undone.{undone, reordering_hinted};
 ghost use Rattle.tcp_block.specs.declared.tcb.Tcb.{Tcb};
 ghost use Rattle.tcp_block.specs.declared.tcb.Loss.{Loss};
+ghost use Rattle.tcp_block.specs.declared.tcb.Undo.{Undo};
 ghost use Rattle.tcp_invariants.specs.Reordering.{AreBefore, IsMissing, Lapses, late_instant, trips};
 ghost use Rattle.tcp_invariants.specs.Undoing.{Between, with_all};
 
@@ -61,11 +62,28 @@ pub fn nothing_waits_where_nothing_arrived_late()
     ensures late { (l : Loss) (by : ℕ) (partial : Bool) → l.mark ≡ 0 → is_empty l.board.runs ≡ false → 1 ≤ (loss_lowered l by partial).reo_wnd_mult }
 {}
 
-/// Patience rises only where a recovery was undone that began while something was held, so something that was sent later came earlier: at no
+/// Undoing raises patience only where a recovery was undone that began while something was held, so something that was sent later came earlier: at no
 /// other undo, as of a recovery without ranges or of the timer (RFC 8985, 6.2, step 4).
 pub fn patience_rises_only_where_something_was_held()
     ensures empty { (b : Tcb) (header : TcpHeader) (by queued : ℕ) → is_empty b.loss.board.runs ≡ true
         → (undone b header by queued).loss.reo_wnd_mult ≡ b.loss.reo_wnd_mult }
     ensures outside { (b : Tcb) (header : TcpHeader) (by queued : ℕ) → b.reno.recovers ≡ false
         → (undone b header by queued).loss.reo_wnd_mult ≡ b.loss.reo_wnd_mult }
+{}
+
+/// An acknowledgement that comes sooner behind what was retransmitted than the shortest round trip raises the reordering window, to sixteen
+/// quarters at most, and nothing else: a path that became faster explains it as well. Nothing is raised outside of a recovery, where nothing
+/// is held, or once the shortest round trip went by (RFC 8985, 6.2, step 2).
+pub fn a_hint_raises_the_reordering_window_alone()
+    ensures alone { (b : Tcb) (by : ℕ) (now : ℤ)
+        → reordering_hinted b by now ≡ record b { loss = record b.loss { reo_wnd_mult = (reordering_hinted b by now).loss.reo_wnd_mult } } }
+    ensures within { (b : Tcb) (by : ℕ) (now : ℤ) → b.loss.reo_wnd_mult ≤ 16
+        → (b.loss.reo_wnd_mult ≤ (reordering_hinted b by now).loss.reo_wnd_mult) × ((reordering_hinted b by now).loss.reo_wnd_mult ≤ 16) }
+    ensures raises { (b : Tcb) (by : ℕ) (now : ℤ) (u : Undo) (instant : ℤ) → b.loss.undo ≡ Some u → u.answers_from ≡ Some instant
+        → (by == 0) ≡ false → b.reno.recovers ≡ true → is_empty b.loss.board.runs ≡ false → now <ℤ instant
+        → (reordering_hinted b by now).loss.reo_wnd_mult ≡ min b.loss.reo_wnd_mult 15 + 1 }
+    ensures late { (b : Tcb) (by : ℕ) (now : ℤ) (u : Undo) (instant : ℤ) → b.loss.undo ≡ Some u → u.answers_from ≡ Some instant
+        → instant ≤ℤ now → reordering_hinted b by now ≡ b }
+    ensures outside { (b : Tcb) (by : ℕ) (now : ℤ) → b.reno.recovers ≡ false → reordering_hinted b by now ≡ b }
+    ensures empty { (b : Tcb) (by : ℕ) (now : ℤ) → is_empty b.loss.board.runs ≡ true → reordering_hinted b by now ≡ b }
 {}

@@ -571,7 +571,7 @@ impl Socket {
     }
 
     /// The echo of a segment is taken that makes SND.UNA rise by so much. A loss that it says was none is
-    /// undone first.
+    /// undone first; how soon it comes may hint at reordering.
     fn sample_rtt(&mut self, header: &TcpHeader, by: u32, now: Instant)
         requires unoffered { self.old.offered ≡ None }
         requires instant { IsMoment now }
@@ -580,6 +580,7 @@ impl Socket {
         let queued = self.queued.len();
         self.tcb.undo_loss(header, by, queued);
         self.tcb.take_rtt_of_tsecr(header, by, now);
+        self.tcb.hint_reordering(by, now);
     }
 
     /// The echo of a segment is taken, SND.UNA rises by so much, and what is acknowledged is freed.

@@ -156,7 +156,14 @@ key_in s = if s.keyed == 0 then None else Some s.isn_key
 
 abbrev pub settings_by : Result (Option EthernetAddress) Code → Settings → Result Host.Settings Code
 settings_by (Err code) s = Err code
-settings_by (Ok hardware) s = Ok (record { hardware = hardware; mtu = s.mtu; seed = s.seed; isn_key = key_in s; frames = s.frames })
+settings_by (Ok hardware) s = Ok (record {
+  hardware = hardware;
+  mtu = s.mtu;
+  seed = s.seed;
+  isn_key = key_in s;
+  frames = s.frames;
+  host_requirements = s.without_host_requirements == 0;
+})
 
 abbrev pub settings_in : Settings → Result Host.Settings Code
 settings_in s = settings_by (hardware_in s) s

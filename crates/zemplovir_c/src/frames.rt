@@ -57,6 +57,7 @@ fn settings_in(settings: &Settings) -> Result<c_calls::Settings, Code>
             seed: settings.seed,
             isn_key: key_in(settings),
             frames: settings.frames,
+            host_requirements: settings.without_host_requirements == 0,
         }),
         Err(code) => Err(code),
     }

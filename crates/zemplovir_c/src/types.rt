@@ -42,6 +42,8 @@ pub struct Settings {
     /// 0 for no key.
     pub keyed: u8,
     pub isn_key: [u8; 16],
+    /// 0 for a host that does what RFC 1122 and the standards after it ask on a network of many.
+    pub without_host_requirements: u8,
 }
 
 /// What a host has counted.

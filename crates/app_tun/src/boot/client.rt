@@ -49,7 +49,7 @@ fn bare(
 {
     let config = Config {
         random_seed: seed,
-        ..Config::new(HardwareAddress::Ethernet(hardware_addr))
+        ..Config::with_host_requirements(HardwareAddress::Ethernet(hardware_addr))
     };
     Ok(Interface::new(alloc, &config, drain, now)?)
 }

@@ -16,7 +16,7 @@ use Rattle.lan.specs.Worlds.AtLink.Initial.{IsTypedHost, IsInitialStart}
 use Rattle.lan.specs.Worlds.AtLink.Runs.{unused, unused_both, table_in}
 use Rattle.lan.specs.Worlds.AtLink.Node.{NodeValue}
 use Rattle.lan.specs.Worlds.Provenance.{start_of, starts_of, both, tables, HasCome}
-use Rattle.lan.specs.Worlds.New.{has_one_medium, has_checksums, has_mtu, has_buffers, of_each, is_fresh, first_error, new_error}
+use Rattle.lan.specs.Worlds.New.{has_one_medium, has_checksums, has_mtu, has_buffers, of_each, is_unused, is_fresh, first_error, new_error}
 use Rattle.lan.specs.declared.error.WorldError.TheVariants as Since
 use Rattle.lan.proofs.Worlds.Unused.{empty, on_is, unused_at}
 
@@ -50,10 +50,20 @@ same_medium (Hardware.Ethernet a) Medium.Ip Medium.Ethernet p q = absurd (false�
 
 -- A HOST
 
+no_true : (b : Bool) → not b ≡ true → b ≡ false
+no_true false h = refl
+no_true true h = cc
+
 module _ (s : NodeValue) (initial : is_fresh s ≡ true) where
+  sockets : of_each is_unused s ≡ true
+  sockets = (and_parts _ _ (and_parts _ _ initial).0).1
+
+  alone : s.host.inner.host_requirements ≡ false
+  alone = no_true s.host.inner.host_requirements (and_parts _ _ initial).1
+
   parts : (s.host.inner.initial ≡ true) × (s.link.sent ≡ []) × (s.link.waiting ≡ [])
   parts =
-      let p = and_parts _ _ initial in
+      let p = and_parts _ _ (and_parts _ _ initial).0 in
       let q = and_parts _ _ p.0 in
       let r = and_parts _ _ q.0 in
       (r.0, empty s.link.sent r.1, empty s.link.waiting q.1)
@@ -83,10 +93,11 @@ module _ (s : NodeValue) (initial : is_fresh s ≡ true) where
         mtu = rw own m.0;
         own_mtu = own;
         initial = parts.0;
+        alone = alone;
         idle = idle;
         unknown = unknown;
         typed = typed;
-        sockets = λ i socket is. unused_at s.slots i socket (and_parts _ _ initial).1 is;
+        sockets = λ i socket is. unused_at s.slots i socket sockets is;
       }
 
 -- BOTH

@@ -43,13 +43,14 @@ pub record IsOnward (i i' : InnerValue) : Type 0 where
   pub mtu : i'.mtu ≡ i.mtu
   pub checksums : i'.checksums ≡ i.checksums
   pub isn_key : i'.isn_key ≡ i.isn_key
+  pub host_requirements : i'.host_requirements ≡ i.host_requirements
   pub later : i.instant ≤ℤ i'.instant
 
 no_earlier : (t : ℤ) → t ≤ℤ t
 no_earlier t = omega (arith, ints)
 
 itself : (i : InnerValue) → IsOnward i i
-itself i = record { mtu = refl; checksums = refl; isn_key = refl; later = no_earlier i.instant }
+itself i = record { mtu = refl; checksums = refl; isn_key = refl; host_requirements = refl; later = no_earlier i.instant }
 
 where_same : (i i' : InnerValue) → i' ≡ i → IsOnward i i'
 where_same i i' is = subst (IsOnward i) (sym is) (itself i)
@@ -59,7 +60,7 @@ inner_of s = s.host.inner
 
 -- a call may draw a word
 drawn_so : (draws : Bool) (h : HostValue) → IsOnward h.inner (if draws then record h { inner = drawn h.inner } else h).inner
-drawn_so true h = record { mtu = refl; checksums = refl; isn_key = refl; later = no_earlier h.inner.instant }
+drawn_so true h = record { mtu = refl; checksums = refl; isn_key = refl; host_requirements = refl; later = no_earlier h.inner.instant }
 drawn_so false h = itself h.inner
 
 module _ (s s' : NodeValue) (i : ℕ) (call : SocketCall) (answer : Answer) (found : Option States.State) where
@@ -91,16 +92,16 @@ host_so h h' new is on = subst (λ (x : HostValue). IsOnward h.inner x.inner) (s
 sets_so : (h : HostValue) (setting : Setting) (h' : HostValue) → SetsTo h setting h' → IsOnward h.inner h'.inner
 sets_so h (Sets.HardwareAddr address) h' sets =
     host_so h h' _ sets (hardware_so (hardware_refusal h.inner.hardware (Hardware.Ethernet address)) h.inner _
-    (record { mtu = refl; checksums = refl; isn_key = refl; later = no_earlier h.inner.instant }))
+    (record { mtu = refl; checksums = refl; isn_key = refl; host_requirements = refl; later = no_earlier h.inner.instant }))
 sets_so h (Sets.Addrs blocks) h' sets =
     host_so h h' _ sets (addresses_so (list_any is_stranger blocks) h.inner _
-    (record { mtu = refl; checksums = refl; isn_key = refl; later = no_earlier h.inner.instant }))
+    (record { mtu = refl; checksums = refl; isn_key = refl; host_requirements = refl; later = no_earlier h.inner.instant }))
 sets_so h (Sets.Route router) h' sets =
-    host_so h h' _ sets.2 (record { mtu = refl; checksums = refl; isn_key = refl; later = no_earlier h.inner.instant })
+    host_so h h' _ sets.2 (record { mtu = refl; checksums = refl; isn_key = refl; host_requirements = refl; later = no_earlier h.inner.instant })
 sets_so h (Sets.AnyIp any) h' sets =
-    host_so h h' _ sets (record { mtu = refl; checksums = refl; isn_key = refl; later = no_earlier h.inner.instant })
+    host_so h h' _ sets (record { mtu = refl; checksums = refl; isn_key = refl; host_requirements = refl; later = no_earlier h.inner.instant })
 sets_so h (Sets.ReassemblyTimeout timeout) h' sets =
-    host_so h h' _ sets (record { mtu = refl; checksums = refl; isn_key = refl; later = no_earlier h.inner.instant })
+    host_so h h' _ sets (record { mtu = refl; checksums = refl; isn_key = refl; host_requirements = refl; later = no_earlier h.inner.instant })
 
 -- an instant that is allowed
 not_early : (s : NodeValue) (t : ℤ) → is_too_early s t ≡ false → s.host.inner.instant ≤ℤ t
@@ -137,7 +138,7 @@ module _ (old new : Nodes) (past : List Entry) (e : Entry) where
   kind_onward (OfHost side (Asks t)) none acts =
       let early = none_if (is_too_early (node old side) t) For.Moment None none in
       on_side side acts.rests (subst (λ (x : NodeValue). IsOnward (inner_of (node old side)) (inner_of x)) (sym acts.acts.2)
-      (record { mtu = refl; checksums = refl; isn_key = refl; later = not_early (node old side) t early.0 }))
+      (record { mtu = refl; checksums = refl; isn_key = refl; host_requirements = refl; later = not_early (node old side) t early.0 }))
   kind_onward (OfHost side (Polls t budget)) none acts =
       let s = node old side in
       let many = may_run_out s (table (tables_in past old) side) budget in
@@ -148,6 +149,7 @@ module _ (old new : Nodes) (past : List Entry) (e : Entry) where
         mtu = is.settings.mtu;
         checksums = is.settings.checksums;
         isn_key = is.settings.isn_key;
+        host_requirements = is.settings.host_requirements;
         later = subst (λ (u : ℤ). s.host.inner.instant ≤ℤ u) (sym is.now) (not_early s t early.0);
       })
   kind_onward (OfLink act) none acts = λ s.
@@ -187,6 +189,7 @@ module _ (starts : Starts) where
         mtu = ap (λ (i : InnerValue). i.mtu) same;
         checksums = ap (λ (i : InnerValue). i.checksums) same;
         isn_key = ap (λ (i : InnerValue). i.isn_key) same;
+        host_requirements = ap (λ (i : InnerValue). i.host_requirements) same;
       }
 
   pub seen_in_run : (history : List Entry) (hosts : Nodes) → StillRun starts history hosts → (s : Side) → IsSeenAs (first s) (inner_of (node hosts s))
@@ -200,4 +203,5 @@ module _ (starts : Starts) where
         mtu = on.mtu ∙ was.mtu;
         checksums = on.checksums ∙ was.checksums;
         isn_key = on.isn_key ∙ was.isn_key;
+        host_requirements = on.host_requirements ∙ was.host_requirements;
       }

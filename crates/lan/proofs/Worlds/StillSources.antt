@@ -14,7 +14,7 @@ use Rattle.interface.specs.Ip.{source_of, destination_of}
 use Rattle.interface.specs.IpRepr.{IpRepr}
 use Rattle.interface.specs.IpRepr.TheVariants as Ip
 use Rattle.interface.specs.Serve.{with_source}
-use Rattle.iface_tables.specs.Inner.{InnerValue, is_foreign_loopback, is_local_broadcast, is_loopback_of, may_be_source}
+use Rattle.iface_tables.specs.Inner.{InnerValue, is_foreign_loopback, is_limited_broadcast, is_local_broadcast, is_loopback_of, may_be_source, never_comes}
 use Rattle.iface_tables.specs.Source.{source_for}
 use Rattle.wire_tcp.specs.declared.header.TcpHeader.{TcpHeader}
 use Rattle.base_buffer.specs.Ring.{anchored, enqueued}
@@ -102,11 +102,13 @@ no_loop : (loop any : Bool) → (loop && not any) ≡ false → any ≡ false �
 no_loop true any is none = absurd (let clash : true ≡ false = (λ k. not (sym none k)) ∙ is in cc)
 no_loop false any is none = refl
 
-may_so : (all group loop far : Bool) → all ≡ false → group ≡ false → loop ≡ false → (not (all || group) && (not loop || far)) ≡ true
-may_so false false false far one two three = refl
-may_so true group loop far one two three = absurd (let clash : true ≡ false = one in cc)
-may_so false true loop far one two three = absurd (let clash : true ≡ false = two in cc)
-may_so false false true far one two three = absurd (let clash : true ≡ false = three in cc)
+may_so : (all group nobody many loop far : Bool) → all ≡ false → group ≡ false → nobody ≡ false → loop ≡ false
+    → (not (all || (group || (nobody && many))) && (not loop || far)) ≡ true
+may_so false false false many false far one two three four = refl
+may_so true group nobody many loop far one two three four = absurd (let clash : true ≡ false = one in cc)
+may_so false true nobody many loop far one two three four = absurd (let clash : true ≡ false = two in cc)
+may_so false false true many loop far one two three four = absurd (let clash : true ≡ false = three in cc)
+may_so false false false many true far one two three four = absurd (let clash : true ≡ false = four in cc)
 
 module _ (i : InnerValue) (outward : list_any (λ b. is_loopback (cidr_address b)) i.addresses ≡ false) where
   opened_keeps : (ip : IpRepr) → IsBetweenHosts i ip → may_be_source i (destination_of ip) (source_of ip) ≡ true
@@ -115,9 +117,11 @@ module _ (i : InnerValue) (outward : list_any (λ b. is_loopback (cidr_address b
       let parts = no_or (is_unspecified (source_of ip)) (is_unspecified to || (is_local_broadcast i to || is_multicast to)) between.somebody in
       let one = no_or (is_unspecified to) (is_local_broadcast i to || is_multicast to) parts.1 in
       let many = no_or (is_local_broadcast i to) (is_multicast to) one.1 in
-      let home = no_or (is_foreign_loopback i (source_of ip)) (is_foreign_loopback i to) between.here in
-      may_so (is_local_broadcast i to) (is_multicast to) (is_loopback to) (is_loopback (source_of ip)) many.0 many.1
-      (no_loop (is_loopback to) (list_any (is_loopback_of to) i.addresses) home.1 (none_such to i.addresses outward))
+      let away = no_or (is_foreign_loopback i (source_of ip)) (is_foreign_loopback i to || never_comes i (source_of ip) to) between.here in
+      let home = no_or (is_foreign_loopback i to) (never_comes i (source_of ip) to) away.1 in
+      may_so (is_local_broadcast i to) (is_multicast to) (is_unspecified to) (i.host_requirements && not (is_limited_broadcast (source_of ip)))
+      (is_loopback to) (is_loopback (source_of ip)) many.0 many.1 one.0
+      (no_loop (is_loopback to) (list_any (is_loopback_of to) i.addresses) home.0 (none_such to i.addresses outward))
 
   ends_in : (ip : IpRepr) → IsBetweenHosts i ip → Keeps i (addresses_in ip)
   ends_in (Ip.Ipv4 v) between = inl (opened_keeps (Ip.Ipv4 v) between)

@@ -94,9 +94,11 @@ of_each test s = list_all (of_slot test) s.slots
 abbrev pub is_empty : {X : Type 0} → List X → Bool
 is_empty xs = length xs == 0
 
--- nothing ran at the host, no frame was sent or waits, and no socket was used
+-- Nothing ran at the host, no frame was sent or waits, and no socket was used. One that does what is asked of a host on a network of many makes
+-- no world: in it two are alone at a link.
 abbrev pub is_fresh : NodeValue → Bool
-is_fresh s = s.host.inner.initial && is_empty s.link.sent && is_empty s.link.waiting && of_each is_unused s
+is_fresh s =
+    s.host.inner.initial && is_empty s.link.sent && is_empty s.link.waiting && of_each is_unused s && not s.host.inner.host_requirements
 
 abbrev pub first_error : List (Bool × WorldError) → Option WorldError
 first_error [] = None
@@ -124,5 +126,5 @@ world_error_text Since.Media = codes "two media"
 world_error_text Since.Checksums = codes "a checksum is off"
 world_error_text Since.Mtu = codes "an IP MTU is out of 576 to 65535 bytes"
 world_error_text Since.Buffers = codes "a TCP buffer of no bytes"
-world_error_text Since.NotFresh = codes "a host was used before, or has a client of DHCP or DNS"
+world_error_text Since.NotFresh = codes "a host was used before, has a client of DHCP or DNS, or host requirements"
 world_error_text Since.Memory = codes "out of memory"

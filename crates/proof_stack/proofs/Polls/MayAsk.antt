@@ -9,7 +9,7 @@ use Rattle.ip_wire.specs.IpRepr.{IpRepr}
 use Rattle.socket_datagram.specs.Udp.{UdpSettings, TakesDatagram}
 use Rattle.socket_datagram.specs.declared.udp.UdpMetadata.{UdpMetadata}
 use Rattle.iface_ingress.specs.Packet.{PacketValue}
-use Rattle.iface_tables.specs.Inner.{InnerValue, at_instant, context_of, is_foreign_loopback, may_be_source}
+use Rattle.iface_tables.specs.Inner.{InnerValue, at_instant, context_of, is_foreign_loopback, is_limited_broadcast, may_be_source}
 use Rattle.iface_tables.specs.Source.{source_for}
 use Rattle.iface_egress.specs.Departing.{HasSettingsOf}
 use Rattle.iface_egress.specs.Plan.{may_solicit, may_be_source_on, never_leaves}
@@ -20,8 +20,10 @@ use Rattle.proof_stack.proofs.Polls.Stays.{broadcast, foreign, steps_same}
 
 module _ (i j : InnerValue) (same : HasSettingsOf i j) where
   comes : (source destination : IpAddress) → may_be_source j source destination ≡ may_be_source i source destination
-  comes source destination =
-      ap (λ (b : Bool). not (b || is_multicast source) && (not (is_loopback source) || is_loopback destination)) (broadcast i j same source)
+  comes source destination = λ k.
+      not (broadcast i j same source k || (is_multicast source
+      || (is_unspecified source && (same.host_requirements k && not (is_limited_broadcast destination)))))
+      && (not (is_loopback source) || is_loopback destination)
 
   stays_here : (header : IpRepr) → never_leaves j header ≡ never_leaves i header
   stays_here header =
@@ -57,5 +59,6 @@ may_ask_throughout {E} moves t u now s x settings d hop p may reaches =
       addresses = same.addresses;
       isn_key = same.isn_key;
       any_ip = same.any_ip;
+      host_requirements = same.host_requirements;
       routes = same.routes;
     }) settings d hop p may

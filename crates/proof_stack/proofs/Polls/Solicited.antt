@@ -42,9 +42,9 @@ module _ (own node : EthernetAddress) (sound : is_ethernet_unicast node ≡ true
   pub solicitation_answered : (i : InnerValue) (source target : Ipv6Address) → i.hardware ≡ Hardware.Ethernet own
       → is_local i (Address.Ipv6 target) ≡ true → is_local_solicited_node i (solicited_node target) ≡ true → is_unicast_v6 target ≡ true
       → is_unicast_v6 source ≡ true
-      → (neighbor_learned i (solicitation_header source target) (Solicitation target (Some node.0))).reply ≡ Some (advertisement own target source)
+      → (neighbor_learned i (solicitation_header source target) (Solicitation target (Some node.0))).reply ≡ Some (advertisement i.host_requirements own target source)
   solicitation_answered i source target on mine group one from =
-      let told : Option PacketValue = Some (advertisement own target source) in
+      let told : Option PacketValue = Some (advertisement i.host_requirements own target source) in
       let none : is_unspecified_v6 source ≡ false = specified (is_unspecified_v6 source) (is_multicast_v6 source) from in
       ap (λ (h : HardwareAddress). (heard_on h i (solicitation_header source target) (Solicitation target (Some node.0))).reply) on
       ∙ ap (λ (b : Bool). (if b && is_local i (Address.Ipv6 target) then heard (learned i source (Some node.0))
@@ -65,30 +65,30 @@ module _ (own node : EthernetAddress) (sound : is_ethernet_unicast node ≡ true
   tells_so true false many c m = refl
   tells_so false solicited many c m = no false c refl
 
-  advertised_so : (i : InnerValue) (a asked : Ipv6Address) → i.hardware ≡ Hardware.Ethernet own → knows i (Address.Ipv6 asked) ≡ false
+  advertised_so : (i : InnerValue) (overrides : Bool) (a asked : Ipv6Address) → i.hardware ≡ Hardware.Ethernet own → knows i (Address.Ipv6 asked) ≡ false
       → seeks i (Address.Ipv6 asked) ≡ true → is_unicast_v6 asked ≡ true → is_unicast_v6 a ≡ true
-      → (neighbor_learned i (advertisement_header asked (told_at a)) (Advertisement (flags_for a) asked (Some node.0))).inner
+      → (neighbor_learned i (advertisement_header asked (told_at a)) (Advertisement (flags_for overrides a) asked (Some node.0))).inner
       ≡ with_neighbor i (Address.Ipv6 asked) (Hardware.Ethernet node)
-  advertised_so i a asked on unknown sought one mine =
+  advertised_so i overrides a asked on unknown sought one mine =
       let new : InnerValue = with_neighbor i (Address.Ipv6 asked) (Hardware.Ethernet node) in
       let none : is_unspecified_v6 a ≡ false = specified (is_unspecified_v6 a) (is_multicast_v6 a) mine in
       let to : is_multicast_v6 (told_at a) ≡ false =
       ap (λ (u : Bool). is_multicast_v6 (if u then all_nodes else a)) none ∙ single (is_unspecified_v6 a) (is_multicast_v6 a) mine in
-      ap (λ (h : HardwareAddress). (heard_on h i (advertisement_header asked (told_at a)) (Advertisement (flags_for a) asked (Some node.0))).inner) on
-      ∙ ap (λ (b : Bool). (if b then heard (if (if knows i (Address.Ipv6 asked) then false else seeks i (Address.Ipv6 asked)) then new else i) None
+      ap (λ (h : HardwareAddress). (heard_on h i (advertisement_header asked (told_at a)) (Advertisement (flags_for overrides a) asked (Some node.0))).inner) on
+      ∙ ap (λ (b : Bool). (if b then heard (if (if knows i (Address.Ipv6 asked) then overrides else seeks i (Address.Ipv6 asked)) then new else i) None
       else heard i None).inner)
       (tells_so ((length node.0 == 6 && is_ethernet_unicast node) && is_unicast_v6 asked && not (is_unspecified_v6 asked))
       (not (is_unspecified_v6 a)) (is_multicast_v6 (told_at a))
       (counts_so (length node.0 == 6) (is_ethernet_unicast node) (is_unicast_v6 asked) (not (is_unspecified_v6 asked))
       (eq-eqb (length node.0) 6 six.0) sound one (ap not (specified (is_unspecified_v6 asked) (is_multicast_v6 asked) one))) to)
-      ∙ ap (λ (k : Bool). if (if k then false else seeks i (Address.Ipv6 asked)) then new else i) unknown
+      ∙ ap (λ (k : Bool). if (if k then overrides else seeks i (Address.Ipv6 asked)) then new else i) unknown
       ∙ ap (λ (s : Bool). if s then new else i) sought
 
-  pub advertisement_known : (i : InnerValue) (a asked : Ipv6Address) (to : IpAddress) → i.hardware ≡ Hardware.Ethernet own
+  pub advertisement_known : (i : InnerValue) (overrides : Bool) (a asked : Ipv6Address) (to : IpAddress) → i.hardware ≡ Hardware.Ethernet own
       → knows i (Address.Ipv6 asked) ≡ false → seeks i (Address.Ipv6 asked) ≡ true → is_unicast_v6 asked ≡ true → is_unicast_v6 a ≡ true
       → IsVia i to (Address.Ipv6 asked)
-      → link_address (neighbor_learned i (advertisement_header asked (told_at a)) (Advertisement (flags_for a) asked (Some node.0))).inner to
+      → link_address (neighbor_learned i (advertisement_header asked (told_at a)) (Advertisement (flags_for overrides a) asked (Some node.0))).inner to
       ≡ Link.Known (Hardware.Ethernet node)
-  advertisement_known i a asked to on unknown sought one mine via =
-      ap (λ (x : InnerValue). link_address x to) (advertised_so i a asked on unknown sought one mine)
+  advertisement_known i overrides a asked to on unknown sought one mine via =
+      ap (λ (x : InnerValue). link_address x to) (advertised_so i overrides a asked on unknown sought one mine)
       ∙ goes_there i own node (Address.Ipv6 asked) to on via

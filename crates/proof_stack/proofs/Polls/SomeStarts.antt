@@ -35,6 +35,7 @@ start A = record {
   mtu = refl;
   own_mtu = refl;
   initial = refl;
+  alone = refl;
   idle = (refl, (refl, (refl, tt)));
   unknown = refl;
   typed = record { hardware = tt; routers = tt; ident = ltb-true _ _ refl };
@@ -47,6 +48,7 @@ start B = record {
   mtu = refl;
   own_mtu = refl;
   initial = refl;
+  alone = refl;
   idle = (refl, (refl, (refl, tt)));
   unknown = refl;
   typed = record { hardware = tt; routers = tt; ident = ltb-true _ _ refl };

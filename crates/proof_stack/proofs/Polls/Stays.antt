@@ -31,7 +31,7 @@ use Rattle.iface_ingress.specs.FragmentStored.{HasSameSettings}
 use Rattle.iface_ingress.specs.Packet.{PacketValue}
 use Rattle.iface_ingress.specs.Reassembled.{is_astray}
 use Rattle.iface_tables.specs.Inner.{InnerValue, at_instant, context_of, is_address_of, is_all_nodes, is_broadcast_of, is_for_us, is_foreign_loopback}
-use Rattle.iface_tables.specs.Inner.{is_local_broadcast, is_loopback_in, is_loopback_of, is_member_of, is_local, solicits_cidr}
+use Rattle.iface_tables.specs.Inner.{is_local_broadcast, is_loopback_in, is_loopback_of, is_mapped, is_member_of, is_local, solicits_cidr}
 use Rattle.iface_egress.specs.Departing.{HasSettingsOf}
 use Rattle.iface_egress.specs.Set.{free, socket_in}
 use Rattle.iface_egress.specs.declared.socket_meta.Meta.{Meta}
@@ -65,6 +65,7 @@ settings_out i i' is = record {
   addresses = ap (λ (x : InnerValue). x.addresses) is;
   isn_key = ap (λ (x : InnerValue). x.isn_key) is;
   any_ip = ap (λ (x : InnerValue). x.any_ip) is;
+  host_requirements = ap (λ (x : InnerValue). x.host_requirements) is;
   routes = ap (λ (x : InnerValue). x.routes) is;
 }
 
@@ -79,6 +80,7 @@ settings_in i i' same = record {
   addresses = same.addresses;
   isn_key = same.isn_key;
   any_ip = same.any_ip;
+  host_requirements = same.host_requirements;
   routes = same.routes;
 }
 
@@ -95,7 +97,7 @@ module _ {E : Type 0} (moves : E → Move → E → Type 0) (u : ℤ) where
   pub step_same : (s s' : State E) → Step moves u s s' → HasSettingsOf s.host.inner s'.host.inner
   step_same s s' (inl begins) =
       subst (λ (x : State E). HasSettingsOf s.host.inner x.host.inner) (sym begins)
-      (record { hardware = refl; mtu = refl; checksums = refl; addresses = refl; isn_key = refl; any_ip = refl; routes = refl })
+      (record { hardware = refl; mtu = refl; checksums = refl; addresses = refl; isn_key = refl; any_ip = refl; host_requirements = refl; routes = refl })
   step_same s s' (inr (inl takes)) = takes_same s s' takes.0 takes.1
   step_same s s' (inr (inr (inl fragment))) =
       settings_at s.host.inner s'.host.inner
@@ -122,6 +124,7 @@ module _ {E : Type 0} (moves : E → Move → E → Type 0) (u : ℤ) where
         addresses = it.addresses;
         isn_key = it.isn_key;
         any_ip = it.any_ip;
+        host_requirements = it.host_requirements;
         routes = it.routes;
       }
 
@@ -153,7 +156,8 @@ module _ (i i' : InnerValue) (same : HasSettingsOf i i') where
   foreign a = ap (λ (bs : List IpCidr). is_loopback a && not (list_any (is_loopback_of a) bs)) same.addresses
 
   pub astray : (a b : IpAddress) → is_astray i' a b ≡ is_astray i a b
-  astray a b k = foreign a k || foreign b k
+  astray a b k = foreign a k || (foreign b k || (same.host_requirements k
+      && ((not (is_unspecified a) && list_any (is_address_of a) (same.addresses k)) || (is_mapped a || is_mapped b))))
 
   pub sender : (a : IpAddress) → may_be_sender i' a ≡ may_be_sender i a
   sender (Address.Ipv4 a) = ap (λ (b : Bool). (is_unicast_v4 a && not b) || is_unspecified_v4 a) (broadcast (Address.Ipv4 a))

@@ -1,5 +1,5 @@
 -- What a step of the egress path leaves of the way of a packet.
-use Rattle.std.proofs.Common.{◌≡◌, ℕ, Bool, true, false, if◌then◌else◌, ℤ, int_lt, List, Option, Some, None, refl, sym, ap, ◌∙◌, subst}
+use Rattle.std.proofs.Common.{◌≡◌, ◌&&◌, ℕ, Bool, true, false, if◌then◌else◌, ℤ, int_lt, List, Option, Some, None, refl, sym, ap, ◌∙◌, subst}
 use Rattle.std.proofs.lemmas.Bool.{le-leb}
 use Rattle.net_base.specs.ChecksumCapabilities.{ChecksumCapabilities}
 use Rattle.ip_wire.specs.AddressTests.{is_multicast}
@@ -24,7 +24,7 @@ use Rattle.iface_tables.specs.declared.neighbor.Answer.TheVariants as Known
 use Rattle.iface_tables.specs.declared.neighbor.Neighbor.{Neighbor}
 use Rattle.iface_tables.specs.declared.neighbor.Search.{Search}
 use Rattle.iface_egress.specs.Departure.{Whole, frame_from}
-use Rattle.iface_egress.specs.IsTransmitted.{frame_of, numbered, numbered_header}
+use Rattle.iface_egress.specs.IsTransmitted.{frame_of, is_tcp, is_never_cut, numbered, numbered_header}
 use Rattle.iface_egress.specs.Meta.{neighbor_by, waits_by}
 use Rattle.iface_egress.specs.Plan.{total_len, long_plan, plan_by, plan_of}
 use Rattle.iface_egress.specs.declared.plan.Plan.TheVariants as Way
@@ -200,14 +200,16 @@ goes_by_plan i busy to p can =
     ∙ ap (λ (l : LinkAddress). plan_by l i busy p.header) can.known
     ∙ ap (λ (fits : Bool). if fits then Way.Go to else long_plan busy to p.header) (le-leb (total_len p.header) (mtu_to i (destination_of p.header)) can.short)
 
-same_number : (i j : InnerValue) → i.ident ≡ j.ident → (h : IpRepr) → numbered_header i h ≡ numbered_header j h
-same_number i j is (Ip.Ipv4 v) = ap (λ (n : ℕ). Ip.Ipv4 (record v { ident = n; dont_frag = false })) is
-same_number i j is (Ip.Ipv6 v) = refl
+same_number : (i j : InnerValue) → i.ident ≡ j.ident → i.host_requirements ≡ j.host_requirements → (h : IpRepr) → numbered_header i h ≡ numbered_header j h
+same_number i j is asks (Ip.Ipv4 v) =
+    ap (λ (n : ℕ). Ip.Ipv4 (record v { ident = n; dont_frag = is_never_cut i v })) is
+    ∙ ap (λ (b : Bool). Ip.Ipv4 (record v { ident = j.ident; dont_frag = b && is_tcp v.next_header })) asks
+same_number i j is asks (Ip.Ipv6 v) = refl
 
 pub same_frame : (i j : InnerValue) (to : HardwareAddress) (p : PacketValue) → IsSameHost i j
     → frame_of j (Whole to (numbered j p)) ≡ frame_under i j.ident to p
 same_frame i j to p same =
-    ap (λ (h : IpRepr). frame_of j (Whole to (record p { header = h }))) (same_number j (with_ident i j.ident) refl p.header)
+    ap (λ (h : IpRepr). frame_of j (Whole to (record p { header = h }))) (same_number j (with_ident i j.ident) refl (ap (λ (x : InnerValue). x.host_requirements) same) p.header)
     ∙ ap (λ (own : HardwareAddress). frame_from own j.checksums (Whole to (numbered (with_ident i j.ident) p))) (ap (λ (x : InnerValue). x.hardware) same)
     ∙ ap (λ (caps : ChecksumCapabilities). frame_from i.hardware caps (Whole to (numbered (with_ident i j.ident) p)))
     (ap (λ (x : InnerValue). x.checksums) same)
@@ -215,6 +217,6 @@ same_frame i j to p same =
 pub under_still : (i j : InnerValue) (ident : ℕ) (to : HardwareAddress) (p : PacketValue) → IsSameHost i j → frame_under j ident to p ≡ frame_under i ident to p
 under_still i j ident to p same =
     ap (λ (h : IpRepr). frame_of (with_ident j ident) (Whole to (record p { header = h })))
-    (same_number (with_ident j ident) (with_ident i ident) refl p.header)
+    (same_number (with_ident j ident) (with_ident i ident) refl (ap (λ (x : InnerValue). x.host_requirements) same) p.header)
     ∙ ap (λ (own : HardwareAddress). frame_from own j.checksums (Whole to (numbered (with_ident i ident) p))) (ap (λ (x : InnerValue). x.hardware) same)
     ∙ ap (λ (caps : ChecksumCapabilities). frame_from i.hardware caps (Whole to (numbered (with_ident i ident) p))) (ap (λ (x : InnerValue). x.checksums) same)

@@ -135,8 +135,8 @@ pub fn neighbors_answer_solicitations()
         → is_local_solicited_node i (solicited_node target) ≡ true
         → is_unicast_v6 target ≡ true
         → is_unicast_v6 source ≡ true
-        → (neighbor_learned i (solicitation_header source target) (Solicitation target (Some node.0))).reply ≡ Some (advertisement own target source) }
-    ensures known { (own node : EthernetAddress) (i : InnerValue) (a asked : Ipv6Address) (to : IpAddress)
+        → (neighbor_learned i (solicitation_header source target) (Solicitation target (Some node.0))).reply ≡ Some (advertisement i.host_requirements own target source) }
+    ensures known { (own node : EthernetAddress) (i : InnerValue) (overrides : Bool) (a asked : Ipv6Address) (to : IpAddress)
         → is_ethernet_unicast node ≡ true
         → IsEthernetAddress node
         → i.hardware ≡ Hardware.Ethernet own
@@ -145,6 +145,6 @@ pub fn neighbors_answer_solicitations()
         → is_unicast_v6 asked ≡ true
         → is_unicast_v6 a ≡ true
         → IsVia i to (Address.Ipv6 asked)
-        → link_address (neighbor_learned i (advertisement_header asked (told_at a)) (Advertisement (flags_for a) asked (Some node.0))).inner to
+        → link_address (neighbor_learned i (advertisement_header asked (told_at a)) (Advertisement (flags_for overrides a) asked (Some node.0))).inner to
         ≡ Link.Known (Hardware.Ethernet node) }
 {}

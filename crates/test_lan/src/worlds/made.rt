@@ -77,6 +77,19 @@ fn spoil(alloc: Global, a: &mut Host, wrong: &str) -> bool {
             a.interface.set_any_ip(true);
             true
         }
+        "host requirements" => {
+            let config = Config {
+                host_requirements: true,
+                ..config(1, Medium::Ip)
+            };
+            match Interface::new(alloc, &config, &a.port, Instant::ZERO) {
+                Ok(interface) => {
+                    a.interface = interface;
+                    true
+                }
+                Err(_) => false,
+            }
+        }
         _ => true,
     }
 }
@@ -114,7 +127,7 @@ fn refused(rt: &HostRuntime, wrong: &str) -> Result<Option<WorldError>, Fail> {
 }
 
 /// What is wrong with A, and why the two make no world, if they don't. (Scripts have the bounds of an MTU and of buffers.)
-static HOSTS: [(&str, Option<WorldError>); 7] = [
+static HOSTS: [(&str, Option<WorldError>); 8] = [
     ("nothing", None),
     ("its medium", Some(WorldError::Media)),
     ("its checksums", Some(WorldError::Checksums)),
@@ -122,6 +135,7 @@ static HOSTS: [(&str, Option<WorldError>); 7] = [
     ("its MTU", Some(WorldError::Mtu)),
     ("any IP", Some(WorldError::NotFresh)),
     ("a frame waits", Some(WorldError::NotFresh)),
+    ("host requirements", Some(WorldError::NotFresh)),
 ];
 
 #[test]

@@ -84,10 +84,10 @@ v4_so : (i : InnerValue) (ip : IpRepr) (message : Icmpv4Header) (bytes : List �
 v4_so i (Ip.Ipv4 header) message bytes = echo_v4_so i header message bytes
 v4_so i (Ip.Ipv6 header) message bytes = tt
 
-asked_so : (b : Bool) (own : EthernetAddress) (target : Ipv6Address) (header : Ipv6Repr) →
-    IfMeasured (if b then Some (advertisement own target header.src_addr) else None)
-asked_so true own target header = refl
-asked_so false own target header = tt
+asked_so : (b overrides : Bool) (own : EthernetAddress) (target : Ipv6Address) (header : Ipv6Repr) →
+    IfMeasured (if b then Some (advertisement overrides own target header.src_addr) else None)
+asked_so true overrides own target header = refl
+asked_so false overrides own target header = tt
 
 heard_if : (b : Bool) (x y : Heard) → IfMeasured x.reply → IfMeasured y.reply → IfMeasured (if b then x else y).reply
 heard_if true x y one other = one
@@ -97,7 +97,7 @@ heard_so : (hardware : HardwareAddress) (i : InnerValue) (header : Ipv6Repr) (me
 heard_so Hardware.Ip i header message = tt
 heard_so (Hardware.Ethernet own) i header (Solicitation target link) =
     heard_if (asks_host i header target link) (heard (learned i header.src_addr link) (answer own i header target)) (heard i None)
-    (asked_so (is_asked i header target) own target header) tt
+    (asked_so (is_asked i header target) i.host_requirements own target header) tt
 heard_so (Hardware.Ethernet own) i header (Advertisement flags target link) =
     heard_if (tells header flags target link) (heard (advertised i flags target link) None) (heard i None) tt tt
 

@@ -75,9 +75,10 @@ v4_free i (Ip.Ipv4 header) (V4.EchoRequest ident seq_no) bytes =
 v4_free i (Ip.Ipv4 header) message bytes = tt
 v4_free i (Ip.Ipv6 header) message bytes = tt
 
-answer_free : (asked : Bool) (own : EthernetAddress) (target to : Ipv6Address) → Free (if asked then Some (advertisement own target to) else None)
-answer_free true own target to = tt
-answer_free false own target to = tt
+answer_free : (asked overrides : Bool) (own : EthernetAddress) (target to : Ipv6Address)
+    → Free (if asked then Some (advertisement overrides own target to) else None)
+answer_free true overrides own target to = tt
+answer_free false overrides own target to = tt
 
 heard_if : (test : Bool) (h : Heard) (i : InnerValue) → Free h.reply → Free (if test then h else heard i None).reply
 heard_if true h i free = free
@@ -87,7 +88,7 @@ heard_free : (hardware : HardwareAddress) (i : InnerValue) (header : Ipv6Repr) (
 heard_free Hardware.Ip i header message = tt
 heard_free (Hardware.Ethernet own) i header (Solicitation target link) =
     heard_if (asks_host i header target link) (heard (learned i header.src_addr link) (answer own i header target)) i
-    (answer_free (is_asked i header target) own target header.src_addr)
+    (answer_free (is_asked i header target) i.host_requirements own target header.src_addr)
 heard_free (Hardware.Ethernet own) i header (Advertisement flags target link) =
     heard_if (tells header flags target link) (heard (advertised i flags target link) None) i tt
 

@@ -14,7 +14,7 @@ use Rattle.iface_ingress.specs.IpAddress.{IpAddress}
 use Rattle.iface_ingress.specs.Processed.{is_for_many, names_no_endpoint}
 use Rattle.iface_ingress.specs.Reassembled.{is_astray}
 use Rattle.iface_tables.specs.Inner.{InnerValue, context_of, context_towards, is_address_of, is_all_nodes, is_broadcast_of, is_for_us, is_local_broadcast, is_loopback_in}
-use Rattle.iface_tables.specs.Inner.{is_loopback_of, is_member_of, is_local, may_be_source, mtu_by_destination, solicits_cidr}
+use Rattle.iface_tables.specs.Inner.{is_limited_broadcast, is_loopback_of, is_mapped, is_member_of, is_local, may_be_source, mtu_by_destination, solicits_cidr}
 use Rattle.iface_tables.specs.PathMtu.{mtu_towards}
 use Rattle.iface_tables.specs.declared.path_mtu.Path.{Path}
 use Rattle.interface.specs.SameHost.{IsSameHost}
@@ -87,9 +87,17 @@ pub record IsSeenAs (i0 i : InnerValue) : Type 0 where
   pub mtu : i.mtu ≡ i0.mtu
   pub checksums : i.checksums ≡ i0.checksums
   pub isn_key : i.isn_key ≡ i0.isn_key
+  pub host_requirements : i.host_requirements ≡ i0.host_requirements
 
 pub seen_of : (i0 i : InnerValue) → HasSettingsOf i0 i → IsSeenAs i0 i
-seen_of i0 i has = record { addresses = has.addresses; any_ip = has.any_ip; mtu = has.mtu; checksums = has.checksums; isn_key = has.isn_key }
+seen_of i0 i has = record {
+  addresses = has.addresses;
+  any_ip = has.any_ip;
+  mtu = has.mtu;
+  checksums = has.checksums;
+  isn_key = has.isn_key;
+  host_requirements = has.host_requirements;
+}
 
 module _ (i0 i : InnerValue) (seen : IsSeenAs i0 i) where
   broadcasts : (a : IpAddress) → is_local_broadcast i a ≡ is_local_broadcast i0 a
@@ -125,12 +133,17 @@ module _ (i0 i : InnerValue) (seen : IsSeenAs i0 i) where
   for_us a = λ k. owns a k || members a k || broadcasts a k || is_loopback_in a
 
   pub strays : (source destination : IpAddress) → is_astray i source destination ≡ is_astray i0 source destination
-  strays source destination = ap (λ (bs : List IpCidr). (is_loopback source && not (list_any (is_loopback_of source) bs))
-      || (is_loopback destination && not (list_any (is_loopback_of destination) bs))) seen.addresses
+  strays source destination = λ k.
+      (is_loopback source && not (list_any (is_loopback_of source) (seen.addresses k)))
+      || ((is_loopback destination && not (list_any (is_loopback_of destination) (seen.addresses k)))
+      || (seen.host_requirements k
+      && ((not (is_unspecified source) && list_any (is_address_of source) (seen.addresses k)) || (is_mapped source || is_mapped destination))))
 
   pub may_come : (source destination : IpAddress) → may_be_source i source destination ≡ may_be_source i0 source destination
-  may_come source destination =
-      ap (λ (all : Bool). not (all || is_multicast source) && (not (is_loopback source) || is_loopback destination)) (broadcasts source)
+  may_come source destination = λ k.
+      not (broadcasts source k || (is_multicast source
+      || (is_unspecified source && (seen.host_requirements k && not (is_limited_broadcast destination)))))
+      && (not (is_loopback source) || is_loopback destination)
 
   pub sources : (h : IpRepr) → source_by i h ≡ source_by i0 h
   sources h = λ k. source_of (if may_come (source_of h) (destination_of h) k then h

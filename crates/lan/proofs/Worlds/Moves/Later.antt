@@ -315,7 +315,7 @@ IsSince i0 i = HasSettingsOf i0 i × (i0.errors_until ≤ℤ i.errors_until)
 
 pub since_itself : (i : InnerValue) → IsSince i i
 since_itself i =
-    (record { hardware = refl; mtu = refl; checksums = refl; addresses = refl; isn_key = refl; any_ip = refl; routes = refl }, no_earlier i.errors_until)
+    (record { hardware = refl; mtu = refl; checksums = refl; addresses = refl; isn_key = refl; any_ip = refl; host_requirements = refl; routes = refl }, no_earlier i.errors_until)
 
 pub since_begun : (i0 i : InnerValue) (t : ℤ) → IsSince i0 i → IsSince i0 (at_instant t i)
 since_begun i0 i t since = (
@@ -326,6 +326,7 @@ since_begun i0 i t since = (
     addresses = since.0.addresses;
     isn_key = since.0.isn_key;
     any_ip = since.0.any_ip;
+    host_requirements = since.0.host_requirements;
     routes = since.0.routes;
   },
   since.1,
@@ -340,6 +341,7 @@ since_arrival i0 i i' same later since = (
     addresses = same.addresses ∙ since.0.addresses;
     isn_key = same.isn_key ∙ since.0.isn_key;
     any_ip = same.any_ip ∙ since.0.any_ip;
+    host_requirements = same.host_requirements ∙ since.0.host_requirements;
     routes = same.routes ∙ since.0.routes;
   },
   in_turn i0.errors_until i.errors_until i'.errors_until since.1 later.0,
@@ -354,6 +356,7 @@ since_out i0 i i' same since = (
     addresses = ap (λ (x : InnerValue). x.addresses) same ∙ since.0.addresses;
     isn_key = ap (λ (x : InnerValue). x.isn_key) same ∙ since.0.isn_key;
     any_ip = ap (λ (x : InnerValue). x.any_ip) same ∙ since.0.any_ip;
+    host_requirements = ap (λ (x : InnerValue). x.host_requirements) same ∙ since.0.host_requirements;
     routes = ap (λ (x : InnerValue). x.routes) same ∙ since.0.routes;
   },
   subst (λ (u : ℤ). i0.errors_until ≤ℤ u) (sym (ap (λ (x : InnerValue). x.errors_until) same)) since.1,

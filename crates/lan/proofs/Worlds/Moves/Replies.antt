@@ -64,9 +64,10 @@ module _ (Q : PacketValue → Type 0)
   control_v4_free i (Ip.Ipv4 header) message bytes = echo_free i header message bytes
   control_v4_free i (Ip.Ipv6 header) message bytes = tt
 
-  answer_free : (asked : Bool) (own : EthernetAddress) (target to : Ipv6Address) → Free (if asked then Some (advertisement own target to) else None)
-  answer_free true own target to = six _ _ [] refl
-  answer_free false own target to = tt
+  answer_free : (asked overrides : Bool) (own : EthernetAddress) (target to : Ipv6Address)
+      → Free (if asked then Some (advertisement overrides own target to) else None)
+  answer_free true overrides own target to = six _ _ [] refl
+  answer_free false overrides own target to = tt
 
   abbrev IsFree : Heard → Type 0
   IsFree h = Free h.reply
@@ -79,7 +80,7 @@ module _ (Q : PacketValue → Type 0)
   heard_free Hardware.Ip i header message = tt
   heard_free (Hardware.Ethernet own) i header (Solicitation target link) =
       heard_if (asks_host i header target link) (heard (learned i header.src_addr link) (answer own i header target)) i
-      (answer_free (is_asked i header target) own target header.src_addr)
+      (answer_free (is_asked i header target) i.host_requirements own target header.src_addr)
   heard_free (Hardware.Ethernet own) i header (Advertisement flags target link) =
       heard_if (tells header flags target link) (heard (advertised i flags target link) None) i tt
 

@@ -1,5 +1,5 @@
 -- Hosts to which nothing has happened.
-use Rattle.std.specs.Prelude.{◌≡◌, ◌<◌, ◌^◌, ℕ, true, [], Some}
+use Rattle.std.specs.Prelude.{◌≡◌, ◌<◌, ◌^◌, ℕ, true, false, [], Some}
 use Rattle.std.specs.List.{AllByRecursion}
 use Rattle.ip_wire.specs.Address.{IsEthernetAddress, IsIpAddress}
 use Rattle.ip_wire.specs.HardwareAddress.{HardwareAddress}
@@ -37,7 +37,7 @@ pub record IsTypedHost (i : InnerValue) : Type 0 where
   pub routers : AllByRecursion (λ r. IsIpAddress r.via_router) i.routes
   pub ident : i.ident < 2 ^ 16
 
--- a host of its device's medium and MTU, with every checksum on, at which nothing ran and which knows no neighbour
+-- a host of its device's medium and MTU, with every checksum on, of smoltcp's ways, at which nothing ran and which knows no neighbour
 pub record IsInitialStart (s : Start) : Type 0 where
   pub medium : is_of_medium s.host.inner.hardware s.capabilities.medium ≡ true
   pub checksums : s.host.inner.checksums ≡ all_checksums Both
@@ -45,6 +45,7 @@ pub record IsInitialStart (s : Start) : Type 0 where
   pub mtu : is_mtu s.host.inner.mtu ≡ true
   pub own_mtu : s.host.inner.mtu ≡ ip_mtu s.capabilities
   pub initial : s.host.inner.initial ≡ true
+  pub alone : s.host.inner.host_requirements ≡ false
   pub idle : IsIdle s.host.left s.host.assemblers
   pub unknown : s.host.inner.neighbors.entries ≡ []
   pub typed : IsTypedHost s.host.inner

@@ -6,5 +6,5 @@ returns-clause-tells c own node i source target sound six on mine group one from
     solicitation_answered own node sound six i source target on mine group one from
 
 pub returns-clause-known : goal.returns-clause-known
-returns-clause-known c own node i a asked to sound six on unknown sought one mine via =
-    advertisement_known own node sound six i a asked to on unknown sought one mine via
+returns-clause-known c own node i overrides a asked to sound six on unknown sought one mine via =
+    advertisement_known own node sound six i overrides a asked to on unknown sought one mine via
