@@ -66,13 +66,19 @@ abbrev pub is_astray : InnerValue → IpAddress → IpAddress → Bool
 is_astray i source destination =
     is_foreign_loopback i source || (is_foreign_loopback i destination || never_comes i source destination)
 
+abbrev pub is_ipv4_taken_in : InnerValue → Option EthernetRepr → Ipv4Repr → Bool
+is_ipv4_taken_in i link header =
+    passes_filter i link && is_sender i header.src_addr && not (is_astray i (Address.Ipv4 header.src_addr) (Address.Ipv4 header.dst_addr))
+
+abbrev pub is_ipv6_taken_in : InnerValue → Option EthernetRepr → Ipv6Repr → Bool
+is_ipv6_taken_in i link header =
+    passes_filter i link && is_sender_v6 i header && not (is_astray i (Address.Ipv6 header.src_addr) (Address.Ipv6 header.dst_addr))
+
 -- what the host takes in of a frame's content
 abbrev pub is_taken_in : InnerValue → IncomingValue → Bool
 is_taken_in i (Arp link packet) = passes_filter i (Some link)
-is_taken_in i (Ip4 link header fragment payload) =
-    passes_filter i link && is_sender i header.src_addr && not (is_astray i (Address.Ipv4 header.src_addr) (Address.Ipv4 header.dst_addr))
-is_taken_in i (Ip6 link header payload) =
-    passes_filter i link && is_sender_v6 i header && not (is_astray i (Address.Ipv6 header.src_addr) (Address.Ipv6 header.dst_addr))
+is_taken_in i (Ip4 link header fragment payload) = is_ipv4_taken_in i link header
+is_taken_in i (Ip6 link header payload) = is_ipv6_taken_in i link header
 
 abbrev pub taken_in : InnerValue → Option IncomingValue → Option IncomingValue
 taken_in i None = None

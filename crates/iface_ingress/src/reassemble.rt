@@ -5,7 +5,7 @@ ghost use Rattle.net_base.specs.Time.{IsMoment};
 ghost use Rattle.ip_wire.specs.AddressTests.{is_same_hardware};
 ghost use Rattle.ip_wire.specs.HardwareAddress.TheVariants as Hardware;
 ghost use Rattle.iface_ingress.specs.Incoming.{AreMeasured, content_of, incoming_value};
-ghost use Rattle.iface_ingress.specs.Reassembled.{passes_filter, is_sender, is_control_v6, is_probe, is_sender_v6, is_astray, is_taken_in, taken_in, is_fragment};
+ghost use Rattle.iface_ingress.specs.Reassembled.{passes_filter, is_sender, is_control_v6, is_probe, is_sender_v6, is_astray, is_ipv4_taken_in, is_ipv6_taken_in, is_taken_in, taken_in, is_fragment};
 ghost use Rattle.iface_ingress.specs.Reassembled.{is_fragment_v6, following_headers, part_v4, part_v6, part_following, whole_header, is_within, is_strict};
 ghost use Rattle.iface_ingress.specs.Reassembled.{is_unfit, given_up_at, slot_of, slot_in, with_fragment, kept, bytes_at, reassembled, reassembled_v6, released};
 ghost use Rattle.iface_ingress.specs.Parts.{front_bytes, part_value};
@@ -68,25 +68,27 @@ fn is_taken_in(inner: &InterfaceInner, incoming: &Incoming<'_>) -> bool
 {
     match incoming {
         Incoming::Arp { link, .. } => passes_filter(inner, &Some(*link)),
-        Incoming::Ipv4 { link, header, .. } => {
-            passes_filter(inner, link)
-                && is_sender(inner, &header.src_addr)
-                && !is_astray(
-                    inner,
-                    &IpAddress::Ipv4(header.src_addr),
-                    &IpAddress::Ipv4(header.dst_addr),
-                )
-        }
-        Incoming::Ipv6 { link, header, .. } => {
-            passes_filter(inner, link)
-                && is_ipv6_sender(inner, header)
-                && !is_astray(
-                    inner,
-                    &IpAddress::Ipv6(header.src_addr),
-                    &IpAddress::Ipv6(header.dst_addr),
-                )
-        }
+        Incoming::Ipv4 { link, header, .. } => is_ipv4_taken_in(inner, link, header),
+        Incoming::Ipv6 { link, header, .. } => is_ipv6_taken_in(inner, link, header),
     }
+}
+
+fn is_ipv4_taken_in(inner: &InterfaceInner, link: &Option<EthernetRepr>, header: &Ipv4Repr) -> bool
+    ensures { result ≡ is_ipv4_taken_in inner.now link.now header.now }
+{
+    let source = IpAddress::Ipv4(header.src_addr);
+    let destination = IpAddress::Ipv4(header.dst_addr);
+    let astray = is_astray(inner, &source, &destination);
+    passes_filter(inner, link) && is_sender(inner, &header.src_addr) && !astray
+}
+
+fn is_ipv6_taken_in(inner: &InterfaceInner, link: &Option<EthernetRepr>, header: &Ipv6Repr) -> bool
+    ensures { result ≡ is_ipv6_taken_in inner.now link.now header.now }
+{
+    let source = IpAddress::Ipv6(header.src_addr);
+    let destination = IpAddress::Ipv6(header.dst_addr);
+    let astray = is_astray(inner, &source, &destination);
+    passes_filter(inner, link) && is_ipv6_sender(inner, header) && !astray
 }
 
 /// Whether the frame is for this hardware address, for all hardware addresses or for a group.
