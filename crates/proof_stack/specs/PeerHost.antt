@@ -1,5 +1,6 @@
 -- One host, whatever is at the other end, and a TCP socket alongside a conforming peer.
 pub mod SocketRun
+pub mod TakenRun
 pub mod ReachedSocket
 pub mod Steps
 pub mod ReceivedPackets

@@ -18,7 +18,7 @@ ghost use Rattle.proof_stack.specs.PeerHost.Moved.{MovedTo};
 ghost use Rattle.proof_stack.specs.PeerHost.Steps.{Reaches};
 ghost use Rattle.proof_stack.specs.PeerHost.Streams.{IsTcpAt, StreamProceeds};
 ghost use Rattle.proof_stack.specs.PeerHost.Datagrams.{IsUdpAt, DatagramsProceed};
-ghost use Rattle.proof_stack.specs.PeerHost.Runs.{Act, ActsAll, IsSafeRun};
+ghost use Rattle.proof_stack.specs.PeerHost.Runs.{Act, ActsAll, IsSafeRun, IsSafeWhereTaken};
 
 use interface::{Interface, PollResult, SocketSet};
 use net_base::{Device, Instant};
@@ -49,6 +49,13 @@ pub fn devices_only_move<D: Device>()
 pub fn hosts_are_safe_beside_an_honest_peer<D: Device>()
     ensures safe { (acts : List Act) (s s' : State D) (i : ℕ) (v : TcpValue)
         → ActsAll D.moves i acts s s' → IsTcpAt s.slots i v → IsSafeRun D.moves i acts s v s' }
+{}
+
+/// Law: the same alongside each peer that is honest of what the socket takes, at that moment. Where the socket is a listener as the run begins,
+/// what it was before doesn't matter: each client in turn has the promise.
+pub fn hosts_are_safe_where_it_counts<D: Device>()
+    ensures safe { (acts : List Act) (s s' : State D) (i : ℕ) (v : TcpValue)
+        → ActsAll D.moves i acts s s' → IsTcpAt s.slots i v → IsSafeWhereTaken D.moves i acts s v s' }
 {}
 
 /// Polls an interface, which leads each socket on so.

@@ -19,16 +19,16 @@ pub fn two_clients_are_served()
     ensures outcome { taken_in (play_all nothing_yet two_clients 80 2).side ≡ 9 ∷ [] }
 {}
 
-/// That both are safe alongside one another doesn't say that what is freed was taken in: an end may acknowledge what it has thrown away. So
-/// the joint theorem needs, beside the one-sided promise, that each side acknowledges only what it has reached.
+/// That both are safe alongside one another doesn't say that what is freed was taken in: an end may acknowledge what it has thrown away. The
+/// joint theorem also needs that each side acknowledges only what it has reached.
 pub fn honesty_does_not_say_what_was_taken_in()
     ensures one { IsSafeBeside (as_end too_soon.b.side) too_soon.a }
     ensures other { IsSafeBeside (as_end too_soon.a.side) too_soon.b }
     ensures breaks { AreSafe (world_of too_soon) → ⊥ }
 {}
 
-/// What is honest of an end needn't be honest of the same end later: a SYN at the number that a side has before it is opened. So a step of
-/// a joint history keeps it only of segments that this side sent.
+/// What is honest of an end needn't be so later: a SYN at the number that a side has before it is opened. So a step of a joint history
+/// keeps it only of segments that this side sent.
 pub fn honesty_alone_does_not_grow()
     ensures now { IsHonest (as_end (initial 8)) server [] (syn 0) }
     ensures later { IsHonest (as_end (after (initial 8) (Connects (at 100)))) server [] (syn 0) → ⊥ }

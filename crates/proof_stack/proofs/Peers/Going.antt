@@ -24,8 +24,10 @@ use Rattle.tcp_refinement.specs.Run.Event.{Listens as TwoListens, Connects as Tw
 use Rattle.tcp_refinement.specs.Run.Event.{Reads, Closes, Aborts, Changes, Offers, HostResets}
 use Rattle.proof_stack.specs.PeerHost.SocketRun.{Event, Meeting, happens, run, start}
 use Rattle.proof_stack.specs.PeerHost.SocketRun.Event.{Comes, Listens, Connects, Sends, Does}
+use Rattle.proof_stack.specs.PeerHost.TakenRun as taken
 use Rattle.proof_stack.proofs.Peers.Socket.Runs.{runs_safe, read_to_the_end}
-use Rattle.proof_stack.specs.PeerHost.ReachedSocket.{after, after_all, CameBy, HasCome, Proceed, Proceeds, EndIsTrue}
+use Rattle.proof_stack.proofs.Peers.Socket.TakenRuns.{taken_safe}
+use Rattle.proof_stack.specs.PeerHost.ReachedSocket.{after, after_all, CameBy, HasCome, Proceed, Proceeds, EndIsTrue, EndIsTrueWhereTaken}
 
 -- what an event makes of a socket depends on nothing that was seen of it
 pub happens_socket : (w : Meeting) (event : Event) → (happens w event).here.socket ≡ after w.here.socket event
@@ -52,6 +54,7 @@ pub has_come : (first : TcpValue) (resets : List Segment) (events : List Event) 
 has_come first resets events v came = record {
   came = came;
   safe = λ peer end is_run. runs_safe peer first resets events end came.initial came.only_resets is_run;
+  safe_where_taken = λ peer end is_run. taken_safe peer first resets events end came.only_resets came.initial is_run;
 }
 
 pub proceeds : (v v' : TcpValue) (event : Event) → after v event ≡ v' → Proceeds v event v'
@@ -86,20 +89,25 @@ none_open : (o : Option OpenOffer) (queue : List ℕ) → packet_with o queue �
 none_open None queue is = refl
 none_open (Some o) queue is = absurd (cc)
 
--- THE END OF THE STREAM
-
-pub end_is_true : (v : TcpValue) (room : ℕ) → recv_answer v room ≡ Err Recv.Finished → EndIsTrue v
-end_is_true v room tells first resets events peer came end is_run =
-    let w = run (start first resets) events in
-    read_to_the_end peer w.here.socket w.here.past w.came room (runs_safe peer first resets events end came.initial came.only_resets is_run)
-    (ap (λ (u : TcpValue). recv_answer u room) came.leads ∙ tells)
-
 -- SEVERAL EVENTS
 
 pub run_after : (w : Meeting) (events : List Event) → (run w events).here.socket ≡ after_all w.here.socket events
 run_after w [] = refl
 run_after w (event ∷ events) =
     run_after (happens w event) events ∙ ap (λ (u : TcpValue). after_all u events) (happens_socket w event)
+
+-- whatever of what came is taken, the socket is the same
+taken_socket : (w : Meeting) (event : Event) → (taken.happens w event).here.socket ≡ after w.here.socket event
+taken_socket w (Comes cx ip header bytes) = refl
+taken_socket w (Listens endpoint) = refl
+taken_socket w (Connects cx remote local) = refl
+taken_socket w (Sends bytes) = refl
+taken_socket w (Does event) = happens_socket w (Does event)
+
+pub taken_after : (w : Meeting) (events : List Event) → (taken.run w events).here.socket ≡ after_all w.here.socket events
+taken_after w [] = refl
+taken_after w (event ∷ events) =
+    taken_after (taken.happens w event) events ∙ ap (λ (v : TcpValue). after_all v events) (taken_socket w event)
 
 pub all_proceed : (v : TcpValue) (events : List Event) → Proceed v events (after_all v events)
 all_proceed v more first resets events came =
@@ -111,6 +119,21 @@ all_proceed v more first resets events came =
           ap (λ (m : Meeting). m.here.socket) (run_append (start first resets) events more) ∙ run_after w more
           ∙ ap (λ (u : TcpValue). after_all u more) came.leads;
     })
+
+-- THE END OF THE STREAM
+
+pub end_is_true : (v : TcpValue) (room : ℕ) → recv_answer v room ≡ Err Recv.Finished → EndIsTrue v
+end_is_true v room tells first resets events peer came end is_run =
+    let w = run (start first resets) events in
+    read_to_the_end peer w.here.socket w.here.past w.came room (runs_safe peer first resets events end came.initial came.only_resets is_run)
+    (ap (λ (u : TcpValue). recv_answer u room) came.leads ∙ tells)
+
+pub end_is_true_where_taken : (v : TcpValue) (room : ℕ) → recv_answer v room ≡ Err Recv.Finished → EndIsTrueWhereTaken v
+end_is_true_where_taken v room tells first resets events peer came end is_run =
+    let w = taken.run (start first resets) events in
+    let same : w.here.socket ≡ v = taken_after (start first resets) events ∙ sym (run_after (start first resets) events) ∙ came.leads in
+    read_to_the_end peer w.here.socket w.here.past w.came room (taken_safe peer first resets events end came.only_resets came.initial is_run)
+    (ap (λ (u : TcpValue). recv_answer u room) same ∙ tells)
 
 -- EACH CALL
 

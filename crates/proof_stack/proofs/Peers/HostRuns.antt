@@ -4,10 +4,12 @@ use Rattle.net_base.specs.Device.{Move}
 use Rattle.tcp_block.specs.Value.{TcpValue}
 use Rattle.interface.specs.State.{State}
 use Rattle.proof_stack.specs.PeerHost.SocketRun.{Event, start}
+use Rattle.proof_stack.specs.PeerHost.TakenRun.{anew}
 use Rattle.proof_stack.proofs.Peers.Socket.Runs.{runs_safe}
+use Rattle.proof_stack.proofs.Peers.Socket.TakenRuns.{taken_safe, anew_safe}
 use Rattle.proof_stack.specs.PeerHost.ReachedSocket.{after, after_all}
-use Rattle.proof_stack.proofs.Peers.Going.{run_after}
-use Rattle.proof_stack.specs.PeerHost.Runs.{Act, Acts, ActsAll, Saw, SawAll, IsSafeRun}
+use Rattle.proof_stack.proofs.Peers.Going.{run_after, taken_after}
+use Rattle.proof_stack.specs.PeerHost.Runs.{Act, Acts, ActsAll, Saw, SawAll, IsSafeRun, IsSafeWhereTaken}
 use Rattle.proof_stack.specs.PeerHost.Runs.Act.{IsPolled, Calls, Rests}
 use Rattle.proof_stack.specs.PeerHost.Streams.{IsTcpAt}
 use Rattle.proof_stack.proofs.Peers.Tcp.{stream_proceeds}
@@ -54,4 +56,18 @@ module _ {D : Type 0} (moves : D → Move → D → Type 0) (i : ℕ) where
         stays = all.stays;
         leads = run_after (start v []) all.events;
         safe = λ initial peer end is_run. runs_safe peer v [] all.events end initial tt is_run;
+      }
+
+  pub run_is_safe_where_taken : (acts : List Act) (s s' : State D) (v : TcpValue) → ActsAll moves i acts s s' → IsTcpAt s.slots i v →
+      IsSafeWhereTaken moves i acts s v s'
+  run_is_safe_where_taken acts s s' v is at =
+      let all = sees_all acts s s' v is at in
+      record {
+        events = all.events;
+        saw = all.saw;
+        stays = all.stays;
+        leads = taken_after (start v []) all.events;
+        leads_anew = taken_after (anew v []) all.events;
+        safe = λ initial peer end is_run. taken_safe peer v [] all.events end tt initial is_run;
+        anew_safe = λ listener peer end is_run. anew_safe peer v [] all.events end tt listener is_run;
       }

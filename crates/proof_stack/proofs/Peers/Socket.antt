@@ -3,3 +3,6 @@ pub mod Pinned
 pub mod Ends
 pub mod Steps
 pub mod Runs
+pub mod Untaken
+pub mod TakenRuns
+pub mod WhatIsTaken

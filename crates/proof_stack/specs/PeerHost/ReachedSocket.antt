@@ -6,6 +6,8 @@ use Rattle.tcp_block.specs.Value.{TcpValue}
 use Rattle.tcp_refinement.specs.Promises.{IsInitial}
 use Rattle.tcp_peer.specs.Peer.{End, IsEnd}
 use Rattle.proof_stack.specs.PeerHost.SocketRun.{Event, Meeting, IsRun, IsSafeBeside, happens, run, start}
+use Rattle.proof_stack.specs.PeerHost.TakenRun.{IsTakenRun}
+use Rattle.proof_stack.specs.PeerHost.TakenRun as taken
 
 -- what an event makes of a socket, whatever was seen of it
 abbrev pub after : TcpValue → Event → TcpValue
@@ -29,6 +31,9 @@ IsSafeAt peer w = IsSafeBeside peer w.here.socket w.here.past w.came
 pub record HasCome (first : TcpValue) (resets : List Segment) (events : List Event) (v : TcpValue) : Type 0 where
   pub came : CameBy first resets events v
   pub safe : (peer : End) → IsEnd peer → IsRun peer (start first resets) events → IsSafeAt peer (run (start first resets) events)
+  -- and each that is honest of what was taken, whatever else came
+  pub safe_where_taken :
+      (peer : End) → IsEnd peer → IsTakenRun peer (start first resets) events → IsSafeAt peer (taken.run (start first resets) events)
 
 -- wherever events led, these lead on from there
 abbrev pub Proceed : TcpValue → List Event → TcpValue → Type 0
@@ -43,3 +48,10 @@ abbrev pub EndIsTrue : TcpValue → Type 0
 EndIsTrue v =
     (first : TcpValue) (resets : List Segment) (events : List Event) (peer : End) → CameBy first resets events v → IsEnd peer
     → IsRun peer (start first resets) events → (peer.ends ≡ true) × ((run (start first resets) events).here.past.read ≡ peer.stream)
+
+-- the same of each peer that is honest of what was taken
+abbrev pub EndIsTrueWhereTaken : TcpValue → Type 0
+EndIsTrueWhereTaken v =
+    (first : TcpValue) (resets : List Segment) (events : List Event) (peer : End) → CameBy first resets events v → IsEnd peer
+    → IsTakenRun peer (start first resets) events
+    → (peer.ends ≡ true) × ((taken.run (start first resets) events).here.past.read ≡ peer.stream)

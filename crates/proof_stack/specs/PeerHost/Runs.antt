@@ -10,6 +10,8 @@ use Rattle.tcp_refinement.specs.Run.Event.{Reads, Closes, Aborts, Changes}
 use Rattle.tcp_peer.specs.Peer.{End, IsEnd}
 use Rattle.proof_stack.specs.PeerHost.SocketRun.{Event, IsRun, run, start}
 use Rattle.proof_stack.specs.PeerHost.SocketRun.Event.{Listens, Connects, Sends, Does}
+use Rattle.proof_stack.specs.PeerHost.TakenRun.{IsTakenRun, IsListener, anew}
+use Rattle.proof_stack.specs.PeerHost.TakenRun as taken
 use Rattle.proof_stack.specs.PeerHost.ReachedSocket.{IsSafeAt, after, after_all}
 use Rattle.proof_stack.specs.PeerHost.Streams.{IsTcpAt, AreOfPoll}
 
@@ -69,3 +71,15 @@ module _ {D : Type 0} (moves : D → Move → D → Type 0) (i : ℕ) where
     pub stays : IsTcpAt s'.slots i (after_all v events)
     pub leads : (run (start v []) events).here.socket ≡ after_all v events
     pub safe : IsInitial v → (peer : End) → IsEnd peer → IsRun peer (start v []) events → IsSafeAt peer (run (start v []) events)
+
+  -- The same alongside each peer that is honest of what the socket takes; and if the socket is a listener, as it begins anew.
+  pub record IsSafeWhereTaken (acts : List Act) (s : State D) (v : TcpValue) (s' : State D) : Type 0 where
+    pub events : List Event
+    pub saw : SawAll acts s v events s'
+    pub stays : IsTcpAt s'.slots i (after_all v events)
+    pub leads : (taken.run (start v []) events).here.socket ≡ after_all v events
+    pub leads_anew : (taken.run (anew v []) events).here.socket ≡ after_all v events
+    pub safe :
+        IsInitial v → (peer : End) → IsEnd peer → IsTakenRun peer (start v []) events → IsSafeAt peer (taken.run (start v []) events)
+    pub anew_safe :
+        IsListener v → (peer : End) → IsEnd peer → IsTakenRun peer (anew v []) events → IsSafeAt peer (taken.run (anew v []) events)

@@ -15,7 +15,7 @@ ghost use Rattle.tcp_socket.specs.Replies.{replies_in};
 ghost use Rattle.tcp_refinement.specs.Run.Event.{Reads, Closes, Aborts, Offers};
 ghost use Rattle.proof_stack.specs.PeerHost.SocketRun.{Event};
 ghost use Rattle.proof_stack.specs.PeerHost.SocketRun.Event.{Comes, Listens, Connects, Sends, Does};
-ghost use Rattle.proof_stack.specs.PeerHost.ReachedSocket.{after, Proceed, Proceeds, EndIsTrue};
+ghost use Rattle.proof_stack.specs.PeerHost.ReachedSocket.{after, Proceed, Proceeds, EndIsTrue, EndIsTrueWhereTaken};
 
 use ip_wire::{IpEndpoint, IpListenEndpoint, IpRepr, TcpRepr};
 use socket_context::{Context, Packet};
@@ -83,6 +83,7 @@ pub fn recv_slice(socket: &mut Socket, bytes: &mut [u8]) -> Result<usize, RecvEr
         × (bytes.new ≡ take count socket.old.received.waiting ++ drop count bytes.old)) }
     ensures refused { OnErr result ((socket.new ≡ unoffered socket.old) × (bytes.new ≡ bytes.old)) }
     ensures end { result ≡ Err Recv.Finished → EndIsTrue socket.old }
+    ensures end_where_taken { result ≡ Err Recv.Finished → EndIsTrueWhereTaken socket.old }
 {
     socket.recv_slice(bytes)
 }
