@@ -24,7 +24,7 @@ use Rattle.sockets.specs.Packet.{PayloadValue, ControlV4, ControlV6, Bytes, Data
 use Rattle.iface_egress.specs.Departing.{HasSettingsOf}
 use Rattle.iface_tables.specs.ErrorLimit.{answered_at}
 use Rattle.iface_tables.specs.Inner.{InnerValue, at_instant, context_of, is_local_broadcast, is_local_solicited_node, with_error, with_path}
-use Rattle.iface_tables.specs.PathMtu.{entered, entered_at, heard_of, is_news, lowered, path_room, neighbor_index_of, victim}
+use Rattle.iface_tables.specs.PathMtu.{entered, entered_at, heard_of, is_news, lowered, path_room, path_index_of, victim}
 use Rattle.iface_tables.specs.declared.path_mtu.Path.{Path}
 use Rattle.iface_ingress.specs.Arp.{teaches, learned, arp_arrived}
 use Rattle.iface_ingress.specs.Arrives.{Arrived, ArrivesV4, ArrivesV6, Brings, Hands, is_direct, sender_of, renewed, renewed_by, whole_after}
@@ -202,7 +202,7 @@ lowered_none : (paths : List Path) (address : IpAddress) (told : ℕ) (now : ℤ
 unfolding lowered
 lowered_none paths address told now whole is = by (is_news paths address told now whole) is where
   by : (news : Bool) → (if news then entered paths (heard_of address told now) else paths) ≡ [] → paths ≡ []
-  by true is = entered_none (neighbor_index_of paths address) paths (heard_of address told now) is
+  by true is = entered_none (path_index_of paths address) paths (heard_of address told now) is
   by false is = is
 
 later_told : (i : InnerValue) (address : IpAddress) (told : ℕ) → IsLater i (with_path i address told)
