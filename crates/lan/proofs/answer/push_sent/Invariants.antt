@@ -7,7 +7,7 @@ use Rattle.lan.proofs.answer.push_sent.Given as goal
 
 abbrev pub invariant-loop-k : goal.invariant-loop-k
 invariant-loop-k l = record {
-  written : string_bytes l.payload ++ sent_lines l.side l.k (drop l.k (frames_of l.frames))
-      ≡ string_bytes l.fn.payload ++ sent_lines l.side l.first (drop l.first (frames_of l.frames));
+  written : string_bytes l.text ++ sent_lines l.side l.k (drop l.k (frames_of l.frames))
+      ≡ string_bytes l.fn.text ++ sent_lines l.side l.first (drop l.first (frames_of l.frames));
   frames : l.k-end ≡ length l.frames;
 }
