@@ -22,7 +22,7 @@ pub use denote.RattleType.{RattleType, owns}
 pub use denote.Laws.{Typed}
 pub use denote.Signature.{types_at, type_at, plain}
 pub use denote.Builtin.{RawPtr}
-pub use denote.RawPtr.{Ptr, cidr_ptr, null_ptr, ptr_val, in_a_cidr, tests_null}
+pub use denote.RawPtr.{Ptr, block_ptr, null_ptr, ptr_val, in_a_block, tests_null}
 pub use denote.Steps.{nothing, only, heard}
 pub use denote.Param.{param, layout, bounded}
 pub use denote.Param.Laws.{param_laws}

@@ -16,7 +16,7 @@ use types.Kit.{Item, Goal, Seq, Step, step, ‵, given, ◌$◌, use1, learn, mo
 use denote.RattleType.{RattleType, Valss}
 use denote.Builtin.{RawPtr}
 use denote.Memory.{lone}
-use denote.RawPtr.{Ptr, cidr_ptr, null_ptr, ptr_val, in_a_cidr, lies_at, Testable}
+use denote.RawPtr.{Ptr, block_ptr, null_ptr, ptr_val, in_a_block, lies_at, Testable}
 use denote.Steps.{nothing}
 use denote.Param.{layout}
 use denote.Param.Laws.{Laws}
@@ -55,13 +55,13 @@ module _ (R Z : RattleType) (L : Laws Z) (g : Ghosts Z.Denot) where
 
   module _ {M : Type 1} {𝓤 : Ura M} {𝓛 : Logic 𝓤} {K : Type 0} {Γ : List (Item 𝓤)} {G : Goal 𝓤 𝓛.H} where
     pub loose_out : K → (d : Loose.Denot) (vs : List Val)
-        → ((b o : ℕ) (h : Val) → d.at ≡ cidr_ptr b o → vs ≡ word (vptr b o) h ∷ [] → Good (layout Z) h
-        → Seq K 𝓛 (‵ (box_owns (g.dealloc_token d.alloc) R (cidr_ptr b o) d.value) ∷ ‵ (Z.own_val d.alloc (h ∷ [])) ∷ Γ) G)
+        → ((b o : ℕ) (h : Val) → d.at ≡ block_ptr b o → vs ≡ word (vptr b o) h ∷ [] → Good (layout Z) h
+        → Seq K 𝓛 (‵ (box_owns (g.dealloc_token d.alloc) R (block_ptr b o) d.value) ∷ ‵ (Z.own_val d.alloc (h ∷ [])) ∷ Γ) G)
         → Seq K 𝓛 (‵ (Loose.own_val d vs) ∷ Γ) G
     loose_out t d vs next =
         fsplit t $ fpick t (λ parts. fsplit t $ feq_l t (λ whole. fsplit t $ feq_l t (λ at. fsplit t $
         handle_tells owner t d.alloc parts.1.0 (λ h is fits. move t (1 ∷ []) $ drop t $ move t (1 ∷ []) $
-        in_a_cidr t d.at (λ p. box_owns (g.dealloc_token d.alloc) R p d.value)
+        in_a_block t d.at (λ p. box_owns (g.dealloc_token d.alloc) R p d.value)
         (fst∗ 𝓤 (never 𝓤) (sem 𝓛 (g.dealloc_token d.alloc (bare (lone R.mir)) null_ptr)))
         (λ b o e. next b o h e
         (subst (λ (p : Ptr). vs ≡ vstruct (of_list (ptr_val p ∷ h ∷ [])) ∷ []) e
@@ -69,12 +69,12 @@ module _ (R Z : RattleType) (L : Laws Z) (g : Ghosts Z.Denot) where
         (subst (λ (ps : List Val). vs ≡ vstruct (of_list (ps ++ (parts.1.0 ++ []))) ∷ []) at whole))) fits)))))
 
     pub loose_in : K → (b o : ℕ) (h : Val) (a : Z.Denot) (x : R.Denot)
-        → Step K 𝓛 (‵ (Loose.own_val (record { at = cidr_ptr b o; alloc = a; value = x }) (word (vptr b o) h ∷ [])) ∷ Γ) G
-        (‵ (box_owns (g.dealloc_token a) R (cidr_ptr b o) x) ∷ ‵ (Z.own_val a (h ∷ [])) ∷ Γ) G
+        → Step K 𝓛 (‵ (Loose.own_val (record { at = block_ptr b o; alloc = a; value = x }) (word (vptr b o) h ∷ [])) ∷ Γ) G
+        (‵ (box_owns (g.dealloc_token a) R (block_ptr b o) x) ∷ ‵ (Z.own_val a (h ∷ [])) ∷ Γ) G
     loose_in t b o h a x = step (λ next. let v : Val = word (vptr b o) h in
         nothing t $ move t (2 ∷ 0 ∷ []) $ fjoin t $ feq_i t (List Val) (vptr b o ∷ []) (vptr b o ∷ []) refl $ fjoin t $
         feq_i t (List Val) (v ∷ []) (v ∷ []) refl $ fjoin t $
-        fpack t (Valss (RawPtr ∷ Z ∷ [])) (within (shape (loose.the_type R Z g)) (cidr_ptr b o, (a, tt)) (v ∷ [])) (vptr b o ∷ [], (h ∷ [], tt)) $
+        fpack t (Valss (RawPtr ∷ Z ∷ [])) (within (shape (loose.the_type R Z g)) (block_ptr b o, (a, tt)) (v ∷ [])) (vptr b o ∷ [], (h ∷ [], tt)) $
         fjoin t $ next)
 
 -- A HANDLE
@@ -122,11 +122,11 @@ module _ {M : Type 1} {𝓤 : Ura M} {𝓛 : Logic 𝓤} {K : Type 0} {Γ : List
 
   -- nothing, or a box in a block
   pub either : K → (a : Global) (p : Ptr) (x : Option R.Denot) → (p ≡ null_ptr → x ≡ None → Seq K 𝓛 Γ G)
-      → ((b o : ℕ) (y : R.Denot) → p ≡ cidr_ptr b o → x ≡ Some y → Testable (cidr_ptr b o)
-      → Seq K 𝓛 (‵ (box_owns (ghosts.dealloc_token a) R (cidr_ptr b o) y) ∷ Γ) G)
+      → ((b o : ℕ) (y : R.Denot) → p ≡ block_ptr b o → x ≡ Some y → Testable (block_ptr b o)
+      → Seq K 𝓛 (‵ (box_owns (ghosts.dealloc_token a) R (block_ptr b o) y) ∷ Γ) G)
       → Seq K 𝓛 (‵ (held R a p x) ∷ Γ) G
   either t a p None none one = fpick t (λ e. drop t $ none e refl)
   either t a p (Some y) none one =
-      in_a_cidr t p (λ q. box_owns (ghosts.dealloc_token a) R q y) (fst∗ 𝓤 (never 𝓤) (sem 𝓛 (ghosts.dealloc_token a (bare (lone R.mir)) null_ptr)))
-      (λ b o e. use1 𝓛 (given (Testable (cidr_ptr b o)) (‵ (box_owns (ghosts.dealloc_token a) R (cidr_ptr b o) y))) (tested 𝓛 a (cidr_ptr b o) y) $
+      in_a_block t p (λ q. box_owns (ghosts.dealloc_token a) R q y) (fst∗ 𝓤 (never 𝓤) (sem 𝓛 (ghosts.dealloc_token a (bare (lone R.mir)) null_ptr)))
+      (λ b o e. use1 𝓛 (given (Testable (block_ptr b o)) (‵ (box_owns (ghosts.dealloc_token a) R (block_ptr b o) y))) (tested 𝓛 a (block_ptr b o) y) $
       learn t (λ is. one b o y e refl is))

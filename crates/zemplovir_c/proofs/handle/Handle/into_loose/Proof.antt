@@ -2,7 +2,7 @@
 use Rattle.zemplovir_c.proofs.Steps.{◌≡◌, List, [], ◌∷◌, ◌++◌, refl, sym, ap, ◌∙◌, subst, lit<, Val, vptr, vcons, vnil, SProp, ent, emp, id⊢, WpFn, ‵, raw, ◌⊛◌}
 use Rattle.zemplovir_c.proofs.Steps.{at_ret, ◌$◌, ◌∵◌, !, qed, by, move, keep, split, fsplit, fjoin, suffices, use0, use1, stop, fld, lit, of_opd, bin, no_more}
 use Rattle.zemplovir_c.proofs.Steps.{and_then, first, branches, exec, returns, enter, alloc_all, pass_all, free_all, look_at, get, get_in, sets, sets_last, env}
-use Rattle.zemplovir_c.proofs.Steps.{agg, sub, whole, live, fact, fact_i, tables, yes, RattleType, owns, types_at, type_at, plain, Ptr, cidr_ptr, null_ptr}
+use Rattle.zemplovir_c.proofs.Steps.{agg, sub, whole, live, fact, fact_i, tables, yes, RattleType, owns, types_at, type_at, plain, Ptr, block_ptr, null_ptr}
 use Rattle.zemplovir_c.proofs.Steps.{ptr_val, tests_null, nothing, layout, alive, Stays, stay_dropped, walk_of, Goes-blank, after, Ptr-Good, Good, Some-of}
 use Rattle.zemplovir_c.proofs.Steps.{none_of, proved_at, leaves, Option, None, Some, ghosts, and_tt}
 use Rattle.zemplovir_c.proofs.Words.{word, R, Z, LZ, Handle, Loose, loose_good, loose_in, handle_out, either}
@@ -40,14 +40,14 @@ into_loose_spec 𝓤 𝓛 𝓜 𝓡 wired =
     (λ b o x is some t.
     let w : Val = word (vptr b o) h in let typed = loose_good R Z LZ ghosts b o h fits in
     let told = ws ∙ ap (λ (p : Ptr). word (ptr_val p) h ∷ []) is in
-    let v₁ : Val = live 1 (vcons w vnil) in let d : L.Denot = record { at = cidr_ptr b o; alloc = a; value = x } in
+    let v₁ : Val = live 1 (vcons w vnil) in let d : L.Denot = record { at = block_ptr b o; alloc = a; value = x } in
     let good : Good (layout Out) v₁ = (and_tt _ typed.0, (record { fits = lit< tt }, (typed.1, tt))) in
     suffices ! (Run (w ∷ [])) (subst (λ (us : List Val). ent 𝓤 (Run (w ∷ [])) (Run us)) (sym (λ i. told i ++ [])) (id⊢ 𝓤 (Run (w ∷ [])))) $
     loose_in R Z LZ ghosts ! b o h a x $
     enter ! 𝓣.C 𝓣.Λ code.function (w ∷ []) Post $ alloc_all ! (λ l. pass_all ! refl (typed, tt) $ let Ev = env code.function.locals l in
     sets ! (of_opd ! (get_in ! (fld ! refl (stop !)) (sub ! 0 refl (whole !)))) refl (tt, tt) $
     sets ! (of_opd ! (get_in ! (fld ! refl (stop !)) (sub ! 1 refl (whole !)))) refl fits $
-    sets ! (bin ! (get ! refl) (lit ! tt) (tests_null (cidr_ptr b o) t)) refl (tt, tt) $ first ! $ branches ! (get ! refl) (λ wrong. absurd wrong)
+    sets ! (bin ! (get ! refl) (lit ! tt) (tests_null (block_ptr b o) t)) refl (tt, tt) $ first ! $ branches ! (get ! refl) (λ wrong. absurd wrong)
     (λ _. sets ! (of_opd ! (get ! refl)) refl (tt, tt) $
     sets ! (agg ! (and_then ! (get ! refl) (and_then ! (get ! refl) (no_more !)))) refl typed $
     sets_last ! (agg ! (and_then ! (lit ! tt) (and_then ! (get ! refl) (no_more !)))) refl good $

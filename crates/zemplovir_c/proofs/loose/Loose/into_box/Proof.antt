@@ -3,7 +3,7 @@ use Rattle.zemplovir_c.proofs.Steps.{◌≡◌, List, [], ◌∷◌, ◌++◌, r
 use Rattle.zemplovir_c.proofs.Steps.{WpFn, ‵, raw, ◌⊛◌, some, later, at_ret, ◌$◌, ◌∵◌, !, qed, by, move, keep, drop, split, split3, join, fsplit, fjoin, pick}
 use Rattle.zemplovir_c.proofs.Steps.{suffices, use1, await, rewrite, feq_i, stop, fld, of_opd, no_more, and_then, first, blocks, exec, returns, enter}
 use Rattle.zemplovir_c.proofs.Steps.{alloc_all, pass_all, free_all, look_at, get, get_in, sets, lands_last, env, sub, whole, fact, ◌⊑◌, tables, no, RattleType}
-use Rattle.zemplovir_c.proofs.Steps.{owns, types_at, plain, cidr_ptr, nothing, only, param, layout, bounded, param_laws, Lasts, lasts, triple_of}
+use Rattle.zemplovir_c.proofs.Steps.{owns, types_at, plain, block_ptr, nothing, only, param, layout, bounded, param_laws, Lasts, lasts, triple_of}
 use Rattle.zemplovir_c.proofs.Steps.{calls_at_last, Stays, stay_dropped, walk_of, Goes-blank, after, fm, Good, proved_at, leaves}
 use Rattle.std_alloc.proofs.BoxSteps.Form as box
 use Rattle.std_alloc.proofs.BoxSteps.Steps.{box_out, box_in}
@@ -33,7 +33,7 @@ into_box_spec 𝓤 𝓛 𝓜 𝓡 wired T A L LA g d dx dd allocator glue glued 
     loose_out R Z LZ g ! v z.0.4.0 (λ b o h e ws fits.
     let w : Val = word (vptr b o) h in let typed = loose_good R Z LZ g b o h fits in
     let k = triple_of 𝓛 (callee.signature T A g d dd) (callee.spec T A g d dd 𝓛 𝓜.mem 𝓡.returns) in
-    let y : k.Ghost = ((κs, qs, tt, (a, (cidr_ptr b o, tt)), (h ∷ [], (vptr b o ∷ [], tt))), v.value) in let B : RattleType = box.B E in
+    let y : k.Ghost = ((κs, qs, tt, (a, (block_ptr b o, tt)), (h ∷ [], (vptr b o ∷ [], tt))), v.value) in let B : RattleType = box.B E in
     move ! (4 ∷ []) $ use1 𝓛 (raw (fact 𝓤 (κs.0 ⊑ T.lives)) ⊛ raw (fact 𝓤 (κs.1.0 ⊑ A.lives)) ⊛ ‵ ftrue) (id⊢ 𝓤 _) $ split3 ! $ move ! (2 ∷ []) $ drop ! $
     move ! (1 ∷ 2 ∷ []) $ join ! $ move ! (1 ∷ 0 ∷ []) $ join ! $ move ! (2 ∷ []) $ feq_i ! (List Val) (vptr b o ∷ []) (vptr b o ∷ []) refl $ fjoin ! $
     move ! (2 ∷ 0 ∷ []) $ fjoin ! $ move ! (2 ∷ 0 ∷ []) $ join ! $ join ! $ use1 𝓛 (raw (k.pre y)) (id⊢ 𝓤 _) $

@@ -3,7 +3,7 @@ use Rattle.zemplovir_c.proofs.Steps.{◌≡◌, List, [], ◌∷◌, ◌++◌, r
 use Rattle.zemplovir_c.proofs.Steps.{SProp, ent, emp, never, id⊢, fst∗, ftrue, fsep, flft, WpFn, sem, ‵, raw, ◌⊛◌, some, later, ◌$◌, ◌∵◌, !, qed, by, move}
 use Rattle.zemplovir_c.proofs.Steps.{keep, drop, split, split3, join, fsplit, fjoin, fpick, pick, suffices, use0, use1, await, rewrite, feq_l, stop, fld}
 use Rattle.zemplovir_c.proofs.Steps.{of_opd, no_more, and_then, returns, enter, alloc_all, pass_all, free_all, look_at, get, get_in, sets, lands_as, agg, sub}
-use Rattle.zemplovir_c.proofs.Steps.{whole, fact, fact_i, tables, no, RattleType, owns, types_at, plain, RawPtr, Ptr, cidr_ptr, null_ptr, ptr_val, in_a_cidr}
+use Rattle.zemplovir_c.proofs.Steps.{whole, fact, fact_i, tables, no, RattleType, owns, types_at, plain, RawPtr, Ptr, block_ptr, null_ptr, ptr_val, in_a_block}
 use Rattle.zemplovir_c.proofs.Steps.{nothing, only, heard, param, layout, bounded, param_laws, Tuple, triple_of, calls_at, Stays, stay_dropped, walk_of}
 use Rattle.zemplovir_c.proofs.Steps.{Goes-blank, handle_tells, fm, proved_at, leaves, box_owns}
 use Rattle.std_alloc.proofs.BoxSteps.Form as box
@@ -45,7 +45,7 @@ of_spec 𝓤 𝓛 𝓜 𝓡 wired T A L LA g d dx dd allocator glue glued =
     (λ (_ : (Unit {0} × (Unit {0} × Unit {0})) × Unit {0}). ‵ (fsep (fsep ftrue (fsep ftrue ftrue)) ftrue)
     ⊛ (raw (fact 𝓤 (r.1 ≡ a)) ⊛ ‵ (box_owns (g.dealloc_token a) R r.0 v.value)))))) (id⊢ 𝓤 _) $
     await ! tt $ pick ! (λ r. split ! $ move ! (1 ∷ []) $ pick ! (λ _. split3 ! $ drop ! $ heard ! (r.1 ≡ a) (λ ea.
-    in_a_cidr ! r.0 (λ p. box_owns (g.dealloc_token a) R p v.value) (fst∗ 𝓤 (never 𝓤) (sem 𝓛 (g.dealloc_token a (bare (layout T)) null_ptr))) (λ b' o' e'.
+    in_a_block ! r.0 (λ p. box_owns (g.dealloc_token a) R p v.value) (fst∗ 𝓤 (never 𝓤) (sem 𝓛 (g.dealloc_token a (bare (layout T)) null_ptr))) (λ b' o' e'.
     move ! (1 ∷ []) $ split ! $ move ! (1 ∷ []) $ fpick ! (λ parts. fsplit ! $ feq_l ! (λ eu. fsplit ! $ feq_l ! (λ ep. fsplit ! $
     rewrite ! 0 (λ (s : A.Denot). ‵ (A.own_val s parts.1.0)) ea refl $ handle_tells E.al ! a parts.1.0 (λ h' eh fits'.
     let made = loose_good R Z LZ g b' o' h' fits' in
@@ -56,4 +56,4 @@ of_spec 𝓤 𝓛 𝓜 𝓡 wired T A L LA g d dx dd allocator glue glued =
     move ! (3 ∷ 0 ∷ []) $ loose_in R Z LZ g ! b' o' h' a v.value $
     use0 𝓛 (raw (fact 𝓤 (v.value ≡ v.value))) (fact_i 𝓤 (v.value ≡ v.value) (emp 𝓤) refl) $ nothing ! $ nothing ! $ fjoin ! $
     returns ! (look_at ! 0 refl) $ free_all ! refl $ keep ! (4 ∷ 0 ∷ 2 ∷ 1 ∷ []) $
-    by ! (leaves 𝓛 En hs c z (word (vptr b' o') h') (record { at = cidr_ptr b' o'; alloc = a; value = v.value }) ((tt, (tt, tt)), tt) (tt, tt))))))))))))))
+    by ! (leaves 𝓛 En hs c z (word (vptr b' o') h') (record { at = block_ptr b' o'; alloc = a; value = v.value }) ((tt, (tt, tt)), tt) (tt, tt))))))))))))))
