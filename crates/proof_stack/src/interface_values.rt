@@ -1,5 +1,5 @@
 //! The numbers of an interface, what a default is, how an interface begins, and the texts of its errors.
-ghost use Rattle.std.specs.Prelude.{◌≡◌, pos, ◌∷◌, [], None, Some, replicate, codes};
+ghost use Rattle.std.specs.Prelude.{◌≡◌, false, pos, ◌∷◌, [], None, Some, replicate, codes};
 ghost use Rattle.ip_wire.specs.Cidr.{IsCidr};
 ghost use Rattle.ip_wire.specs.HardwareAddress.TheVariants as Hardware;
 ghost use Rattle.ip_wire.specs.IpAddress.TheVariants as Ip;
@@ -45,10 +45,10 @@ pub fn interface_texts()
     ensures assemblers { (e : AssemblerFullError) → ⟦<AssemblerFullError as Display>⟧.output e ≡ Some (codes "AssemblerFullError") }
 {}
 
-/// The configuration with this hardware address, random words of the seed 0, and tables of four neighbours and four routes.
+/// The configuration with this hardware address, random words of the seed 0, tables of four neighbours and four routes, and smoltcp's ways.
 pub fn configured(hardware_addr: HardwareAddress) -> Config
     ensures { result ≡
-        record { random_seed = 0; hardware_addr = hardware_addr; isn_key = None; neighbor_cache_count = 4; max_route_count = 4 } }
+        record { random_seed = 0; hardware_addr = hardware_addr; isn_key = None; neighbor_cache_count = 4; max_route_count = 4; host_requirements = false } }
 {
     Config::new(hardware_addr)
 }
