@@ -36,7 +36,7 @@ use Rattle.interface.proofs.Arrives.{all-bytes}
 use Rattle.tcp_liveness.proofs.Moments.{le_of}
 use Rattle.proof_stack.specs.Progress.NeighborResolution.{HasToAsk}
 use Rattle.proof_stack.specs.Progress.OnEthernet.{TwoSteps, asked_again, datagram_to, for_b, for_nobody}
-use Rattle.proof_stack.specs.Progress.OnEthernet.{hop_limit, in_vain, knowing_nobody, nobodys, packet, packet_from, passed_over}
+use Rattle.proof_stack.specs.Progress.OnEthernet.{hops, in_vain, knowing_nobody, nobodys, packet, packet_from, passed_over}
 use Rattle.proof_stack.specs.Progress.OnEthernet.{second, node, steps_of, waits_for}
 use Rattle.proof_stack.specs.Progress.Rounds.{AreRounds, IsOneOf, PassesOver, Round}
 use Rattle.proof_stack.specs.Progress.Served.{WaitsForHop}
@@ -288,37 +288,37 @@ needs_9_then = record { takes = (refl, refl); may = refl; unknown = refl; asks =
 abbrev pub mark : Ipv4Address → ℤ → Meta
 mark a until = record { waiting = Some (record { neighbor = Address.Ipv4 a; since = pos 0; silent_until = until }) }
 
-b_waits_first : WaitsOn first_host hop_limit (waits_for (address B) 1 for_b)
+b_waits_first : WaitsOn first_host hops (waits_for (address B) 1 for_b)
 unfolding v4_number
 b_waits_first =
-    by_awaited (λ (a : Awaited). IsOneOf a.hop hop_limit × StillNeeds first_host a.hop (waits_for (address B) 1 for_b).inner)
+    by_awaited (λ (a : Awaited). IsOneOf a.hop hops × StillNeeds first_host a.hop (waits_for (address B) 1 for_b).inner)
     (awaited_in first_host (waits_for (address B) 1 for_b)) (record { hop = Address.Ipv4 (address B); last_request = Some (second 1); since = pos 0 }) refl (
       inl refl,
       still_needed first_host for_b (datagram_to (address B)) [] (Address.Ipv4 (address B)) packet refl needs_b_first (mark (address B) (second 1)) refl,
     )
 
-nobody_waits_first : WaitsOn first_host hop_limit (waits_for nobodys 1 for_nobody)
+nobody_waits_first : WaitsOn first_host hops (waits_for nobodys 1 for_nobody)
 unfolding v4_number
 nobody_waits_first =
-    by_awaited (λ (a : Awaited). IsOneOf a.hop hop_limit × StillNeeds first_host a.hop (waits_for nobodys 1 for_nobody).inner)
+    by_awaited (λ (a : Awaited). IsOneOf a.hop hops × StillNeeds first_host a.hop (waits_for nobodys 1 for_nobody).inner)
     (awaited_in first_host (waits_for nobodys 1 for_nobody)) (record { hop = Address.Ipv4 nobodys; last_request = None; since = pos 0 }) refl (
       inr (inl refl),
       still_needed first_host for_nobody (datagram_to nobodys) [] (Address.Ipv4 nobodys) packet_9 refl needs_9_first (mark nobodys (second 1)) refl,
     )
 
-b_waits_then : WaitsOn second_host hop_limit (waits_for (address B) 2 for_b)
+b_waits_then : WaitsOn second_host hops (waits_for (address B) 2 for_b)
 unfolding v4_number
 b_waits_then =
-    by_awaited (λ (a : Awaited). IsOneOf a.hop hop_limit × StillNeeds second_host a.hop (waits_for (address B) 2 for_b).inner)
+    by_awaited (λ (a : Awaited). IsOneOf a.hop hops × StillNeeds second_host a.hop (waits_for (address B) 2 for_b).inner)
     (awaited_in second_host (waits_for (address B) 2 for_b)) (record { hop = Address.Ipv4 (address B); last_request = Some (second 1); since = pos 0 }) refl (
       inl refl,
       still_needed second_host for_b (datagram_to (address B)) [] (Address.Ipv4 (address B)) packet refl needs_b_then (mark (address B) (second 2)) refl,
     )
 
-nobody_waits_then : WaitsOn second_host hop_limit (waits_for nobodys 2 for_nobody)
+nobody_waits_then : WaitsOn second_host hops (waits_for nobodys 2 for_nobody)
 unfolding v4_number
 nobody_waits_then =
-    by_awaited (λ (a : Awaited). IsOneOf a.hop hop_limit × StillNeeds second_host a.hop (waits_for nobodys 2 for_nobody).inner)
+    by_awaited (λ (a : Awaited). IsOneOf a.hop hops × StillNeeds second_host a.hop (waits_for nobodys 2 for_nobody).inner)
     (awaited_in second_host (waits_for nobodys 2 for_nobody)) (record { hop = Address.Ipv4 nobodys; last_request = Some (second 2); since = pos 0 }) refl (
       inr (inl refl),
       still_needed second_host for_nobody (datagram_to nobodys) [] (Address.Ipv4 nobodys) packet_9 refl needs_9_then (mark nobodys (second 2)) refl,
@@ -331,7 +331,7 @@ no_later : (o : Option ℤ) (at now : ℤ) → o ≡ Some at → int_le at now �
 no_later o at now e less when is = subst (λ (m : ℤ). m ≤ℤ now) (same_instant at when (sym e ∙ is)) (le_of at now less)
 
 abbrev Waits : OutStep PortMove → Type 0
-Waits x = WaitsForHop PortMove hop_limit 0 for_b (datagram_to (address B)) (Address.Ipv4 (address B)) packet x
+Waits x = WaitsForHop PortMove hops 0 for_b (datagram_to (address B)) (Address.Ipv4 (address B)) packet x
 
 module _ (t : TwoSteps) where
   abbrev x : OutStep PortMove
@@ -368,21 +368,21 @@ module _ (t : TwoSteps) where
   pub both_wait_on : AllByRecursion Waits (steps_of t)
   both_wait_on = (first_waits, (then_waits, tt))
 
-  pub are_waited_for : AllByRecursion (IsWaitedFor PortMove (Address.Ipv4 (address B)) hop_limit) (steps_of t)
+  pub are_waited_for : AllByRecursion (IsWaitedFor PortMove (Address.Ipv4 (address B)) hops) (steps_of t)
   are_waited_for = (
-    waited_for PortMove hop_limit 0 for_b (datagram_to (address B)) (Address.Ipv4 (address B)) packet x first_waits,
-    (waited_for PortMove hop_limit 0 for_b (datagram_to (address B)) (Address.Ipv4 (address B)) packet y then_waits, tt),
+    waited_for PortMove hops 0 for_b (datagram_to (address B)) (Address.Ipv4 (address B)) packet x first_waits,
+    (waited_for PortMove hops 0 for_b (datagram_to (address B)) (Address.Ipv4 (address B)) packet y then_waits, tt),
   )
 
   -- the second of them asks for B
   pub asks_b : AsksThen PortMove y (Address.Ipv4 (address B))
   unfolding v4_number
-  asks_b = step_asks_in_turn PortMove hop_limit y (record { hop = Address.Ipv4 (address B); last_request = Some (second 1); since = pos 0 }) then_waits.freely refl
+  asks_b = step_asks_in_turn PortMove hops y (record { hop = Address.Ipv4 (address B); last_request = Some (second 1); since = pos 0 }) then_waits.freely refl
 
 -- ITS ROUNDS
 
 pub passes_over : (rounds : List Round) × (length rounds ≡ 1) × AreRounds rounds
-    × AllByRecursion (PassesOver (Address.Ipv4 (address B)) (Some (second 1)) hop_limit) rounds
+    × AllByRecursion (PassesOver (Address.Ipv4 (address B)) (Some (second 1)) hops) rounds
 unfolding v4_number
 passes_over = (round ∷ [], refl, (tt, tt), (passed_by, tt)) where
   round : Round
@@ -393,7 +393,7 @@ passes_over = (round ∷ [], refl, (tt, tt), (passed_by, tt)) where
     turn = refl;
   }
 
-  passed_by : PassesOver (Address.Ipv4 (address B)) (Some (second 1)) hop_limit round
+  passed_by : PassesOver (Address.Ipv4 (address B)) (Some (second 1)) hops round
   passed_by = record {
     n = 0;
     slot = waits_for (address B) 1 for_b;
