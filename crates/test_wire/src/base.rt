@@ -5,3 +5,4 @@ mod devices;
 mod packet_buffer;
 mod ring_buffer;
 mod time;
+mod wrappers;
