@@ -44,48 +44,46 @@ module _ (form : ℤ → Direction → List ℕ → List ℕ → Type 0) where
   shown_first true s all taken count taken' count' taken'' count'' it rest = kept_first s all taken count taken' count' taken'' count'' it rest
   shown_first false s all taken count taken' count' taken'' count'' it rest = silent_first all taken count taken' count' taken'' count'' it.0 it.1 rest
 
-module _ {V : Type 0} (R : V → Move → V → Type 0) (taken : V → List ℕ) (count : V → ℕ) (instant : V → ℤ)
-    (takes : V → Direction → Bool) (form : V → ℤ → Direction → List ℕ → List ℕ → Type 0) where
+module _ {V W : Type 0} (R : V → Move → V → Type 0) (taken : V → List ℕ) (count : V → ℕ) (instant : V → ℤ) (writer : V → W)
+    (takes : W → Direction → Bool) (form : W → ℤ → Direction → List ℕ → List ℕ → Type 0) where
   -- what a step shows, by a writer that stays
   abbrev pub Step : V → Move → V → Type 0
-  Step a m b = Shown (takes a) (form a) (taken a) (count a) (instant a) m (taken b) (count b)
-      × (instant b ≡ instant_after (instant a) m) × (takes b ≡ takes a) × (form b ≡ form a)
+  Step a m b =
+      Shown (takes (writer a)) (form (writer a)) (taken a) (count a) (instant a) m (taken b) (count b)
+      × (instant b ≡ instant_after (instant a) m) × (writer b ≡ writer a)
 
   -- what a run leaves behind it
-  abbrev pub Left : V → List Move → V → ℤ → (Direction → Bool) → (ℤ → Direction → List ℕ → List ℕ → Type 0) → Type 0
-  Left old moves new t chosen shape = Written shape (captured chosen t moves) (taken old) (count old) (taken new) (count new)
+  abbrev pub Left : V → List Move → V → ℤ → W → Type 0
+  Left old moves new t w = Written (form w) (captured (takes w) t moves) (taken old) (count old) (taken new) (count new)
 
-  moved : (old : V) (moves : List Move) (new : V) (t : ℤ) (chosen : Direction → Bool) (shape : ℤ → Direction → List ℕ → List ℕ → Type 0)
-      → instant old ≡ t → takes old ≡ chosen → form old ≡ shape
-      → Left old moves new (instant old) (takes old) (form old) → Left old moves new t chosen shape
-  moved old moves new t chosen shape at by as it =
-      subst (λ (u : ℤ). Left old moves new u chosen shape) at
-      (subst (λ (c : Direction → Bool). Left old moves new (instant old) c shape) by
-      (subst (λ (s : ℤ → Direction → List ℕ → List ℕ → Type 0). Left old moves new (instant old) (takes old) s) as it))
+  moved : (old : V) (moves : List Move) (new : V) (t : ℤ) (w : W) → instant old ≡ t → writer old ≡ w
+      → Left old moves new (instant old) (writer old) → Left old moves new t w
+  moved old moves new t w at wrote it =
+      subst (λ (u : ℤ). Left old moves new u w) at (subst (λ (x : W). Left old moves new (instant old) x) wrote it)
 
   module _ (step : (a : V) (m : Move) (b : V) → R a m b → Step a m b) where
-    pub written : (moves : List Move) (old new : V) → FoldsTo R old moves new → Left old moves new (instant old) (takes old) (form old)
+    pub written : (moves : List Move) (old new : V) → FoldsTo R old moves new → Left old moves new (instant old) (writer old)
     written [] old new same = ([], 0, none, ap taken (sym same) ∙ sym (append-nil (taken old)), ap count (sym same))
     written (Took t frame ∷ moves) old new (next, met, rest) =
         let it = step old (Took t frame) next met in
-        shown_first (form old) (takes old Rx) (seen t Rx frame) (captured (takes old) t moves) _ _ _ _ _ _ it.0
-        (moved next moves new t (takes old) (form old) it.1.0 it.1.1.0 it.1.1.1 (written moves next new rest))
+        shown_first (form (writer old)) (takes (writer old) Rx) (seen t Rx frame) (captured (takes (writer old)) t moves) _ _ _ _ _ _ it.0
+        (moved next moves new t (writer old) it.1 it.2 (written moves next new rest))
     written (Empty t ∷ moves) old new (next, met, rest) =
         let it = step old (Empty t) next met in
-        silent_first (form old) (captured (takes old) t moves) _ _ _ _ _ _ it.0.0 it.0.1
-        (moved next moves new t (takes old) (form old) it.1.0 it.1.1.0 it.1.1.1 (written moves next new rest))
+        silent_first (form (writer old)) (captured (takes (writer old)) t moves) _ _ _ _ _ _ it.0.0 it.0.1
+        (moved next moves new t (writer old) it.1 it.2 (written moves next new rest))
     written (Allowed t leave ∷ moves) old new (next, met, rest) =
         let it = step old (Allowed t leave) next met in
-        silent_first (form old) (captured (takes old) t moves) _ _ _ _ _ _ it.0.0 it.0.1
-        (moved next moves new t (takes old) (form old) it.1.0 it.1.1.0 it.1.1.1 (written moves next new rest))
+        silent_first (form (writer old)) (captured (takes (writer old)) t moves) _ _ _ _ _ _ it.0.0 it.0.1
+        (moved next moves new t (writer old) it.1 it.2 (written moves next new rest))
     written (Emitted frame ∷ moves) old new (next, met, rest) =
         let it = step old (Emitted frame) next met in
-        shown_first (form old) (takes old Tx) (seen (instant old) Tx frame) (captured (takes old) (instant old) moves) _ _ _ _ _ _ it.0
-        (moved next moves new (instant old) (takes old) (form old) it.1.0 it.1.1.0 it.1.1.1 (written moves next new rest))
+        shown_first (form (writer old)) (takes (writer old) Tx) (seen (instant old) Tx frame) (captured (takes (writer old)) (instant old) moves) _ _ _ _ _ _ it.0
+        (moved next moves new (instant old) (writer old) it.1 it.2 (written moves next new rest))
     written (Denied len ∷ moves) old new (next, met, rest) =
         let it = step old (Denied len) next met in
-        silent_first (form old) (captured (takes old) (instant old) moves) _ _ _ _ _ _ it.0.0 it.0.1
-        (moved next moves new (instant old) (takes old) (form old) it.1.0 it.1.1.0 it.1.1.1 (written moves next new rest))
+        silent_first (form (writer old)) (captured (takes (writer old)) (instant old) moves) _ _ _ _ _ _ it.0.0 it.0.1
+        (moved next moves new (instant old) (writer old) it.1 it.2 (written moves next new rest))
 
 -- nothing is lost where no more is counted
 count_grows : (n count : ℕ) → count ≤ 2 ^ 64 - 1 → count ≤ more n count
@@ -103,13 +101,13 @@ none_counted (suc n) count fits same =
     let rest = count_grows n (one_more count) (grind arith) in
     absurd (let clash : count + 1 ≤ count = omega arith in omega arith)
 
-all_of : {mode : PcapMode} {all : List Seen} {bytes : List ℕ} {n : ℕ} → Lines (IsRecord mode) all bytes n → n ≡ 0 → bytes ≡ records_of all
-all_of none is = refl
-all_of (kept {s} {all} {line} {rest} formed among) is =
-    ap (λ xs. xs ++ rest) formed ∙ ap (λ xs. record_of s.instant s.frame ++ xs) (all_of among is)
-all_of (lost among) is = absurd (omega arith)
+all_of : (mode : PcapMode) {all : List Seen} {bytes : List ℕ} {n : ℕ} → Lines (IsRecord mode) all bytes n → n ≡ 0 → bytes ≡ records_of all
+all_of mode none is = refl
+all_of mode (kept {s} {all} {bytes} {rest} formed among) is =
+    ap (λ xs. xs ++ rest) formed ∙ ap (λ xs. record_of s.instant s.frame ++ xs) (all_of mode among is)
+all_of mode (lost among) is = absurd (omega arith)
 
 pub all_written : (mode : PcapMode) (all : List Seen) (taken : List ℕ) (count : ℕ) (taken' : List ℕ) (count' : ℕ)
     → count' ≡ count → count + 1 < 2 ^ 64 → Written (IsRecord mode) all taken count taken' count' → taken' ≡ taken ++ records_of all
 all_written mode all taken count taken' count' same fits (bytes, n, among, is, counted) =
-    is ∙ ap (λ xs. taken ++ xs) (all_of among (none_counted n count fits (sym counted ∙ same)))
+    is ∙ ap (λ xs. taken ++ xs) (all_of mode among (none_counted n count fits (sym counted ∙ same)))

@@ -10,137 +10,159 @@ use Rattle.base_wrappers.specs.Fault.{FaultValue}
 use Rattle.base_wrappers.specs.Duplicate.{DuplicatorValue, Duplicates, Gives, Waits, without}
 use Rattle.base_wrappers.specs.Harm.{frames_in, frames_out, IsNear, Among, no_frame, kept, lost, EachNear, no_frames, next, Repeated, nothing, again, once, twice, Harmed, HarmedOut}
 
--- runs, one behind the other
-pub fold_on : {V A : Type 0} (R : V → A → V → Type 0) (first rest : List A) (a b c : V)
-    → FoldsTo R a first b → FoldsTo R b rest c → FoldsTo R a (first ++ rest) c
-fold_on R [] rest a b c same run = subst (λ (x : _). FoldsTo R x rest c) (sym same) run
-fold_on R (m ∷ first) rest a b c (next, met, more) run = (next, met, fold_on R first rest next b c more run)
-
 module _ {D : Type 0} (M : D → Move → D → Type 0) where
   -- The device within gave these frames but for some that are lost, and took those of these that aren't lost.
-  LosesTo : D → List (List ℕ) → List (List ℕ) → D → Type 0
-  LosesTo d ins outs e = (below : List Move) × FoldsTo M d below e × Among (frames_in below) ins × Among outs (frames_out below)
+  pub record Loses (d : D) (ins outs : List (List ℕ)) (e : D) : Type 0 where
+    pub below : List Move
+    pub ran : FoldsTo M d below e
+    pub came : Among (frames_in below) ins
+    pub went : Among outs (frames_out below)
 
   none_first : {rules : DropRules} {t : ℤ} {n : ℕ} {d e f : D} {c c' : CourseValue} {ins outs : List (List ℕ)}
-      → NoneComes M rules t n d c e c' → LosesTo e ins outs f → LosesTo d ins outs f
+      → NoneComes M rules t n d c e c' → Loses e ins outs f → Loses d ins outs f
   none_first enough run = run
-  none_first {t = t} (empty met) (below, ran, i, o) = (Empty t ∷ below, (_, met, ran), i, o)
+  none_first {t = t} (empty met) run = record { below = Empty t ∷ run.below; ran = (_, met, run.ran); came = run.came; went = run.went }
   none_first {t = t} (past {frame = frame} met hit rest) run =
       let it = none_first rest run in
-      (Took t frame ∷ it.0, (_, met, it.1.0), lost it.1.1.0, it.1.1.1)
+      record { below = Took t frame ∷ it.below; ran = (_, met, it.ran); came = lost it.came; went = it.went }
 
   one_first : {rules : DropRules} {t : ℤ} {whole : List ℕ} {n : ℕ} {d e f : D} {c c' : CourseValue} {ins outs : List (List ℕ)}
-      → OneComes M rules t whole n d c e c' → LosesTo e ins outs f → LosesTo d (whole ∷ ins) outs f
-  one_first {t = t} {whole = whole} (here met stays) (below, ran, i, o) = (Took t whole ∷ below, (_, met, ran), kept i, o)
+      → OneComes M rules t whole n d c e c' → Loses e ins outs f → Loses d (whole ∷ ins) outs f
+  one_first {t = t} {whole = whole} (here met stays) run =
+      record { below = Took t whole ∷ run.below; ran = (_, met, run.ran); came = kept run.came; went = run.went }
   one_first {t = t} (behind {frame = frame} met hit rest) run =
       let it = one_first rest run in
-      (Took t frame ∷ it.0, (_, met, it.1.0), lost it.1.1.0, it.1.1.1)
+      record { below = Took t frame ∷ it.below; ran = (_, met, it.ran); came = lost it.came; went = it.went }
 
-  same_first : {d e f : D} {ins outs : List (List ℕ)} → e ≡ d → LosesTo e ins outs f → LosesTo d ins outs f
-  same_first {f = f} {ins = ins} {outs = outs} same run = subst (λ (x : D). LosesTo x ins outs f) same run
+  same_first : {d e f : D} {ins outs : List (List ℕ)} → e ≡ d → Loses e ins outs f → Loses d ins outs f
+  same_first {f = f} {ins = ins} {outs = outs} same run = subst (λ (x : D). Loses x ins outs f) same run
 
-  goes_first : (gone : Bool) {d e f : D} {frame : List ℕ} {ins outs : List (List ℕ)}
-      → Dropped M gone d frame e → LosesTo e ins outs f → LosesTo d ins (frame ∷ outs) f
-  goes_first true same run =
-      let it = same_first same run in
-      (it.0, it.1.0, it.1.1.0, lost it.1.1.1)
-  goes_first false {frame = frame} met (below, ran, i, o) = (Emitted frame ∷ below, (_, met, ran), i, kept o)
+  gone_first : (frame : List ℕ) {d f : D} {ins outs : List (List ℕ)} → Loses d ins outs f → Loses d ins (frame ∷ outs) f
+  gone_first frame run = record { below = run.below; ran = run.ran; came = run.came; went = lost run.went }
+
+  goes_first : (gone : Bool) (d : D) (frame : List ℕ) {e f : D} {ins outs : List (List ℕ)}
+      → Dropped M gone d frame e → Loses e ins outs f → Loses d ins (frame ∷ outs) f
+  goes_first true d frame same run = gone_first frame (same_first same run)
+  goes_first false d frame met run =
+      record { below = Emitted frame ∷ run.below; ran = (_, met, run.ran); came = run.came; went = kept run.went }
 
   empties_first : {X Y Z : Type 0} {rules : DropRules} {t : ℤ} {d e f : D} {c : CourseValue} {W : CourseValue → Type 0} {ins outs : List (List ℕ)}
-      → ((X × (e ≡ d) × Y) ⊎ (Z × ((c' : CourseValue) × NoneComes M rules t 8 d c e c' × W c'))) → LosesTo e ins outs f → LosesTo d ins outs f
-  empties_first (inl it) run = same_first it.1.0 run
-  empties_first (inr it) run = none_first it.1.1.0 run
+      → ((X × (e ≡ d) × Y) ⊎ (Z × ((c' : CourseValue) × NoneComes M rules t 8 d c e c' × W c'))) → Loses e ins outs f → Loses d ins outs f
+  empties_first (inl it) run = same_first it.1 run
+  empties_first (inr it) run = none_first it.1.1 run
 
   pub loses : (moves : List Move) (old new : DropperValue D) → FoldsTo (Drops M) old moves new
-      → LosesTo old.inner (frames_in moves) (frames_out moves) new.inner
-  loses [] old new same = ([], ap (λ (w : DropperValue D). w.inner) same, no_frame, no_frame)
-  loses (Took t frame ∷ moves) old new (next, met, rest) = one_first met.1.0.1.0 (loses moves next new rest)
-  loses (Empty t ∷ moves) old new (next, met, rest) = empties_first met.0 (loses moves next new rest)
-  loses (Allowed t leave ∷ moves) old new (next, met, rest) =
-      let it = loses moves next new rest in
-      (Allowed t leave ∷ it.0, (_, met.0, it.1.0), it.1.1.0, it.1.1.1)
-  loses (Emitted frame ∷ moves) old new (next, met, rest) =
-      goes_first (is_lost_out old.room (length frame) old.state) met.0 (loses moves next new rest)
-  loses (Denied len ∷ moves) old new (next, met, rest) =
-      let it = loses moves next new rest in
-      (Denied len ∷ it.0, (_, met.0, it.1.0), it.1.1.0, it.1.1.1)
+      → Loses old.inner (frames_in moves) (frames_out moves) new.inner
+  loses [] old new same = record { below = []; ran = ap (λ (w : DropperValue D). w.inner) same; came = no_frame; went = no_frame }
+  loses (Took t frame ∷ moves) old new (between, met, rest) =
+      let comes : OneComes M old.state.rules t frame 8 old.inner old.state.course between.inner met.1.0 = met.1.1 in
+      one_first comes (loses moves between new rest)
+  loses (Empty t ∷ moves) old new (between, met, rest) = empties_first met.0 (loses moves between new rest)
+  loses (Allowed t leave ∷ moves) old new (between, met, rest) =
+      let it = loses moves between new rest in
+      record { below = Allowed t leave ∷ it.below; ran = (_, met.0, it.ran); came = it.came; went = it.went }
+  loses (Emitted frame ∷ moves) old new (between, met, rest) =
+      goes_first (is_lost_out old.room (length frame) old.state) old.inner frame met.0 (loses moves between new rest)
+  loses (Denied len ∷ moves) old new (between, met, rest) =
+      let it = loses moves between new rest in
+      record { below = Denied len ∷ it.below; ran = (_, met.0, it.ran); came = it.came; went = it.went }
 
   -- The device within gave these frames and took those, each but for one bit.
-  ChangesTo : D → List (List ℕ) → List (List ℕ) → D → Type 0
-  ChangesTo d ins outs e = (below : List Move) × FoldsTo M d below e × EachNear (frames_in below) ins × EachNear outs (frames_out below)
+  pub record ChangesTo (d : D) (ins outs : List (List ℕ)) (e : D) : Type 0 where
+    pub below : List Move
+    pub ran : FoldsTo M d below e
+    pub came : EachNear (frames_in below) ins
+    pub went : EachNear outs (frames_out below)
 
   near_of : (drawn : Bool) (c c' : CourseValue) (given frame : List ℕ) → Comes drawn c given frame c' → IsNear given frame
   near_of true c c' given frame (inl it) = inr (_, _, it.0)
   near_of true c c' given frame (inr it) = inl it.0
   near_of false c c' given frame it = inl it.0
 
-  out_first : (drawn : Bool) {c c' : CourseValue} {d e f : D} {frame : List ℕ} {ins outs : List (List ℕ)}
+  out_first : (drawn : Bool) (c c' : CourseValue) (d : D) (frame : List ℕ) {e f : D} {ins outs : List (List ℕ)}
       → Goes M drawn c d frame e c' → ChangesTo e ins outs f → ChangesTo d ins (frame ∷ outs) f
-  out_first true {c = c} {frame = frame} met (below, ran, i, o) = (Emitted (changed c frame) ∷ below, (_, met.0, ran), i, next (inr (_, _, refl)) o)
-  out_first false {frame = frame} met (below, ran, i, o) = (Emitted frame ∷ below, (_, met.0, ran), i, next (inl refl) o)
+  out_first true c c' d frame met run =
+      record { below = Emitted (changed c frame) ∷ run.below; ran = (_, met.0, run.ran); came = run.came; went = next (inr (_, _, refl)) run.went }
+  out_first false c c' d frame met run =
+      record { below = Emitted frame ∷ run.below; ran = (_, met.0, run.ran); came = run.came; went = next (inl refl) run.went }
 
   pub changes : (moves : List Move) (old new : CorrupterValue D) → FoldsTo (Corrupts M) old moves new
       → ChangesTo old.inner (frames_in moves) (frames_out moves) new.inner
-  changes [] old new same = ([], ap (λ (w : CorrupterValue D). w.inner) same, no_frames, no_frames)
+  changes [] old new same = record { below = []; ran = ap (λ (w : CorrupterValue D). w.inner) same; came = no_frames; went = no_frames }
   changes (Took t frame ∷ moves) old new (between, met, rest) =
       let it = changes moves between new rest in
-      let given = met.0.0 in
-      (Took t given ∷ it.0, (_, met.0.1.0, it.1.0), next (near_of (hits old.chance old.course) old.course between.course given frame met.0.1.1) it.1.1.0, it.1.1.1)
+      record {
+        below = Took t met.0.0 ∷ it.below;
+        ran = (_, met.0.1, it.ran);
+        came = next (near_of (hits old.chance old.course) old.course between.course met.0.0 frame met.0.2) it.came;
+        went = it.went;
+      }
   changes (Empty t ∷ moves) old new (between, met, rest) =
       let it = changes moves between new rest in
-      (Empty t ∷ it.0, (_, met.0, it.1.0), it.1.1.0, it.1.1.1)
+      record { below = Empty t ∷ it.below; ran = (_, met.0, it.ran); came = it.came; went = it.went }
   changes (Allowed t leave ∷ moves) old new (between, met, rest) =
       let it = changes moves between new rest in
-      (Allowed t leave ∷ it.0, (_, met.0, it.1.0), it.1.1.0, it.1.1.1)
+      record { below = Allowed t leave ∷ it.below; ran = (_, met.0, it.ran); came = it.came; went = it.went }
   changes (Emitted frame ∷ moves) old new (between, met, rest) =
-      out_first (hits old.chance old.course) met.0 (changes moves between new rest)
+      out_first (hits old.chance old.course) old.course between.course old.inner frame met.0 (changes moves between new rest)
   changes (Denied len ∷ moves) old new (between, met, rest) =
       let it = changes moves between new rest in
-      (Denied len ∷ it.0, (_, met.0, it.1.0), it.1.1.0, it.1.1.1)
+      record { below = Denied len ∷ it.below; ran = (_, met.0, it.ran); came = it.came; went = it.went }
 
   -- The device within gave these frames, some of which came twice, and took those.
-  RepeatsTo : Option (List ℕ) → D → List (List ℕ) → List (List ℕ) → D → Type 0
-  RepeatsTo waiting d ins outs e = (below : List Move) × FoldsTo M d below e × Repeated waiting (frames_in below) ins × (frames_out below ≡ outs)
+  pub record RepeatsTo (waiting : Option (List ℕ)) (d : D) (ins outs : List (List ℕ)) (e : D) : Type 0 where
+    pub below : List Move
+    pub ran : FoldsTo M d below e
+    pub came : Repeated waiting (frames_in below) ins
+    pub went : frames_out below ≡ outs
 
-  waits_as : {w w' : Option (List ℕ)} {all came : List (List ℕ)} → w ≡ w' → Repeated w all came → Repeated w' all came
-  waits_as {all = all} {came = came} same it = subst (λ (x : Option (List ℕ)). Repeated x all came) same it
+  waits_so : {w w' : Option (List ℕ)} {all came : List (List ℕ)} → w ≡ w' → Repeated w all came → Repeated w' all came
+  waits_so {all = all} {came = came} same it = subst (λ (x : Option (List ℕ)). Repeated x all came) same it
 
-  came_once : (drawn : Bool) {c c' : CourseValue} {frame : List ℕ} {waiting : Option (List ℕ)} {all came : List (List ℕ)}
+  came_once : (drawn : Bool) (c c' : CourseValue) (frame : List ℕ) {waiting : Option (List ℕ)} {all came : List (List ℕ)}
       → Waits drawn c frame c' waiting → Repeated waiting all came → Repeated None (frame ∷ all) (frame ∷ came)
-  came_once true (inl it) rest = twice (waits_as it.0 rest)
-  came_once true (inr it) rest = once (waits_as it.0 rest)
-  came_once false it rest = once (waits_as it.0 rest)
+  came_once true c c' frame (inl it) rest = twice (waits_so it.0 rest)
+  came_once true c c' frame (inr it) rest = once (waits_so it.0 rest)
+  came_once false c c' frame it rest = once (waits_so it.0 rest)
 
-  given_first : (waiting : Option (List ℕ)) {t : ℤ} {frame : List ℕ} {old between : DuplicatorValue D} {f : D} {ins outs : List (List ℕ)}
+  given_first : (waiting : Option (List ℕ)) (t : ℤ) (frame : List ℕ) (old between : DuplicatorValue D) {f : D} {ins outs : List (List ℕ)}
       → Gives M waiting t frame old between → RepeatsTo between.waiting between.inner ins outs f → RepeatsTo waiting old.inner (frame ∷ ins) outs f
-  given_first (Some waits) {t = t} {ins = ins} (leave, same, gone, kept) (below, ran, i, o) =
-      (Allowed t true ∷ below, (_, leave, ran), subst (λ (x : List ℕ). Repeated (Some waits) (frames_in below) (x ∷ ins)) (sym same) (again (waits_as gone i)), o)
-  given_first None {t = t} {frame = frame} {old = old} (met, waits) (below, ran, i, o) =
-      (Took t frame ∷ below, (_, met, ran), came_once (hits old.chance old.course) waits i, o)
+  given_first (Some waits) t frame old between {ins = ins} met run = record {
+    below = Allowed t true ∷ run.below;
+    ran = (_, met.0, run.ran);
+    came = subst (λ (x : List ℕ). Repeated (Some waits) (frames_in run.below) (x ∷ ins)) (sym met.1) (again (waits_so met.2 run.came));
+    went = run.went;
+  }
+  given_first None t frame old between met run = record {
+    below = Took t frame ∷ run.below;
+    ran = (_, met.0, run.ran);
+    came = came_once (hits old.chance old.course) old.course between.course frame met.1 run.came;
+    went = run.went;
+  }
 
-  without_first : (waiting : Option (List ℕ)) {t : ℤ} {d e f : D} {w : Option (List ℕ)} {ins outs : List (List ℕ)}
+  without_first : (waiting : Option (List ℕ)) (t : ℤ) (d : D) {e f : D} {w : Option (List ℕ)} {ins outs : List (List ℕ)}
       → M d (without waiting t) e → RepeatsTo w e ins outs f → RepeatsTo w d ins outs f
-  without_first (Some waits) {t = t} met (below, ran, i, o) = (Allowed t false ∷ below, (_, met, ran), i, o)
-  without_first None {t = t} met (below, ran, i, o) = (Empty t ∷ below, (_, met, ran), i, o)
+  without_first (Some waits) t d met run = record { below = Allowed t false ∷ run.below; ran = (_, met, run.ran); came = run.came; went = run.went }
+  without_first None t d met run = record { below = Empty t ∷ run.below; ran = (_, met, run.ran); came = run.came; went = run.went }
 
   still : {w w' : Option (List ℕ)} {d f : D} {ins outs : List (List ℕ)} → w ≡ w' → RepeatsTo w d ins outs f → RepeatsTo w' d ins outs f
-  still same (below, ran, i, o) = (below, ran, waits_as same i, o)
+  still {d = d} {f = f} {ins = ins} {outs = outs} same run = subst (λ (x : Option (List ℕ)). RepeatsTo x d ins outs f) same run
 
   pub repeats : (moves : List Move) (old new : DuplicatorValue D) → FoldsTo (Duplicates M) old moves new
       → RepeatsTo old.waiting old.inner (frames_in moves) (frames_out moves) new.inner
-  repeats [] old new same = ([], ap (λ (w : DuplicatorValue D). w.inner) same, nothing, refl)
-  repeats (Took t frame ∷ moves) old new (between, met, rest) = given_first old.waiting met.0 (repeats moves between new rest)
+  repeats [] old new same = record { below = []; ran = ap (λ (w : DuplicatorValue D). w.inner) same; came = nothing; went = refl }
+  repeats (Took t frame ∷ moves) old new (between, met, rest) = given_first old.waiting t frame old between met.0 (repeats moves between new rest)
   repeats (Empty t ∷ moves) old new (between, met, rest) =
-      without_first old.waiting met.0 (still met.1.0 (repeats moves between new rest))
+      without_first old.waiting t old.inner met.0 (still met.1 (repeats moves between new rest))
   repeats (Allowed t leave ∷ moves) old new (between, met, rest) =
-      let it = still met.1.0 (repeats moves between new rest) in
-      (Allowed t leave ∷ it.0, (_, met.0, it.1.0), it.1.1.0, it.1.1.1)
+      let it = still met.1 (repeats moves between new rest) in
+      record { below = Allowed t leave ∷ it.below; ran = (_, met.0, it.ran); came = it.came; went = it.went }
   repeats (Emitted frame ∷ moves) old new (between, met, rest) =
-      let it = still met.1.0 (repeats moves between new rest) in
-      (Emitted frame ∷ it.0, (_, met.0, it.1.0), it.1.1.0, ap (λ xs. frame ∷ xs) it.1.1.1)
+      let it = still met.1 (repeats moves between new rest) in
+      record { below = Emitted frame ∷ it.below; ran = (_, met.0, it.ran); came = it.came; went = ap (λ xs. frame ∷ xs) it.went }
   repeats (Denied len ∷ moves) old new (between, met, rest) =
-      let it = still met.1.0 (repeats moves between new rest) in
-      (Denied len ∷ it.0, (_, met.0, it.1.0), it.1.1.0, it.1.1.1)
+      let it = still met.1 (repeats moves between new rest) in
+      record { below = Denied len ∷ it.below; ran = (_, met.0, it.ran); came = it.came; went = it.went }
 
 -- the three devices one in the other
 pub bounded : {D : Type 0} (M : D → Move → D → Type 0) (moves : List Move) (old new : FaultValue D)
@@ -149,11 +171,10 @@ pub bounded : {D : Type 0} (M : D → Move → D → Type 0) (moves : List Move)
     × Harmed old.waiting (frames_in below) (frames_in moves) × HarmedOut (frames_out moves) (frames_out below)
 bounded M moves old new run =
     let r = repeats (Corrupts (Drops M)) moves old new run in
-    let c = changes (Drops M) r.0 old.inner new.inner r.1.0 in
-    let l = loses M c.0 old.inner.inner new.inner.inner c.1.0 in
-    (
-      l.0,
-      l.1.0,
-      (frames_in c.0, (frames_in r.0, (l.1.1.0, (c.1.1.0, r.1.1.0)))),
-      (frames_out c.0, (subst (λ (x : List (List ℕ)). EachNear x (frames_out c.0)) r.1.1.1 c.1.1.1, l.1.1.1)),
+    let c = changes (Drops M) r.below old.inner new.inner r.ran in
+    let l = loses M c.below old.inner.inner new.inner.inner c.ran in (
+      l.below,
+      l.ran,
+      (frames_in c.below, frames_in r.below, l.came, c.came, r.came),
+      (frames_out c.below, subst (λ (x : List (List ℕ)). EachNear x (frames_out c.below)) r.went c.went, l.went),
     )

@@ -46,8 +46,8 @@ by_case : (over : Bool) (rate interval : ℕ) (begin t : ℤ) (instants : List �
 by_case true rate interval begin t instants b over from within may all rest =
     let began = first_step rate interval t b over in
     let one : length instants ≤ rate =
-        in_one rate interval begin t instants (record { begun = Some t; left = rate }) refl from within
-        (subst (λ (x : Level). AllLet (suc rate) interval instants x) began all) in
+    in_one rate interval begin t instants (record { begun = Some t; left = rate }) refl from within
+    (subst (λ (x : Level). AllLet (suc rate) interval instants x) began all) in
     omega (arith, one)
 by_case false rate interval begin t instants b stays from within may all rest = two_steps (length instants) rate interval t b stays may rest
 
@@ -67,7 +67,7 @@ at_most_twice (suc rate) interval begin instants b some fits within all =
     omega (arith, it, fits)
 
 -- the rules and what is left of the rate of frames that come are as they were
-IsQuiet : DropState → DropState → Type 0
+abbrev IsQuiet : DropState → DropState → Type 0
 IsQuiet s s' = (s'.rules ≡ s.rules) × (s'.rx ≡ s.rx)
 
 same_rules : (s s' : DropState) (rate interval : ℕ) (instants : List ℤ) → s.rules.rx_rate ≡ rate → s.rules.interval ≡ interval → IsQuiet s s'
@@ -76,16 +76,16 @@ same_rules s s' rate interval instants is at quiet rest =
     subst (λ (x : Level). AllLet rate interval instants x) quiet.1
     (rest (ap (λ (r : DropRules). r.rx_rate) quiet.0 ∙ is) (ap (λ (r : DropRules). r.interval) quiet.0 ∙ at))
 
-kept_by : {t : ℤ} {s s' : DropState} → s' ≡ noted t s → IsQuiet s s'
-kept_by same = (ap (λ (x : DropState). x.rules) same, ap (λ (x : DropState). x.rx) same)
+kept_by : (t : ℤ) (s s' : DropState) → s' ≡ noted t s → IsQuiet s s'
+kept_by t s s' same = (ap (λ (x : DropState). x.rules) same, ap (λ (x : DropState). x.rx) same)
 
-sent_by : {room len : ℕ} {s s' : DropState} → s' ≡ sent room len s → IsQuiet s s'
-sent_by same = (ap (λ (x : DropState). x.rules) same, ap (λ (x : DropState). x.rx) same)
+sent_by : (room len : ℕ) (s s' : DropState) → s' ≡ sent room len s → IsQuiet s s'
+sent_by room len s s' same = (ap (λ (x : DropState). x.rules) same, ap (λ (x : DropState). x.rx) same)
 
-quiet : {X Y Z : Type 0} {W : CourseValue → Type 0} {t : ℤ} {s s' : DropState}
+quiet : {X Y Z : Type 0} {W : CourseValue → Type 0} (t : ℤ) (s s' : DropState)
     → ((X × Y × (s' ≡ noted t s)) ⊎ (Z × ((c : CourseValue) × W c × (s' ≡ looked t c s)))) → IsQuiet s s'
-quiet (inl it) = kept_by it.1.1
-quiet (inr it) = (ap (λ (x : DropState). x.rules) it.1.1.1, ap (λ (x : DropState). x.rx) it.1.1.1)
+quiet t s s' (inl it) = kept_by t s s' it.2
+quiet t s s' (inr it) = (ap (λ (x : DropState). x.rules) it.1.2, ap (λ (x : DropState). x.rx) it.1.2)
 
 module _ {D : Type 0} (M : D → Move → D → Type 0) where
   -- each frame that came was let
@@ -93,25 +93,24 @@ module _ {D : Type 0} (M : D → Move → D → Type 0) where
       → FoldsTo (Drops M) old moves new → AllLet rate interval (instants_in moves) old.state.rx
   let_in [] old new rate interval is at run = tt
   let_in (Took t frame ∷ moves) old new rate interval is at (next, met, rest) =
-      let after = met.1.0.1.1 in
-      let all = let_in moves next new rate interval (ap (λ (s : DropState). s.rules.rx_rate) after ∙ is) (ap (λ (s : DropState). s.rules.interval) after ∙ at) rest in
-      (
+      let after = met.1.2 in
+      let all = let_in moves next new rate interval (ap (λ (s : DropState). s.rules.rx_rate) after ∙ is) (ap (λ (s : DropState). s.rules.interval) after ∙ at) rest in (
         subst (λ (i : ℕ). IsTrue (lets rate i t old.state.rx)) at (subst (λ (r : ℕ). IsTrue (lets r old.state.rules.interval t old.state.rx)) is met.0),
         subst (λ (i : ℕ). AllLet rate interval (instants_in moves) (spent rate i t old.state.rx)) at
-        (subst (λ (r : ℕ). AllLet rate interval (instants_in moves) (spent r old.state.rules.interval t old.state.rx)) is
-        (subst (λ (x : Level). AllLet rate interval (instants_in moves) x) (ap (λ (s : DropState). s.rx) after) all)),
+            (subst (λ (r : ℕ). AllLet rate interval (instants_in moves) (spent r old.state.rules.interval t old.state.rx)) is
+            (subst (λ (x : Level). AllLet rate interval (instants_in moves) x) (ap (λ (s : DropState). s.rx) after) all)),
       )
   let_in (Empty t ∷ moves) old new rate interval is at (next, met, rest) =
-      same_rules old.state next.state rate interval (instants_in moves) is at (quiet met.0)
+      same_rules old.state next.state rate interval (instants_in moves) is at (quiet t old.state next.state met.0)
       (λ r i. let_in moves next new rate interval r i rest)
   let_in (Allowed t leave ∷ moves) old new rate interval is at (next, met, rest) =
-      same_rules old.state next.state rate interval (instants_in moves) is at (kept_by met.1.0)
+      same_rules old.state next.state rate interval (instants_in moves) is at (kept_by t old.state next.state met.1)
       (λ r i. let_in moves next new rate interval r i rest)
   let_in (Emitted frame ∷ moves) old new rate interval is at (next, met, rest) =
-      same_rules old.state next.state rate interval (instants_in moves) is at (sent_by met.1.0)
+      same_rules old.state next.state rate interval (instants_in moves) is at (sent_by old.room (length frame) old.state next.state met.1)
       (λ r i. let_in moves next new rate interval r i rest)
   let_in (Denied len ∷ moves) old new rate interval is at (next, met, rest) =
-      same_rules old.state next.state rate interval (instants_in moves) is at (sent_by met.1.0)
+      same_rules old.state next.state rate interval (instants_in moves) is at (sent_by old.room len old.state next.state met.1)
       (λ r i. let_in moves next new rate interval r i rest)
 
 as_many : (moves : List Move) → length (frames_in moves) ≡ length (instants_in moves)
@@ -128,5 +127,5 @@ pub came_at_most : {D : Type 0} (M : D → Move → D → Type 0) (moves : List 
 came_at_most M moves old new begin run some fits within =
     let count = as_many moves in
     let it = at_most_twice old.state.rules.rx_rate old.state.rules.interval begin (instants_in moves) old.state.rx some fits within
-        (let_in M moves old new old.state.rules.rx_rate old.state.rules.interval refl refl run) in
+    (let_in M moves old new old.state.rules.rx_rate old.state.rules.interval refl refl run) in
     subst (λ (n : ℕ). n ≤ 2 * old.state.rules.rx_rate) (sym count) it

@@ -111,7 +111,7 @@ sent room len s = record {
   course = if is_lost_out room len s then tx_counted (drawn s.course) else drawn s.course;
   rx = s.rx;
   tx = spent s.rules.tx_rate s.rules.interval s.instant s.tx;
-  instant = s.instant
+  instant = s.instant;
 }
 
 module _ {D : Type 0} (moves : D → Move → D → Type 0) where

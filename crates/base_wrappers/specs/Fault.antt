@@ -19,11 +19,11 @@ module _ {D : Type 0} where
     inner = record {
       inner = record { inner = inner; state = fresh seed; room = room };
       chance = 0;
-      course = begun_at (seed_after seed)
+      course = begun_at (seed_after seed);
     };
     chance = 0;
     course = begun_at (seed_after (seed_after seed));
-    waiting = None
+    waiting = None;
   }
 
   -- with another device for changes

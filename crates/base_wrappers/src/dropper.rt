@@ -36,7 +36,7 @@ impl Model for Dropping {
       course = s.course;
       rx = s.rx;
       tx = s.tx;
-      instant = s.instant
+      instant = s.instant;
     } };
 }
 
@@ -119,7 +119,7 @@ fn receive_within<D: Device>(
     ensures moves { MatchOption result
         (NoneComes D.moves state.old.rules timestamp most inner.old state.old.course inner.new state.new.course)
         (λ tokens. OneComes D.moves state.old.rules timestamp (D.RxToken.frame tokens.0) most inner.old state.old.course
-            inner.new state.new.course) }
+        inner.new state.new.course) }
     ensures rules { state.new.rules ≡ state.old.rules }
     ensures rx { state.new.rx ≡ state.old.rx }
     ensures tx { state.new.tx ≡ state.old.tx }

@@ -175,11 +175,11 @@ impl<D: Device> FaultInjector<D> {
     /// What was harmed so far.
     pub fn counts(&self) -> FaultCounts
         ensures { result ≡ record {
-            rx_dropped = self.now.inner.inner.state.course.rx;
-            tx_dropped = self.now.inner.inner.state.course.tx;
-            rx_corrupted = self.now.inner.course.rx;
-            tx_corrupted = self.now.inner.course.tx;
-            rx_duplicated = self.now.course.rx
+          rx_dropped = self.now.inner.inner.state.course.rx;
+          tx_dropped = self.now.inner.inner.state.course.tx;
+          rx_corrupted = self.now.inner.course.rx;
+          tx_corrupted = self.now.inner.course.tx;
+          rx_duplicated = self.now.course.rx;
         } }
     {
         let (rx_dropped, tx_dropped) = self.parts.inner.inner.dropped();

@@ -18,7 +18,7 @@ pub fn harm_is_bounded<D: Device>()
     ensures { (moves : List Move) (old new : FaultValue D)
         → FoldsTo ⟦<FaultInjector<D> as Device>⟧.moves old moves new
         → (below : List Move) × FoldsTo D.moves old.inner.inner.inner below new.inner.inner.inner
-            × Harmed old.waiting (frames_in below) (frames_in moves) × HarmedOut (frames_out moves) (frames_out below) }
+        × Harmed old.waiting (frames_in below) (frames_in moves) × HarmedOut (frames_out moves) (frames_out below) }
 {}
 
 /// Law: within any time as long as the interval, at most twice as many frames come as the rate says; and at most so many are let through

@@ -35,11 +35,7 @@ impl<D, T, R> Model for FuzzInjector<D, T, R> {
 }
 
 /// Runs the closure, and writes over what it left.
-fn run_and_fuzz<R, F: FnOnce(&mut [u8]) -> R, Z: Fuzzer>(
-    f: F,
-    frame: &mut [u8],
-    fuzzer: &Z,
-) -> R
+fn run_and_fuzz<R, F: FnOnce(&mut [u8]) -> R, Z: Fuzzer>(f: F, frame: &mut [u8], fuzzer: &Z) -> R
     requires { FnOnceTakesAtMut F.FnOnce f frame.old }
     ensures { (left : List ℕ) × (length left ≡ length frame.old)
         × FnOnceReturnsAtMut F.FnOnce f frame.old result left × (length frame.new ≡ length frame.old) }

@@ -27,7 +27,7 @@ pub fn traces_are_exact<D: Device, S: Sink, W: FrameWriter>()
     ensures { (moves : List Move) (old new : TracerValue D S W)
         → FoldsTo ⟦<Tracer<D, S, W> as Device>⟧.moves old moves new
         → Written (W.writes old.writer) (captured (W.takes old.writer) old.instant moves)
-            (S.taken old.sink) old.lost (S.taken new.sink) new.lost }
+        (S.taken old.sink) old.lost (S.taken new.sink) new.lost }
 {}
 
 /// Law: a capture of which nothing was lost is exactly the records of all frames that went over, of those that its mode captures.

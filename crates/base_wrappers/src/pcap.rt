@@ -176,8 +176,8 @@ impl<D: Device, S: Sink> PcapWriter<D, S> {
     /// Lends the device to `f`, as a program needs it that hands frames over.
     pub fn update_inner<R, F: FnOnce(&mut D) -> R>(&mut self, f: F) -> R
         requires { FnOnceTakesAtMut F.FnOnce f self.old.inner }
-        ensures inner { FnOnceReturnsAtMut F.FnOnce f self.old.inner result self.new.inner }
-        ensures rest { self.new ≡ with_inner self.new.inner self.old }
+        ensures { (after : D) × FnOnceReturnsAtMut F.FnOnce f self.old.inner result after
+            × (self.new ≡ with_inner after self.old) }
     {
         self.tracer.update_inner(f)
     }
@@ -185,8 +185,8 @@ impl<D: Device, S: Sink> PcapWriter<D, S> {
     /// Lends the sink to `f`, to read from it.
     pub fn update_sink<R, F: FnOnce(&mut S) -> R>(&mut self, f: F) -> R
         requires { FnOnceTakesAtMut F.FnOnce f self.old.sink }
-        ensures sink { FnOnceReturnsAtMut F.FnOnce f self.old.sink result self.new.sink }
-        ensures rest { self.new ≡ with_sink self.new.sink self.old }
+        ensures { (after : S) × FnOnceReturnsAtMut F.FnOnce f self.old.sink result after
+            × (self.new ≡ with_sink after self.old) }
     {
         self.tracer.update_sink(f)
     }

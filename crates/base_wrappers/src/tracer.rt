@@ -145,8 +145,8 @@ impl<D: Device, S: Sink, W: FrameWriter> Tracer<D, S, W> {
     /// Lends the device to `f`, as a program needs it that hands frames over.
     pub fn update_inner<R, F: FnOnce(&mut D) -> R>(&mut self, f: F) -> R
         requires { FnOnceTakesAtMut F.FnOnce f self.old.inner }
-        ensures inner { FnOnceReturnsAtMut F.FnOnce f self.old.inner result self.new.inner }
-        ensures rest { self.new ≡ with_inner self.new.inner self.old }
+        ensures { (after : D) × FnOnceReturnsAtMut F.FnOnce f self.old.inner result after
+            × (self.new ≡ with_inner after self.old) }
     {
         f(&mut self.inner)
     }
@@ -154,8 +154,8 @@ impl<D: Device, S: Sink, W: FrameWriter> Tracer<D, S, W> {
     /// Lends the sink to `f`, to read from it.
     pub fn update_sink<R, F: FnOnce(&mut S) -> R>(&mut self, f: F) -> R
         requires { FnOnceTakesAtMut F.FnOnce f self.old.sink }
-        ensures sink { FnOnceReturnsAtMut F.FnOnce f self.old.sink result self.new.sink }
-        ensures rest { self.new ≡ with_sink self.new.sink self.old }
+        ensures { (after : S) × FnOnceReturnsAtMut F.FnOnce f self.old.sink result after
+            × (self.new ≡ with_sink after self.old) }
     {
         f(&mut self.sink)
     }
@@ -216,7 +216,7 @@ impl<D: Device, S: Sink, W: FrameWriter> Tracer<D, S, W> {
         ensures instant { self.new.instant ≡ self.old.instant }
         ensures noted { (frame : List ℕ) → IfSome copy (λ c. c.items ≡ frame)
             → Noted (W.takes self.old.writer Tx) (W.writes self.old.writer self.old.instant Tx frame)
-                (S.taken self.old.sink) self.old.lost (S.taken self.new.sink) self.new.lost }
+            (S.taken self.old.sink) self.old.lost (S.taken self.new.sink) self.new.lost }
     {
         let Some(copy) = copy else {
             if self.writer.takes(Direction::Tx) {

@@ -119,11 +119,12 @@ fn fuzzes(alloc: Global) -> bool {
 
 /// An ARP request for 192.168.1.2 (RFC 826).
 const REQUEST: [u8; 42] = [
-    0xff, 0xff, 0xff, 0xff, 0xff, 0xff, 2, 0, 0, 0, 0, 1, 8, 6, 0, 1, 8, 0, 6, 4, 0, 1, 2, 0, 0, 0, 0,
-    1, 192, 168, 1, 1, 0, 0, 0, 0, 0, 0, 192, 168, 1, 2,
+    0xff, 0xff, 0xff, 0xff, 0xff, 0xff, 2, 0, 0, 0, 0, 1, 8, 6, 0, 1, 8, 0, 6, 4, 0, 1, 2, 0, 0, 0,
+    0, 1, 192, 168, 1, 1, 0, 0, 0, 0, 0, 0, 192, 168, 1, 2,
 ];
 
-const LINE: &str = "[  1.500000s] -> Ethernet 02-00-00-00-00-01 > ff-ff-ff-ff-ff-ff, ARP, ARP request (1), 192.168.1.1 at \
+const LINE: &str =
+    "[  1.500000s] -> Ethernet 02-00-00-00-00-01 > ff-ff-ff-ff-ff-ff, ARP, ARP request (1), 192.168.1.1 at \
     02-00-00-00-00-01 to 192.168.1.2 at 00-00-00-00-00-00\n";
 
 fn traces(alloc: Global) -> Option<bool> {
