@@ -203,7 +203,11 @@ const IPV6_KINDS: [Ipv6Kinds; 8] = [
     Ipv6Kinds(LOCAL, [false, false, false, true, true], 2),
     Ipv6Kinds(SITE, [false, false, false, true, false], 14),
     Ipv6Kinds(GLOBAL, [false, false, false, true, false], 14),
-    Ipv6Kinds(Ipv6Address::LOCALHOST, [true, false, false, true, false], 2),
+    Ipv6Kinds(
+        Ipv6Address::LOCALHOST,
+        [true, false, false, true, false],
+        2,
+    ),
     Ipv6Kinds(
         Ipv6Address::UNSPECIFIED,
         [false, true, false, false, false],
