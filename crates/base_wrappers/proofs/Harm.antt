@@ -75,6 +75,7 @@ module _ {D : Type 0} (M : D → Move → D → Type 0) where
     pub went : EachNear outs (frames_out below)
 
   near_of : (drawn : Bool) (c c' : CourseValue) (given frame : List ℕ) → Comes drawn c given frame c' → IsNear given frame
+  unfolding Comes
   near_of true c c' given frame (inl it) = inr (_, _, it.0)
   near_of true c c' given frame (inr it) = inl it.0
   near_of false c c' given frame it = inl it.0

@@ -6,7 +6,7 @@ use Rattle.std.specs.List.{FoldsTo}
 use Rattle.base_device.specs.Device.{Move, Took, Empty, Allowed, Emitted, Denied}
 use Rattle.base_wrappers.specs.Bucket.{Level, lets, spent, refilled, is_over, one_less}
 use Rattle.base_wrappers.specs.Course.{CourseValue}
-use Rattle.base_wrappers.specs.Drop.{DropRules, DropState, DropperValue, Drops, noted, looked, sent}
+use Rattle.base_wrappers.specs.Drop.{DropRules, DropState, DropperValue, Drops, noted, looked, sent, may_come, came}
 use Rattle.base_wrappers.specs.Harm.{frames_in}
 use Rattle.base_wrappers.specs.Rates.{instants_in, AllLet, AllWithin}
 
@@ -80,6 +80,7 @@ kept_by : (t : ℤ) (s s' : DropState) → s' ≡ noted t s → IsQuiet s s'
 kept_by t s s' same = (ap (λ (x : DropState). x.rules) same, ap (λ (x : DropState). x.rx) same)
 
 sent_by : (room len : ℕ) (s s' : DropState) → s' ≡ sent room len s → IsQuiet s s'
+unfolding sent
 sent_by room len s s' same = (ap (λ (x : DropState). x.rules) same, ap (λ (x : DropState). x.rx) same)
 
 quiet : {X Y Z : Type 0} {W : CourseValue → Type 0} (t : ℤ) (s s' : DropState)
@@ -91,6 +92,7 @@ module _ {D : Type 0} (M : D → Move → D → Type 0) where
   -- each frame that came was let
   pub let_in : (moves : List Move) (old new : DropperValue D) (rate interval : ℕ) → old.state.rules.rx_rate ≡ rate → old.state.rules.interval ≡ interval
       → FoldsTo (Drops M) old moves new → AllLet rate interval (instants_in moves) old.state.rx
+  unfolding may_come came
   let_in [] old new rate interval is at run = tt
   let_in (Took t frame ∷ moves) old new rate interval is at (next, met, rest) =
       let after = met.1.2 in

@@ -31,7 +31,7 @@ abbrev pub changed : CourseValue → List ℕ → List ℕ
 changed c frame = flipped (next_word (drawn c)) (next_word (drawn (drawn c))) frame
 
 -- Of a frame that was drawn, the other one comes, and is counted; without memory for a copy it comes as it is.
-abbrev pub Comes : Bool → CourseValue → List ℕ → List ℕ → CourseValue → Type 0
+unfoldable pub Comes : Bool → CourseValue → List ℕ → List ℕ → CourseValue → Type 0
 Comes true c given frame c' = ((frame ≡ changed c given) × (c' ≡ rx_counted (after c))) ⊎ ((frame ≡ given) × (c' ≡ after c))
 Comes false c given frame c' = (frame ≡ given) × (c' ≡ after c)
 

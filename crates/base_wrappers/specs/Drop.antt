@@ -91,21 +91,21 @@ abbrev pub looked : ℤ → CourseValue → DropState → DropState
 looked t c s = record { rules = s.rules; course = c; rx = s.rx; tx = s.tx; instant = t }
 
 -- and one came
-abbrev pub came : ℤ → CourseValue → DropState → DropState
+unfoldable pub came : ℤ → CourseValue → DropState → DropState
 came t c s =
     record { rules = s.rules; course = c; rx = spent s.rules.rx_rate s.rules.interval t s.rx; tx = s.tx; instant = t }
 
 -- whether a frame may come
-abbrev pub may_come : ℤ → DropState → Bool
+unfoldable pub may_come : ℤ → DropState → Bool
 may_come t s = lets s.rules.rx_rate s.rules.interval t s.rx
 
 -- Whether a frame of this length is lost on its way out. One that is longer than the room isn't, since it has to be written somewhere.
-abbrev pub is_lost_out : ℕ → ℕ → DropState → Bool
+unfoldable pub is_lost_out : ℕ → ℕ → DropState → Bool
 is_lost_out room len s =
     (is_lost s.rules s.course len || not (lets s.rules.tx_rate s.rules.interval s.instant s.tx)) && nat_le len room
 
 -- what is left behind a frame of this length that was to be sent
-abbrev pub sent : ℕ → ℕ → DropState → DropState
+unfoldable pub sent : ℕ → ℕ → DropState → DropState
 sent room len s = record {
   rules = s.rules;
   course = if is_lost_out room len s then tx_counted (drawn s.course) else drawn s.course;

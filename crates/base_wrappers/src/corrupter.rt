@@ -94,6 +94,7 @@ fn changed_copy(frame: &[u8], alloc: Global, at: u32, bit: u32) -> Option<Vec<u8
 }
 
 /// A frame that came, changed if it is drawn.
+#[tactic(auto, unfolding(crate::specs::Corrupt::Comes))]
 fn harm<T: RxToken>(token: T, chance: u8, course: &mut Course, alloc: Global) -> FaultRxToken<T>
     ensures { Comes (hits chance course.old) course.old (T.frame token)
         (⟦<FaultRxToken<T> as RxToken>⟧.frame result) course.new }

@@ -80,6 +80,7 @@ impl Dropping {
     }
 
     /// Whether a frame may come.
+    #[tactic(auto, unfolding(crate::specs::Drop::may_come))]
     fn may_come(&self, now: Instant) -> bool
         ensures { result ≡ may_come now self.now }
     {
@@ -87,6 +88,7 @@ impl Dropping {
     }
 
     /// A frame came, and counts.
+    #[tactic(auto, unfolding(crate::specs::Drop::came))]
     fn spend(&mut self, now: Instant)
         ensures { self.new ≡ came now self.old.course self.old }
     {
@@ -95,6 +97,7 @@ impl Dropping {
     }
 
     /// Whether a frame of this length is lost on its way out, where there is room for one of so many bytes.
+    #[tactic(auto, unfolding(crate::specs::Drop::is_lost_out, crate::specs::Drop::sent))]
     fn is_lost_out(&mut self, room: usize, len: usize) -> bool
         ensures lost { result ≡ is_lost_out room len self.old }
         ensures sent { self.new ≡ sent room len self.old }
