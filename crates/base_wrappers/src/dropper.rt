@@ -1,5 +1,6 @@
 //! A device that loses frames: by chance, for their length, and beyond a rate.
-ghost use Rattle.std.specs.Prelude.{◌≡◌, ◌+◌, ◌<◌, ◌^◌, IsTrue, IsFalse, OnSome, MatchOption, min, vec_len};
+ghost use Rattle.std.specs.Prelude.{◌≤◌, ◌≡◌, ◌+◌, ◌<◌, ◌^◌, IsTrue, IsFalse, OnSome, MatchOption, min, vec_len, ℕ, List, length};
+ghost use Rattle.std.specs.Fn.{FnOnceTakesAtMut, FnOnceReturnsAtMut};
 ghost use Rattle.base_wrappers.specs.Course.{drawn, rx_counted};
 ghost use Rattle.base_wrappers.specs.Drop.{is_lost, is_too_long, is_lost_out, sent, may_come, came, fresh, ruled, under, NoneComes, OneComes};
 
@@ -100,6 +101,7 @@ impl Dropping {
     #[tactic(auto, unfolding(crate::specs::Drop::is_lost_out, crate::specs::Drop::sent))]
     fn is_lost_out(&mut self, room: usize, len: usize) -> bool
         ensures lost { result ≡ is_lost_out room len self.old }
+        ensures fits { IsTrue result → len ≤ room }
         ensures sent { self.new ≡ sent room len self.old }
     {
         let lost = self.is_lost(len);
@@ -141,6 +143,17 @@ fn receive_within<D: Device>(
         return receive_within(inner, state, timestamp, most - 1);
     }
     Some((frame, leave))
+}
+
+/// Runs what writes a frame that is lost, over the front of a buffer.
+fn run_lost<R: Drop, F: FnOnce(&mut [u8]) -> R>(scratch: &mut Vec<u8>, len: usize, f: F) -> R
+    requires callable { (buffer : List ℕ) → length buffer ≡ len → FnOnceTakesAtMut F.FnOnce f buffer }
+    requires within { len ≤ vec_len scratch.old }
+    ensures ran { (buffer : List ℕ) × (frame : List ℕ) × (length buffer ≡ len) × (length frame ≡ len)
+        × FnOnceReturnsAtMut F.FnOnce f buffer result frame }
+    ensures room { vec_len scratch.new ≡ vec_len scratch.old }
+{
+    f(&mut scratch[..len])
 }
 
 /// A device that loses frames: by chance, for their length, and beyond a rate, those that come and those that are sent. It loses none
@@ -321,8 +334,7 @@ impl<D: Device> Device for Dropper<D> {
         f: F,
     ) -> Result<R, SendRefused> {
         if self.state.is_lost_out(self.scratch.len(), len) {
-            let answer = f(&mut self.scratch[..len]);
-            return Ok(answer);
+            return Ok(run_lost(&mut self.scratch, len, f));
         }
         self.inner.send(token, len, f)
     }
