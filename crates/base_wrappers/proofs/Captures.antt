@@ -1,9 +1,13 @@
 -- What runs of a device in a wrapper leave.
-use Rattle.std.proofs.Common.{◌≡◌, ℕ, zero, suc, ◌+◌, ◌-◌, ◌<◌, ◌≤◌, ◌^◌, List, [], ◌∷◌, ◌++◌, inl, inr, refl, sym, ap, ◌∙◌, subst, append_assoc, arith, ℤ}
+use Rattle.std.proofs.Common.{◌≡◌, ℕ, zero, suc, ◌+◌, ◌-◌, ◌<◌, ◌≤◌, ◌^◌, Bool, true, false, List, [], ◌∷◌, ◌++◌, inl, inr, refl, sym, ap, ◌∙◌, subst, append_assoc, arith, ℤ}
 use Rattle.std.proofs.lemmas.List.{append-nil}
 use Rattle.std.specs.List.{FoldsTo}
 use Rattle.base_device.specs.Device.{Move, Took, Empty, Allowed, Emitted, Denied}
-use Rattle.base_wrappers.specs.Pcap.{record_of, records_of, captured, Shown, Kept, Written, Some_of, none, kept, lost, more, one_more, instant_after}
+use Rattle.base_wrappers.specs.declared.writer.Direction.{Direction}
+use Rattle.base_wrappers.specs.declared.writer.Direction.TheVariants.{Rx, Tx}
+use Rattle.base_wrappers.specs.declared.pcap.PcapMode.{PcapMode}
+use Rattle.base_wrappers.specs.Trace.{Seen, seen, captured, if_so, Shown, Noted, Kept, Written, Lines, none, kept, lost, more, one_more, instant_after}
+use Rattle.base_wrappers.specs.Pcap.{IsRecord, record_of, records_of}
 
 -- what each step keeps, a run keeps
 pub folds_on : {W D A : Type 0} (R : W → A → W → Type 0) (M : D → A → D → Type 0) (inner : W → D)
@@ -13,52 +17,73 @@ folds_on R M inner step [] old new same = ap inner same
 folds_on R M inner step (m ∷ moves) old new (next, met, rest) =
     (inner next, step old m next met, folds_on R M inner step moves next new rest)
 
--- a run after a frame was shown
-shown_first : (t : ℤ) (frame : List ℕ) (all : List (ℤ × List ℕ)) (taken : List ℕ) (count : ℕ) (taken' : List ℕ) (count' : ℕ) (taken'' : List ℕ) (count'' : ℕ)
-    → Kept taken count (record_of t frame) taken' count' → Written all taken' count' taken'' count''
-    → Written ((t, frame) ∷ all) taken count taken'' count''
-shown_first t frame all taken count taken' count' taken'' count'' (inl it) (some, n, among, bytes, counted) = (
-  (t, frame) ∷ some,
-  n,
-  kept among,
-  bytes ∙ ap (λ xs. xs ++ records_of some) it.0 ∙ append_assoc taken (record_of t frame) (records_of some),
-  counted ∙ ap (more n) it.1,
-)
-shown_first t frame all taken count taken' count' taken'' count'' (inr it) (some, n, among, bytes, counted) =
-    (some, suc n, lost among, bytes ∙ ap (λ xs. xs ++ records_of some) it.0, counted ∙ ap (more n) it.1)
+module _ (form : ℤ → Direction → List ℕ → List ℕ → Type 0) where
+  -- a run after a call that shows nothing
+  silent_first : (all : List Seen) (taken : List ℕ) (count : ℕ) (taken' : List ℕ) (count' : ℕ) (taken'' : List ℕ) (count'' : ℕ)
+      → taken' ≡ taken → count' ≡ count → Written form all taken' count' taken'' count'' → Written form all taken count taken'' count''
+  silent_first all taken count taken' count' taken'' count'' same unlost (bytes, n, among, is, counted) =
+      (bytes, n, among, is ∙ ap (λ xs. xs ++ bytes) same, counted ∙ ap (more n) unlost)
 
--- a run after a call that shows nothing
-silent_first : (all : List (ℤ × List ℕ)) (taken : List ℕ) (count : ℕ) (taken' : List ℕ) (count' : ℕ) (taken'' : List ℕ) (count'' : ℕ)
-    → taken' ≡ taken → count' ≡ count → Written all taken' count' taken'' count'' → Written all taken count taken'' count''
-silent_first all taken count taken' count' taken'' count'' same unlost (some, n, among, bytes, counted) =
-    (some, n, among, bytes ∙ ap (λ xs. xs ++ records_of some) same, counted ∙ ap (more n) unlost)
+  -- a run after a frame was shown
+  kept_first : (s : Seen) (all : List Seen) (taken : List ℕ) (count : ℕ) (taken' : List ℕ) (count' : ℕ) (taken'' : List ℕ) (count'' : ℕ)
+      → Kept (form s.instant s.direction s.frame) taken count taken' count' → Written form all taken' count' taken'' count''
+      → Written form (s ∷ all) taken count taken'' count''
+  kept_first s all taken count taken' count' taken'' count'' (inl ((line, formed, put), same)) (bytes, n, among, is, counted) = (
+    line ++ bytes,
+    n,
+    kept formed among,
+    is ∙ ap (λ xs. xs ++ bytes) put ∙ append_assoc taken line bytes,
+    counted ∙ ap (more n) same,
+  )
+  kept_first s all taken count taken' count' taken'' count'' (inr it) (bytes, n, among, is, counted) =
+      (bytes, suc n, lost among, is ∙ ap (λ xs. xs ++ bytes) it.0, counted ∙ ap (more n) it.1)
 
-module _ {W : Type 0} (R : W → Move → W → Type 0) (taken : W → List ℕ) (count : W → ℕ) (instant : W → ℤ)
-    (step : (a : W) (m : Move) (b : W) → R a m b
-    → Shown (taken a) (count a) (instant a) m (taken b) (count b) × (instant b ≡ instant_after (instant a) m)) where
-  pub written : (moves : List Move) (old new : W) → FoldsTo R old moves new
-      → Written (captured (instant old) moves) (taken old) (count old) (taken new) (count new)
-  written [] old new same = ([], 0, none, ap taken (sym same) ∙ sym (append-nil (taken old)), ap count (sym same))
-  written (Took t frame ∷ moves) old new (next, met, rest) =
-      let it = step old (Took t frame) next met in
-      shown_first t frame (captured t moves) _ _ _ _ _ _ it.0
-      (subst (λ (u : ℤ). Written (captured u moves) (taken next) (count next) (taken new) (count new)) it.1 (written moves next new rest))
-  written (Empty t ∷ moves) old new (next, met, rest) =
-      let it = step old (Empty t) next met in
-      silent_first (captured t moves) _ _ _ _ _ _ it.0.0 it.0.1
-      (subst (λ (u : ℤ). Written (captured u moves) (taken next) (count next) (taken new) (count new)) it.1 (written moves next new rest))
-  written (Allowed t leave ∷ moves) old new (next, met, rest) =
-      let it = step old (Allowed t leave) next met in
-      silent_first (captured t moves) _ _ _ _ _ _ it.0.0 it.0.1
-      (subst (λ (u : ℤ). Written (captured u moves) (taken next) (count next) (taken new) (count new)) it.1 (written moves next new rest))
-  written (Emitted frame ∷ moves) old new (next, met, rest) =
-      let it = step old (Emitted frame) next met in
-      shown_first (instant old) frame (captured (instant old) moves) _ _ _ _ _ _ it.0
-      (subst (λ (u : ℤ). Written (captured u moves) (taken next) (count next) (taken new) (count new)) it.1 (written moves next new rest))
-  written (Denied len ∷ moves) old new (next, met, rest) =
-      let it = step old (Denied len) next met in
-      silent_first (captured (instant old) moves) _ _ _ _ _ _ it.0.0 it.0.1
-      (subst (λ (u : ℤ). Written (captured u moves) (taken next) (count next) (taken new) (count new)) it.1 (written moves next new rest))
+  shown_first : (takes : Bool) (s : Seen) (all : List Seen) (taken : List ℕ) (count : ℕ) (taken' : List ℕ) (count' : ℕ) (taken'' : List ℕ) (count'' : ℕ)
+      → Noted takes (form s.instant s.direction s.frame) taken count taken' count' → Written form all taken' count' taken'' count''
+      → Written form (if_so takes s all) taken count taken'' count''
+  shown_first true s all taken count taken' count' taken'' count'' it rest = kept_first s all taken count taken' count' taken'' count'' it rest
+  shown_first false s all taken count taken' count' taken'' count'' it rest = silent_first all taken count taken' count' taken'' count'' it.0 it.1 rest
+
+module _ {V W : Type 0} (R : V → Move → V → Type 0) (taken : V → List ℕ) (count : V → ℕ) (instant : V → ℤ) (writer : V → W)
+    (takes : W → Direction → Bool) (form : W → ℤ → Direction → List ℕ → List ℕ → Type 0) where
+  -- what a step shows, by a writer that stays
+  abbrev pub Step : V → Move → V → Type 0
+  Step a m b =
+      Shown (takes (writer a)) (form (writer a)) (taken a) (count a) (instant a) m (taken b) (count b)
+      × (instant b ≡ instant_after (instant a) m) × (writer b ≡ writer a)
+
+  -- what a run leaves behind it
+  abbrev pub Left : V → List Move → V → ℤ → W → Type 0
+  Left old moves new t w = Written (form w) (captured (takes w) t moves) (taken old) (count old) (taken new) (count new)
+
+  moved : (old : V) (moves : List Move) (new : V) (t : ℤ) (w : W) → instant old ≡ t → writer old ≡ w
+      → Left old moves new (instant old) (writer old) → Left old moves new t w
+  moved old moves new t w at wrote it =
+      subst (λ (u : ℤ). Left old moves new u w) at (subst (λ (x : W). Left old moves new (instant old) x) wrote it)
+
+  module _ (step : (a : V) (m : Move) (b : V) → R a m b → Step a m b) where
+    pub written : (moves : List Move) (old new : V) → FoldsTo R old moves new → Left old moves new (instant old) (writer old)
+    written [] old new same = ([], 0, none, ap taken (sym same) ∙ sym (append-nil (taken old)), ap count (sym same))
+    written (Took t frame ∷ moves) old new (next, met, rest) =
+        let it = step old (Took t frame) next met in
+        shown_first (form (writer old)) (takes (writer old) Rx) (seen t Rx frame) (captured (takes (writer old)) t moves) _ _ _ _ _ _ it.0
+        (moved next moves new t (writer old) it.1 it.2 (written moves next new rest))
+    written (Empty t ∷ moves) old new (next, met, rest) =
+        let it = step old (Empty t) next met in
+        silent_first (form (writer old)) (captured (takes (writer old)) t moves) _ _ _ _ _ _ it.0.0 it.0.1
+        (moved next moves new t (writer old) it.1 it.2 (written moves next new rest))
+    written (Allowed t leave ∷ moves) old new (next, met, rest) =
+        let it = step old (Allowed t leave) next met in
+        silent_first (form (writer old)) (captured (takes (writer old)) t moves) _ _ _ _ _ _ it.0.0 it.0.1
+        (moved next moves new t (writer old) it.1 it.2 (written moves next new rest))
+    written (Emitted frame ∷ moves) old new (next, met, rest) =
+        let it = step old (Emitted frame) next met in
+        shown_first (form (writer old)) (takes (writer old) Tx) (seen (instant old) Tx frame) (captured (takes (writer old)) (instant old) moves) _ _ _ _ _ _ it.0
+        (moved next moves new (instant old) (writer old) it.1 it.2 (written moves next new rest))
+    written (Denied len ∷ moves) old new (next, met, rest) =
+        let it = step old (Denied len) next met in
+        silent_first (form (writer old)) (captured (takes (writer old)) (instant old) moves) _ _ _ _ _ _ it.0.0 it.0.1
+        (moved next moves new (instant old) (writer old) it.1 it.2 (written moves next new rest))
 
 -- nothing is lost where no more is counted
 count_grows : (n count : ℕ) → count ≤ 2 ^ 64 - 1 → count ≤ more n count
@@ -76,12 +101,13 @@ none_counted (suc n) count fits same =
     let rest = count_grows n (one_more count) (grind arith) in
     absurd (let clash : count + 1 ≤ count = omega arith in omega arith)
 
-all_of : {A : Type 0} {all some : List A} {n : ℕ} → Some_of all some n → n ≡ 0 → some ≡ all
-all_of none is = refl
-all_of (kept {x} rest) is = ap (λ xs. x ∷ xs) (all_of rest is)
-all_of (lost rest) is = absurd (omega arith)
+all_of : (mode : PcapMode) {all : List Seen} {bytes : List ℕ} {n : ℕ} → Lines (IsRecord mode) all bytes n → n ≡ 0 → bytes ≡ records_of all
+all_of mode none is = refl
+all_of mode (kept {s} {all} {bytes} {rest} formed among) is =
+    ap (λ xs. xs ++ rest) formed ∙ ap (λ xs. record_of s.instant s.frame ++ xs) (all_of mode among is)
+all_of mode (lost among) is = absurd (omega arith)
 
-pub all_written : (all : List (ℤ × List ℕ)) (taken : List ℕ) (count : ℕ) (taken' : List ℕ) (count' : ℕ)
-    → count' ≡ count → count + 1 < 2 ^ 64 → Written all taken count taken' count' → taken' ≡ taken ++ records_of all
-all_written all taken count taken' count' same fits (some, n, among, bytes, counted) =
-    bytes ∙ ap (λ xs. taken ++ records_of xs) (all_of among (none_counted n count fits (sym counted ∙ same)))
+pub all_written : (mode : PcapMode) (all : List Seen) (taken : List ℕ) (count : ℕ) (taken' : List ℕ) (count' : ℕ)
+    → count' ≡ count → count + 1 < 2 ^ 64 → Written (IsRecord mode) all taken count taken' count' → taken' ≡ taken ++ records_of all
+all_written mode all taken count taken' count' same fits (bytes, n, among, is, counted) =
+    is ∙ ap (λ xs. taken ++ xs) (all_of mode among (none_counted n count fits (sym counted ∙ same)))

@@ -1,6 +1,7 @@
 -- How a reader takes the records of a capture (draft-ietf-opsawg-pcap, section 5).
-use Rattle.std.specs.Prelude.{◌≡◌, ℕ, ◌+◌, ◌*◌, ◌/◌, ◌%◌, ◌^◌, ◌<◌, ℤ, List, [], ◌∷◌, ◌++◌, length}
+use Rattle.std.specs.Prelude.{◌≡◌, ℕ, ◌+◌, ◌*◌, ◌/◌, ◌%◌, ◌^◌, ◌<◌, List, [], ◌∷◌, ◌++◌, length}
 use Rattle.base_wrappers.specs.Pcap.{stamp}
+use Rattle.base_wrappers.specs.Trace.{Seen}
 
 -- four bytes, the lowest first, that are a number
 abbrev pub IsWord : List ℕ → ℕ → Type 0
@@ -19,10 +20,10 @@ pub data IsRecords : List ℕ → List Packet → Type 0 where
       → IsWord seconds s → IsWord micros u → u < 1000000 → IsWord here (length bytes) → IsWord whole (length bytes) → IsRecords rest packets
       → IsRecords (seconds ++ micros ++ here ++ whole ++ bytes ++ rest) (record { seconds = s; micros = u; bytes = bytes } ∷ packets)
 
--- a frame and its instant as a reader sees them: seconds are 32 bits wide
-abbrev pub packet_of : ℤ × List ℕ → Packet
-packet_of (t, frame) = record { seconds = stamp t / 1000000 % 2 ^ 32; micros = stamp t % 1000000; bytes = frame }
+-- a frame as a reader sees it: seconds are 32 bits wide
+abbrev pub packet_of : Seen → Packet
+packet_of s = record { seconds = stamp s.instant / 1000000 % 2 ^ 32; micros = stamp s.instant % 1000000; bytes = s.frame }
 
 -- whose length can be said
-abbrev pub HasLength : ℤ × List ℕ → Type 0
-HasLength (t, frame) = length frame < 2 ^ 32
+abbrev pub HasLength : Seen → Type 0
+HasLength s = length s.frame < 2 ^ 32

@@ -1,7 +1,14 @@
+pub mod Bucket
 pub mod Corrupt
+pub mod Course
+pub mod Drop
+pub mod Duplicate
 pub mod Fault
-pub mod FaultValue
 pub mod File
+pub mod Fuzz
+pub mod Harm
 pub mod Pcap
-pub mod PcapValue
+pub mod Rates
 pub mod Sink
+pub mod Trace
+pub mod TracerValue

@@ -1,37 +1,30 @@
 //! A device that writes a capture of the frames that go over the device in it.
-ghost use Rattle.std.specs.Prelude.{◌≡◌, ◌+◌, ◌^◌, ◌<◌, ◌++◌, ℕ, pos, List, length, is_ok, if◌then◌else◌, IfOk, OnOk, OnErr, IfSome};
+ghost use Rattle.std.specs.Prelude.{◌≡◌, ◌++◌, pos, OnOk, true};
 ghost use Rattle.std.specs.Fn.{FnOnceReturnsAtMut, FnOnceTakesAtMut};
-ghost use Rattle.base_device.specs.Device.{Emitted, Denied};
-ghost use Rattle.base_wrappers.specs.Pcap.{le32, link_type, file_header, stamp, record_of, one_more, Kept, Shown, instant_after};
+ghost use Rattle.base_wrappers.specs.Trace.{Kept};
+ghost use Rattle.base_wrappers.specs.TracerValue.{with_inner, with_sink};
+ghost use Rattle.base_wrappers.specs.Pcap.{le32, link_type, file_header, stamp, record_of};
 
 use crate::sink::Sink;
-use base_device::{Device, DeviceCapabilities, Medium, RxToken, SendRefused};
+use crate::tracer::Tracer;
+use crate::writer::{Direction, FrameWriter};
+use base_device::{Device, DeviceCapabilities, Medium, SendRefused};
 use base_time::Instant;
 use std::alloc::{AllocError, Global};
 use std::marker::Model;
-use std::mem;
 
-/// A device that writes a capture of the frames that go over the device in it.
-#[derive(Debug, Drop)]
-pub struct PcapWriter<D, S> {
-    inner: D,
-    sink: S,
-    instant: Instant,
-    spare: Vec<u8>,
-    lost: u64,
+/// Which frames are captured.
+#[derive(Clone, Copy, Debug, PartialEq, Eq)]
+pub enum PcapMode {
+    /// Those that come and those that are sent.
+    Both,
+    /// Those that come.
+    RxOnly,
+    /// Those that are sent.
+    TxOnly,
 }
 
-impl<D, S> Model for PcapWriter<D, S> {
-    ghost use Rattle.base_wrappers.specs.PcapValue.{PcapValue, pcap_code};
-
-    ghost Value = { PcapValue D S };
-
-    ghost coded = { pcap_code D.code S.code };
-
-    ghost view = { λ w. record { inner = w.inner; sink = w.sink; instant = w.instant; lost = w.lost } };
-}
-
-/// A instant's microseconds, 0 before the start.
+/// An instant's microseconds, 0 before the start.
 fn stamp(instant: Instant) -> u64
     ensures { result ≡ stamp instant }
 {
@@ -66,58 +59,33 @@ fn write_record(buffer: &mut Vec<u8>, instant: Instant, frame: &[u8]) -> Result<
     Ok(())
 }
 
-/// A frame's record in the buffer, if there is memory for it.
-fn record(mut buffer: Vec<u8>, instant: Instant, frame: &[u8]) -> Option<Vec<u8>>
-    ensures { IfSome result (λ r. r.items ≡ record_of instant frame.now) }
-{
-    match write_record(&mut buffer, instant, frame) {
-        Ok(()) => Some(buffer),
-        Err(_) => None,
+/// Frames are written as records of a capture.
+impl FrameWriter for PcapMode {
+    ghost use Rattle.base_wrappers.specs.Pcap.{captures, IsRecord};
+
+    ghost takes = { captures };
+
+    ghost writes = { IsRecord };
+
+    fn takes(&self, direction: Direction) -> bool {
+        match (*self, direction) {
+            (PcapMode::Both, _) => true,
+            (PcapMode::RxOnly, Direction::Rx) => true,
+            (PcapMode::RxOnly, Direction::Tx) => false,
+            (PcapMode::TxOnly, Direction::Rx) => false,
+            (PcapMode::TxOnly, Direction::Tx) => true,
+        }
     }
-}
 
-/// Runs the closure, and makes the record of what it left, if there is memory for it.
-fn run_and_record<R, F: FnOnce(&mut [u8]) -> R>(
-    f: F,
-    frame: &mut [u8],
-    instant: Instant,
-    buffer: Vec<u8>,
-) -> (R, Option<Vec<u8>>)
-    requires { FnOnceTakesAtMut F.FnOnce f frame.old }
-    ensures ran { FnOnceReturnsAtMut F.FnOnce f frame.old result.0 frame.new }
-    ensures record { IfSome result.1 (λ r. r.items ≡ record_of instant frame.new) }
-{
-    let answer = f(frame);
-    (answer, record(buffer, instant, frame))
-}
-
-/// Sends a frame over the device, and makes its record.
-fn send_recorded<D: Device, R: Drop, F: FnOnce(&mut [u8]) -> R>(
-    device: &mut D,
-    token: D::TxToken,
-    len: usize,
-    f: F,
-    instant: Instant,
-    buffer: Vec<u8>,
-) -> Result<(R, Option<Vec<u8>>), SendRefused>
-    requires callable { (buffer : List ℕ) → length buffer ≡ len →
-        FnOnceTakesAtMut F.FnOnce f buffer }
-    requires room { D.refused device.old + 1 < 2 ^ 64 }
-    ensures ok { IfOk result (λ r. (buffer : List ℕ) × (frame : List ℕ)
-        × (length buffer ≡ len) × (length frame ≡ len)
-        × FnOnceReturnsAtMut F.FnOnce f buffer r.0 frame
-        × D.moves device.old (Emitted frame) device.new
-        × IfSome r.1 (λ made. made.items ≡ record_of instant frame)) }
-    ensures err { OnErr result (D.moves device.old (Denied len) device.new) }
-    ensures refusals { D.refused device.new ≡
-        (if is_ok result then D.refused device.old else D.refused device.old + 1) }
-    ensures capabilities { D.described device.new ≡ D.described device.old }
-{
-    device.send(
-        token,
-        len,
-        move |frame: &mut [u8]| run_and_record(f, frame, instant, buffer),
-    )
+    fn write(
+        &self,
+        instant: Instant,
+        _direction: Direction,
+        frame: &[u8],
+        line: &mut Vec<u8>,
+    ) -> Result<(), AllocError> {
+        write_record(line, instant, frame)
+    }
 }
 
 /// The number of a medium.
@@ -140,9 +108,9 @@ fn file_header(medium: Medium) -> [u8; 24]
     ]
 }
 
-/// Gives a file's header to the sink. How many records were lost by that.
+/// Gives a file's header to the sink. How many headers were lost by that.
 fn put_header<S: Sink>(sink: &mut S, medium: Medium) -> u64
-    ensures { Kept (S.taken sink.old) 0 (file_header medium) (S.taken sink.new) result }
+    ensures { Kept (λ bytes. bytes ≡ file_header medium) (S.taken sink.old) 0 (S.taken sink.new) result }
 {
     let header = file_header(medium);
     if sink.put(&header) {
@@ -151,68 +119,85 @@ fn put_header<S: Sink>(sink: &mut S, medium: Medium) -> u64
     1
 }
 
+/// A device that writes a capture of the frames that go over the device in it, in the form of libpcap. A header or a record that
+/// isn't written is counted.
+#[derive(Debug, Drop)]
+pub struct PcapWriter<D, S> {
+    tracer: Tracer<D, S, PcapMode>,
+}
+
+impl<D, S> Model for PcapWriter<D, S> {
+    ghost use Rattle.base_wrappers.specs.TracerValue.{TracerValue, tracer_code};
+    ghost use Rattle.base_wrappers.specs.declared.pcap.PcapMode.{PcapMode};
+    ghost use Rattle.base_wrappers.specs.Pcap.{pcap_mode_code};
+
+    ghost Value = { TracerValue D S PcapMode };
+
+    ghost coded = { tracer_code D.code S.code pcap_mode_code };
+
+    ghost view = { λ w. w.tracer };
+}
+
 impl<D: Device, S: Sink> PcapWriter<D, S> {
-    /// A capture of what goes over the device, from the file's header on. `alloc` serves the buffer of the records.
-    pub fn new(alloc: Global, inner: D, mut sink: S) -> PcapWriter<D, S>
-        ensures inner { result.inner ≡ inner }
+    /// A capture of what goes over the device, from the file's header on. `alloc` serves its buffers.
+    pub fn new(alloc: Global, lower: D, mut sink: S, mode: PcapMode) -> PcapWriter<D, S>
+        ensures inner { result.inner ≡ lower }
+        ensures mode { result.writer ≡ mode }
         ensures instant { result.instant ≡ pos 0 }
-        ensures header { Kept (S.taken sink) 0 (file_header (D.described inner).medium) (S.taken result.sink) result.lost }
+        ensures header { Kept (λ bytes. bytes ≡ file_header (D.described lower).medium) (S.taken sink) 0 (S.taken result.sink) result.lost }
     {
-        let lost = put_header(&mut sink, inner.capabilities().medium);
+        let lost = put_header(&mut sink, lower.capabilities().medium);
         PcapWriter {
-            inner,
-            sink,
-            instant: Instant::ZERO,
-            spare: Vec::new(alloc),
-            lost,
+            tracer: Tracer::with_lost(alloc, lower, sink, mode, lost),
         }
     }
 
-    /// How many records weren't taken.
+    /// How many records weren't written.
     pub fn lost(&self) -> u64
         ensures { result ≡ self.now.lost }
     {
-        self.lost
+        self.tracer.lost()
     }
 
-    /// The sink, to read from it.
+    /// The device.
+    pub fn get_ref(&self) -> &D
+        ensures { result.now ≡ self.now.inner }
+    {
+        self.tracer.get_ref()
+    }
+
+    /// The sink.
     pub fn sink(&self) -> &S
         ensures { result.now ≡ self.now.sink }
     {
-        &self.sink
+        self.tracer.sink()
+    }
+
+    /// Lends the device to `f`, as a program needs it that hands frames over.
+    pub fn update_inner<R, F: FnOnce(&mut D) -> R>(&mut self, f: F) -> R
+        requires { FnOnceTakesAtMut F.FnOnce f self.old.inner }
+        ensures { (after : D) × FnOnceReturnsAtMut F.FnOnce f self.old.inner result after
+            × (self.new ≡ with_inner after self.old) }
+    {
+        self.tracer.update_inner(f)
+    }
+
+    /// Lends the sink to `f`, to read from it.
+    pub fn update_sink<R, F: FnOnce(&mut S) -> R>(&mut self, f: F) -> R
+        requires { FnOnceTakesAtMut F.FnOnce f self.old.sink }
+        ensures { (after : S) × FnOnceReturnsAtMut F.FnOnce f self.old.sink result after
+            × (self.new ≡ with_sink after self.old) }
+    {
+        self.tracer.update_sink(f)
     }
 
     /// The device and the sink, out of the wrapper.
     pub fn into_parts(self) -> (D, S)
         ensures { result ≡ (self.inner, self.sink) }
     {
-        let PcapWriter { inner, sink, .. } = self;
+        let PcapWriter { tracer } = self;
+        let (inner, sink, _mode) = tracer.into_parts();
         (inner, sink)
-    }
-
-    /// Gives a record to the sink; one that wasn't made, or that it doesn't take, is lost.
-    fn keep(&mut self, made: Option<Vec<u8>>)
-        ensures inner { self.new.inner ≡ self.old.inner }
-        ensures instant { self.new.instant ≡ self.old.instant }
-        ensures kept { (bytes : List ℕ) → IfSome made (λ r. r.items ≡ bytes)
-            → Kept (S.taken self.old.sink) self.old.lost bytes (S.taken self.new.sink) self.new.lost }
-    {
-        let Some(bytes) = made else {
-            self.lost = self.lost.saturating_add(1);
-            return;
-        };
-        if !self.sink.put(bytes.as_slice()) {
-            self.lost = self.lost.saturating_add(1);
-        }
-        self.spare = bytes;
-    }
-
-    /// The buffer for a record.
-    fn take_spare(&mut self) -> Vec<u8>
-        ensures { self.new ≡ self.old }
-    {
-        let alloc = *self.spare.allocator();
-        mem::replace(&mut self.spare, Vec::new(alloc))
     }
 }
 
@@ -221,29 +206,21 @@ impl<D: Device, S: Sink> Device for PcapWriter<D, S> {
 
     type TxToken = D::TxToken;
 
-    ghost use Rattle.std.specs.Prelude.{◌≡◌};
-    ghost use Rattle.base_wrappers.specs.Pcap.{Shown, instant_after};
+    ghost use Rattle.base_wrappers.specs.Trace.{Traces};
+    ghost use Rattle.base_wrappers.specs.Pcap.{captures, IsRecord};
 
-    ghost moves = { λ old m new. D.moves old.inner m new.inner
-        × Shown (S.taken old.sink) old.lost old.instant m (S.taken new.sink) new.lost
-        × (new.instant ≡ instant_after old.instant m) };
+    ghost moves = { Traces D.moves S.taken captures IsRecord };
 
     ghost refused = { λ w. D.refused w.inner };
 
     ghost described = { λ w. D.described w.inner };
 
     fn receive(&mut self, timestamp: Instant) -> Option<(D::RxToken, D::TxToken)> {
-        self.instant = timestamp;
-        let (frame, leave) = self.inner.receive(timestamp)?;
-        let buffer = self.take_spare();
-        let made = record(buffer, timestamp, frame.bytes());
-        self.keep(made);
-        Some((frame, leave))
+        self.tracer.receive(timestamp)
     }
 
     fn transmit(&mut self, timestamp: Instant) -> Option<D::TxToken> {
-        self.instant = timestamp;
-        self.inner.transmit(timestamp)
+        self.tracer.transmit(timestamp)
     }
 
     fn send<R: Drop, F: FnOnce(&mut [u8]) -> R>(
@@ -252,18 +229,14 @@ impl<D: Device, S: Sink> Device for PcapWriter<D, S> {
         len: usize,
         f: F,
     ) -> Result<R, SendRefused> {
-        let instant = self.instant;
-        let buffer = self.take_spare();
-        let (answer, made) = send_recorded(&mut self.inner, token, len, f, instant, buffer)?;
-        self.keep(made);
-        Ok(answer)
+        self.tracer.send(token, len, f)
     }
 
     fn capabilities(&self) -> DeviceCapabilities {
-        self.inner.capabilities()
+        self.tracer.capabilities()
     }
 
     fn refusals(&self) -> u64 {
-        self.inner.refusals()
+        self.tracer.refusals()
     }
 }
