@@ -1,4 +1,4 @@
-use denote.Payload.{Utf8}
+use denote.Text.{Utf8}
 use denote.Shadow.{shadow}
 use Rattle.test_lan.proofs.worlds.steps.first_wrong_in.Given as goal
 
