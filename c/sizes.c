@@ -44,11 +44,14 @@ static void say(const char *what, uint32_t code)
 
 static void made(void)
 {
-    const zv_settings settings = {.medium = ZV_ETHERNET, .hardware = {2, 0, 0, 0, 0, 1}, .mtu = 1514, .seed = 1, .frames = 16};
+    zv_settings settings = {.medium = ZV_ETHERNET, .hardware = {2, 0, 0, 0, 0, 1}, .mtu = 1514, .seed = 1, .frames = 16};
     const zv_address own = zv_ipv4(192, 168, 1, 1), any = zv_any();
     zv_host host = {0};
     size_t socket;
-    say("a host", zv_host_new(&host, &settings, 0));
+    say("a host with a table of 256 neighbours", zv_host_new(&host, &settings, 0));
+    zv_host_free(&host);
+    settings.without_host_requirements = 1;
+    say("a host with one of four", zv_host_new(&host, &settings, 0));
     say("an address", zv_address_add(&host, &own, 24));
     say("the clients", zv_dhcp_new(&host, 1) == ZV_OK ? zv_dns_new(&host, &own, &any, &any) : ZV_MEDIUM);
     for (int i = 0; i < 5; i++)
