@@ -11,7 +11,7 @@ use Rattle.interface.specs.Item.{Item}
 use Rattle.interface.specs.SocketHandle.{SocketHandle}
 use Rattle.interface.specs.SocketStorage.{SocketStorage}
 use Rattle.app_tun_services.specs.Site.{initial_session}
-use Rattle.app_tun_services.specs.declared.counts.Counts.{Counts}
+use Rattle.app_tun_services.specs.declared.idle.Moment.{Moment}
 use Rattle.app_tun_services.specs.declared.site.Session.{Session}
 use Rattle.sockets.specs.declared.socket.Socket.{Socket}
 use Rattle.ip_wire.specs.IpListenEndpoint.{IpListenEndpoint}
@@ -126,12 +126,12 @@ ended_keeps : (b : Bool) (e : Entry) → (ended_if b e).handle ≡ e.handle
 ended_keeps true e = refl
 ended_keeps false e = refl
 
-entry_keeps : (b : Bool) (c : Counts) (service : Service) (e e' : Entry) (p p' : SocketStorage Socket) (x x' : Session) →
+entry_keeps : (b : Bool) (c : Moment) (service : Service) (e e' : Entry) (p p' : SocketStorage Socket) (x x' : Session) →
     EntryServesBy b c service e p x e' p' x' → e'.handle ≡ e.handle
 entry_keeps true c service e e' p p' x x' (t, serves, session, is) = ap (λ (y : Entry). y.handle) is ∙ ended_keeps (is_over p') e
 entry_keeps false c service e e' p p' x x' (slot, session, is) = ap (λ (y : Entry). y.handle) is
 
-pub served_stand : (c : Counts) (first count : ℕ) (service : Service) (ps : List (SocketStorage Socket)) (ss : List Session) (es : List Entry)
+pub served_stand : (c : Moment) (first count : ℕ) (service : Service) (ps : List (SocketStorage Socket)) (ss : List Session) (es : List Entry)
     (ps' : List (SocketStorage Socket)) (ss' : List Session) (es' : List Entry)
     → BacklogServes c first service ps ss es ps' ss' es' → StandsFrom first count es → StandsFrom first count es'
 served_stand c first count service ps ss es ps' ss' es' serves stands =
@@ -140,7 +140,7 @@ served_stand c first count service ps ss es ps' ss' es' serves stands =
     (session_at ss i) (session_at ss' i) (serves.each i h))
 
 -- the first n entries were served, and the others, their slots and their sessions are as they were
-pub record ServedTo (n : ℕ) (c : Counts) (first : ℕ) (service : Service) (ps : List (SocketStorage Socket)) (ss : List Session) (es : List Entry)
+pub record ServedTo (n : ℕ) (c : Moment) (first : ℕ) (service : Service) (ps : List (SocketStorage Socket)) (ss : List Session) (es : List Entry)
     (ps' : List (SocketStorage Socket)) (ss' : List Session) (es' : List Entry) : Type 0 where
   pub slots : length ps' ≡ length ps
   pub sessions : length ss' ≡ length ss
@@ -153,7 +153,7 @@ pub record ServedTo (n : ℕ) (c : Counts) (first : ℕ) (service : Service) (ps
   pub following : (m : ℕ) → first + n ≤ m → slot_at ps' m ≡ slot_at ps m
   pub later : (m : ℕ) → n ≤ m → session_at ss' m ≡ session_at ss m
 
-pub served_none : (c : Counts) (first count : ℕ) (service : Service) (ps : List (SocketStorage Socket)) (ss : List Session) (es : List Entry) →
+pub served_none : (c : Moment) (first count : ℕ) (service : Service) (ps : List (SocketStorage Socket)) (ss : List Session) (es : List Entry) →
     StandsFrom first count es → ServedTo 0 c first service ps ss es ps ss es
 served_none c first count service ps ss es stands = record {
   slots = refl;
@@ -167,7 +167,7 @@ served_none c first count service ps ss es stands = record {
   later = λ m h. refl;
 }
 
-pub served_all : (n : ℕ) (c : Counts) (first : ℕ) (service : Service) (ps : List (SocketStorage Socket)) (ss : List Session) (es : List Entry)
+pub served_all : (n : ℕ) (c : Moment) (first : ℕ) (service : Service) (ps : List (SocketStorage Socket)) (ss : List Session) (es : List Entry)
     (ps' : List (SocketStorage Socket)) (ss' : List Session) (es' : List Entry)
     → ServedTo n c first service ps ss es ps' ss' es' → n ≡ length es → BacklogServes c first service ps ss es ps' ss' es'
 served_all n c first service ps ss es ps' ss' es' to all = record {
@@ -225,12 +225,12 @@ abbrev slot_with : Option (Item Socket) → SocketStorage Socket
 slot_with o = record { inner = o }
 
 -- where there is no slot, there is none afterwards
-distance_after : (c : Counts) (service : Service) (p p' : SocketStorage Socket) (x x' : Session) → p ≡ free → SlotServes c service p x p' x' → p' ≡ free
+distance_after : (c : Moment) (service : Service) (p p' : SocketStorage Socket) (x x' : Session) → p ≡ free → SlotServes c service p x p' x' → p' ≡ free
 distance_after c service p p' x x' none serves =
     let it : SlotServes c service free x p' x' = subst (λ (q : SocketStorage Socket). SlotServes c service q x p' x') none serves in
     ap slot_with it.0
 
-set_here : (c : Counts) (service : Service) (ps : List (SocketStorage Socket)) (m : ℕ) (p' : SocketStorage Socket) (x x' : Session) →
+set_here : (c : Moment) (service : Service) (ps : List (SocketStorage Socket)) (m : ℕ) (p' : SocketStorage Socket) (x x' : Session) →
     SlotServes c service (slot_at ps m) x p' x'
     → (m < length ps) ⊎ (length ps ≤ m) → slot_at (slice_set ps m p') m ≡ p'
 set_here c service ps m p' x x' serves (inl less) = get_or-set_same ps m p' free less
@@ -238,7 +238,7 @@ set_here c service ps m p' x x' serves (inr past) =
     let none : slot_at ps m ≡ free = get_or_past ps m free past in
     ap (λ (qs : List (SocketStorage Socket)). slot_at qs m) (set_past ps m p' past) ∙ (none ∙ sym (distance_after c service (slot_at ps m) p' x x' none serves))
 
-module _ (n : ℕ) (c : Counts) (first : ℕ) (service : Service) (ps : List (SocketStorage Socket)) (ss : List Session) (es : List Entry)
+module _ (n : ℕ) (c : Moment) (first : ℕ) (service : Service) (ps : List (SocketStorage Socket)) (ss : List Session) (es : List Entry)
     (mid : List (SocketStorage Socket)) (mss : List Session) (ms : List Entry)
     (to : ServedTo n c first service ps ss es mid mss ms) (within : n < length ms) (after : List (SocketStorage Socket)) (fss : List Session)
     (fs : List Entry) where
@@ -384,7 +384,7 @@ module _ (n : ℕ) (c : Counts) (first : ℕ) (service : Service) (ps : List (So
 -- ONE ENTRY
 
 -- where there is no slot, nothing is served
-pub served_nowhere : (c : Counts) (service : Service) (ps : List (SocketStorage Socket)) (at : ℕ) (x : Session) → length ps ≤ at →
+pub served_nowhere : (c : Moment) (service : Service) (ps : List (SocketStorage Socket)) (at : ℕ) (x : Session) → length ps ≤ at →
     ServesAt c service at ps x ps x false
 served_nowhere c service ps at x past =
     let none : slot_at ps at ≡ free = get_or_past ps at free past in
@@ -394,13 +394,13 @@ served_nowhere c service ps at x past =
     (slot_at ps at, serves, sym (set-get_or ps at free), ap is_over (sym none))
 
 -- the slot that was read is served
-pub served_somewhere : (c : Counts) (service : Service) (ps : List (SocketStorage Socket)) (at : ℕ) (x p' : SocketStorage Socket) (y t : Session)
+pub served_somewhere : (c : Moment) (service : Service) (ps : List (SocketStorage Socket)) (at : ℕ) (x p' : SocketStorage Socket) (y t : Session)
     (over : Bool) → at < length ps
     → SlotServes c service (slice_index_or ps at x) y p' t → over ≡ is_over p' → ServesAt c service at ps y (slice_set ps at p') t over
 served_somewhere c service ps at x p' y t over within serves over_is =
     (p', subst (λ (q : SocketStorage Socket). SlotServes c service q y p' t) (get_or_default ps at x free within) serves, refl, over_is)
 
-module _ (c : Counts) (service : Service) (at : ℕ) (ps : List (SocketStorage Socket)) (ss : List Session) (es : List Entry) (e : Entry) (within : at <
+module _ (c : Moment) (service : Service) (at : ℕ) (ps : List (SocketStorage Socket)) (ss : List Session) (es : List Entry) (e : Entry) (within : at <
     length es) (read : e ≡ slice_index_or es at e) where
   entry_is : e ≡ entry_at es at
   entry_is = read ∙ get_or_default es at e no_entry within
@@ -428,7 +428,7 @@ seen_as service l now ps es ps' es' is refreshes =
     (subst (λ (e : IpListenEndpoint). Refreshes e now l.keepers.items ps es ps' es') is.endpoint refreshes)
 
 -- a listener whose sockets are seen and served stays one
-pub still_listener : (c : Counts) (service : Service) (l m n : Listener) (now : ℕ) (ps ps' qs qs' : List (SocketStorage Socket)) (ss ss' : List Session) →
+pub still_listener : (c : Moment) (service : Service) (l m n : Listener) (now : ℕ) (ps ps' qs qs' : List (SocketStorage Socket)) (ss ss' : List Session) →
     IsListener service l
     → Refreshes l.endpoint now l.keepers.items ps l.entries.items ps' m.entries.items → m.endpoint ≡ l.endpoint → m.keepers.items ≡ l.keepers.items
     → BacklogServes c (first_slot service) service qs ss (map accepted m.entries.items) qs' ss' n.entries.items → n ≡ record m { entries = n.entries } →

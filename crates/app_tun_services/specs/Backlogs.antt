@@ -5,7 +5,7 @@ use Rattle.interface.specs.SocketHandle.{SocketHandle}
 use Rattle.interface.specs.SocketStorage.{SocketStorage}
 use Rattle.ip_wire.specs.IpListenEndpoint.{IpListenEndpoint}
 use Rattle.app_tun_services.specs.Site.{initial_session}
-use Rattle.app_tun_services.specs.declared.counts.Counts.{Counts}
+use Rattle.app_tun_services.specs.declared.idle.Moment.{Moment}
 use Rattle.app_tun_services.specs.declared.site.Session.{Session}
 use Rattle.sockets.specs.declared.socket.Socket.{Socket}
 use Rattle.interface.specs.Backlog.Calls.{initial_entry, given_back}
@@ -76,26 +76,26 @@ session_at ss i = slice_index_or ss i initial_session
 
 -- a session of a connection that is over is new, but for what it counted
 abbrev pub session_after : Bool → Session → Session
-session_after true s = record s { left = 0; closes = false }
+session_after true s = record s { left = 0; closes = false; was_asked = false; seen = None }
 session_after false s = s
 
-abbrev pub EntryServesBy : Bool → Counts → Service → Entry → SocketStorage Socket → Session → Entry → SocketStorage Socket → Session → Type 0
-EntryServesBy true c service e p s e' p' s' =
-    (t : Session) × SlotServes c service p s p' t × (s' ≡ session_after (is_over p') t) × (e' ≡ ended_if (is_over p') e)
-EntryServesBy false c service e p s e' p' s' = (p' ≡ p) × (s' ≡ s) × (e' ≡ e)
+abbrev pub EntryServesBy : Bool → Moment → Service → Entry → SocketStorage Socket → Session → Entry → SocketStorage Socket → Session → Type 0
+EntryServesBy true m service e p s e' p' s' =
+    (t : Session) × SlotServes m service p s p' t × (s' ≡ session_after (is_over p') t) × (e' ≡ ended_if (is_over p') e)
+EntryServesBy false m service e p s e' p' s' = (p' ≡ p) × (s' ≡ s) × (e' ≡ e)
 
 -- one that was accepted is served
-abbrev pub EntryServes : Counts → Service → Entry → SocketStorage Socket → Session → Entry → SocketStorage Socket → Session → Type 0
-EntryServes c service e p s e' p' s' = EntryServesBy (is_accepted e.stage) c service e p s e' p' s'
+abbrev pub EntryServes : Moment → Service → Entry → SocketStorage Socket → Session → Entry → SocketStorage Socket → Session → Type 0
+EntryServes m service e p s e' p' s' = EntryServesBy (is_accepted e.stage) m service e p s e' p' s'
 
 -- each connection that was accepted is served, and nothing else changes
-pub record BacklogServes (c : Counts) (first : ℕ) (service : Service) (ps : List (SocketStorage Socket)) (ss : List Session) (es : List Entry)
+pub record BacklogServes (m : Moment) (first : ℕ) (service : Service) (ps : List (SocketStorage Socket)) (ss : List Session) (es : List Entry)
     (ps' : List (SocketStorage Socket)) (ss' : List Session) (es' : List Entry) : Type 0 where
   pub slots : length ps' ≡ length ps
   pub sessions : length ss' ≡ length ss
   pub entries : length es' ≡ length es
   pub each : (i : ℕ) → i < length es
-      → EntryServes c service (entry_at es i) (slot_at ps (first + i)) (session_at ss i) (entry_at es' i) (slot_at ps' (first + i)) (session_at ss' i)
+      → EntryServes m service (entry_at es i) (slot_at ps (first + i)) (session_at ss i) (entry_at es' i) (slot_at ps' (first + i)) (session_at ss' i)
   pub before : (n : ℕ) → n < first → slot_at ps' n ≡ slot_at ps n
   pub following : (n : ℕ) → first + length es ≤ n → slot_at ps' n ≡ slot_at ps n
   pub others : (n : ℕ) → length es ≤ n → session_at ss' n ≡ session_at ss n
@@ -106,18 +106,18 @@ back_if true handle es = map (given_back handle) es
 back_if false handle es = es
 
 -- a slot is served, and whether its connection is over
-abbrev pub ServesAt : Counts → Service → ℕ → List (SocketStorage Socket) → Session → List (SocketStorage Socket) → Session → Bool → Type 0
-ServesAt c service at ps s ps' t over =
-    (p' : SocketStorage Socket) × SlotServes c service (slot_at ps at) s p' t × (ps' ≡ slice_set ps at p') × (over ≡ is_over p')
+abbrev pub ServesAt : Moment → Service → ℕ → List (SocketStorage Socket) → Session → List (SocketStorage Socket) → Session → Bool → Type 0
+ServesAt m service at ps s ps' t over =
+    (p' : SocketStorage Socket) × SlotServes m service (slot_at ps at) s p' t × (ps' ≡ slice_set ps at p') × (over ≡ is_over p')
 
-abbrev pub OneServesBy : Bool → Counts → Service → ℕ → Entry → List (SocketStorage Socket) → List Session → List Entry → List (SocketStorage Socket) →
+abbrev pub OneServesBy : Bool → Moment → Service → ℕ → Entry → List (SocketStorage Socket) → List Session → List Entry → List (SocketStorage Socket) →
     List Session → List Entry → Type 0
-OneServesBy true c service at e ps ss es ps' ss' es' =
-    (over : Bool) × (t : Session) × ServesAt c service e.handle.0 ps (session_at ss at) ps' t over
+OneServesBy true m service at e ps ss es ps' ss' es' =
+    (over : Bool) × (t : Session) × ServesAt m service e.handle.0 ps (session_at ss at) ps' t over
     × (ss' ≡ slice_set ss at (session_after over t)) × (es' ≡ back_if over e.handle es)
-OneServesBy false c service at e ps ss es ps' ss' es' = (ps' ≡ ps) × (ss' ≡ ss) × (es' ≡ es)
+OneServesBy false m service at e ps ss es ps' ss' es' = (ps' ≡ ps) × (ss' ≡ ss) × (es' ≡ es)
 
 -- one entry's connection is served, where its handle says
-abbrev pub OneServes : Counts → Service → ℕ → List (SocketStorage Socket) → List Session → List Entry → List (SocketStorage Socket) → List Session →
+abbrev pub OneServes : Moment → Service → ℕ → List (SocketStorage Socket) → List Session → List Entry → List (SocketStorage Socket) → List Session →
     List Entry → Type 0
-OneServes c service at ps ss es ps' ss' es' = OneServesBy (is_accepted (entry_at es at).stage) c service at (entry_at es at) ps ss es ps' ss' es'
+OneServes m service at ps ss es ps' ss' es' = OneServesBy (is_accepted (entry_at es at).stage) m service at (entry_at es at) ps ss es ps' ss' es'

@@ -3,6 +3,7 @@ pub mod Echo
 pub mod Request
 pub mod Counts
 pub mod Site
+pub mod Idle
 pub use Rattle.tcp_block.specs.TcbRules
 pub mod Settings
 pub mod Services

@@ -3,8 +3,9 @@ use Rattle.std.specs.Prelude.{◌≡◌, ℕ, zero, suc, ◌==◌, nat_le, Bool,
 use Rattle.interface.specs.Item.{Item}
 use Rattle.interface.specs.SocketStorage.{SocketStorage}
 use Rattle.app_tun_services.specs.Echo.{datagram_echoed, stream_echoed}
-use Rattle.app_tun_services.specs.Site.{Serves, talk, initial_session}
-use Rattle.app_tun_services.specs.declared.counts.Counts.{Counts}
+use Rattle.app_tun_services.specs.Idle.{watched}
+use Rattle.app_tun_services.specs.Site.{Serves, Talk, talk, initial_session}
+use Rattle.app_tun_services.specs.declared.idle.Moment.{Moment}
 use Rattle.app_tun_services.specs.declared.site.Session.{Session}
 use Rattle.sockets.specs.declared.socket.Socket.{Socket}
 use Rattle.sockets.specs.declared.socket.Socket.TheVariants as Is
@@ -65,32 +66,34 @@ abbrev pub stream_served : ℕ → Socket → Socket
 stream_served room (Is.Tcp v) = Is.Tcp (stream_echoed room v)
 stream_served room s = s
 
-abbrev pub PageServed : Counts → ℕ → Socket → Session → Socket → Session → Type 0
-PageServed c most (Is.Tcp v) session (Is.Tcp w) session' = Serves c most (talk v session) (talk w session')
-PageServed c most (Is.Tcp v) session s session' = ⊥
-PageServed c most s session s' session' = (s' ≡ s) × (session' ≡ session)
+-- requests are answered, and it is reset if nothing happened for too long
+abbrev pub PageServed : Moment → ℕ → Socket → Session → Socket → Session → Type 0
+PageServed m most (Is.Tcp v) session (Is.Tcp w) session' =
+    (mid : Talk) × Serves m.counts most (talk v session) mid × (talk w session' ≡ watched m mid)
+PageServed m most (Is.Tcp v) session s session' = ⊥
+PageServed m most s session s' session' = (s' ≡ s) × (session' ≡ session)
 
-abbrev pub ServesAs : Counts → Service → Socket → Session → Socket → Session → Type 0
-ServesAs c Datagrams s session s' session' = (s' ≡ datagrams_served echo_room s) × (session' ≡ session)
-ServesAs c Streams s session s' session' = (s' ≡ stream_served echo_room s) × (session' ≡ session)
-ServesAs c Page s session s' session' = PageServed c most_request s session s' session'
-ServesAs c Keeper s session s' session' = (s' ≡ s) × (session' ≡ session)
+abbrev pub ServesAs : Moment → Service → Socket → Session → Socket → Session → Type 0
+ServesAs m Datagrams s session s' session' = (s' ≡ datagrams_served echo_room s) × (session' ≡ session)
+ServesAs m Streams s session s' session' = (s' ≡ stream_served echo_room s) × (session' ≡ session)
+ServesAs m Page s session s' session' = PageServed m most_request s session s' session'
+ServesAs m Keeper s session s' session' = (s' ≡ s) × (session' ≡ session)
 
 -- A PLACE
 
 -- what the interface keeps alongside the socket stays
-abbrev pub ItemServes : Counts → Service → Option (Item Socket) → Session → Option (Item Socket) → Session → Type 0
-ItemServes c service None session item session' = (item ≡ None) × (session' ≡ session)
-ItemServes c service (Some old) session None session' = ⊥
-ItemServes c service (Some old) session (Some new) session' = ServesAs c service old.socket session new.socket session' × (new.meta ≡ old.meta)
+abbrev pub ItemServes : Moment → Service → Option (Item Socket) → Session → Option (Item Socket) → Session → Type 0
+ItemServes m service None session item session' = (item ≡ None) × (session' ≡ session)
+ItemServes m service (Some old) session None session' = ⊥
+ItemServes m service (Some old) session (Some new) session' = ServesAs m service old.socket session new.socket session' × (new.meta ≡ old.meta)
 
-abbrev pub SlotServes : Counts → Service → SocketStorage Socket → Session → SocketStorage Socket → Session → Type 0
-SlotServes c service old session new session' = ItemServes c service old.inner session new.inner session'
+abbrev pub SlotServes : Moment → Service → SocketStorage Socket → Session → SocketStorage Socket → Session → Type 0
+SlotServes m service old session new session' = ItemServes m service old.inner session new.inner session'
 
 -- the first place is served
-abbrev pub FirstServes : Counts → List (SocketStorage Socket) → List (SocketStorage Socket) → Type 0
-FirstServes c old new =
-    (slot : SocketStorage Socket) × (session : Session) × SlotServes c Datagrams (slot_at old 0) initial_session slot session × (new ≡ slice_set old 0 slot)
+abbrev pub FirstServes : Moment → List (SocketStorage Socket) → List (SocketStorage Socket) → Type 0
+FirstServes m old new =
+    (slot : SocketStorage Socket) × (session : Session) × SlotServes m Datagrams (slot_at old 0) initial_session slot session × (new ≡ slice_set old 0 slot)
 
 -- THE END OF A CONNECTION
 

@@ -1,5 +1,5 @@
 -- What is said on a connection of the site (RFC 9112, sections 6, 7 and 9).
-use Rattle.std.specs.Prelude.{◌≡◌, ℕ, zero, suc, ◌+◌, ◌-◌, ◌%◌, ◌==◌, ◌&&◌, nat_lt, min, Bool, true, false, List, [], length, take, map, codes, Result, Ok, Err}
+use Rattle.std.specs.Prelude.{◌≡◌, ℕ, zero, suc, ◌+◌, ◌-◌, ◌%◌, ◌==◌, ◌&&◌, nat_lt, min, Bool, true, false, List, [], length, take, map, codes, Result, Ok, Err, None}
 use Rattle.std.specs.List.{range_with_len}
 use Rattle.tcp_block.specs.RecvError.{RecvError}
 use Rattle.sockets.specs.State.{State}
@@ -29,7 +29,7 @@ talk socket session = record { socket = socket; session = session }
 
 -- a connection that wasn't asked for anything
 abbrev pub initial_session : Session
-initial_session = record { left = 0; closes = false; answered = 0; declined = 0 }
+initial_session = record { left = 0; closes = false; was_asked = false; seen = None; answered = 0; declined = 0 }
 
 -- for how many bytes more the send queue has room
 abbrev pub room_in : TcpValue → ℕ
@@ -108,7 +108,7 @@ counted _ s = record s { declined = one_more s.declined }
 abbrev pub said : Counts → Answer → Talk → Talk
 said c answer t =
     let it = unless_head answer.is_head c answer.reply (record t { socket = head_said answer t.socket }) in
-    record it { session = counted answer.reply (record it.session { closes = answer.closes }) }
+    record it { session = counted answer.reply (record it.session { closes = answer.closes; was_asked = true }) }
 
 -- A REQUEST
 

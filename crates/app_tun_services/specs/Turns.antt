@@ -12,7 +12,8 @@ use Rattle.app_tun_services.specs.Begins.{Begins, RefusesSettings}
 use Rattle.interface.specs.Backlog.Calls.{micros_of, Refreshes, accepted}
 use Rattle.interface.specs.declared.listener.entry.Entry.{Entry}
 use Rattle.app_tun_services.specs.Backlogs.{on_port, keepers_of, IsListener, HostState, BacklogServes}
-use Rattle.app_tun_services.specs.declared.counts.Counts.{Counts}
+use Rattle.app_tun_services.specs.Idle.{moment_at}
+use Rattle.app_tun_services.specs.declared.idle.Moment.{Moment}
 use Rattle.app_tun_services.specs.declared.site.Session.{Session}
 use Rattle.app_tun_services.specs.Tallies.{counts_of, more_waiting, collected, no_more}
 use Rattle.app_tun_services.specs.declared.tally.Tally.{Tally}
@@ -71,12 +72,12 @@ served_of sockets echoes pages echo_sessions sessions =
     record { sockets = sockets; echoes = echoes; pages = pages; echo_sessions = echo_sessions; sessions = sessions }
 
 -- the datagrams are served, and the connections that were accepted
-pub record ServicesServe (c : Counts) (old new : Served) : Type 0 where
+pub record ServicesServe (m : Moment) (old new : Served) : Type 0 where
   pub datagrams : List (SocketStorage Socket)
   pub streams : List (SocketStorage Socket)
-  pub serves_datagrams : FirstServes c old.sockets datagrams
-  pub serves_streams : BacklogServes c (first_slot Streams) Streams datagrams old.echo_sessions (map accepted old.echoes) streams new.echo_sessions new.echoes
-  pub serves_pages : BacklogServes c (first_slot Page) Page streams old.sessions (map accepted old.pages) new.sockets new.sessions new.pages
+  pub serves_datagrams : FirstServes m old.sockets datagrams
+  pub serves_streams : BacklogServes m (first_slot Streams) Streams datagrams old.echo_sessions (map accepted old.echoes) streams new.echo_sessions new.echoes
+  pub serves_pages : BacklogServes m (first_slot Page) Page streams old.sessions (map accepted old.pages) new.sockets new.sessions new.pages
 
 -- The listeners see how far their sockets came; then the services do what can be done, and what they counted is taken over. A page of
 -- counts has those of the turn's beginning.
@@ -87,7 +88,8 @@ pub record AreServed (instant : ℤ) (d : DrainValue) (old : Served) (t : Tally)
   pub sees_echoes : Refreshes (on_port ECHO_PORT) (micros_of instant) (keepers_of Streams) old.sockets old.echoes seen ready.echoes
   pub sees_pages : Refreshes (on_port PAGE_PORT) (micros_of instant) (keepers_of Page) seen old.pages ready.sockets ready.pages
   pub same : (ready.echo_sessions ≡ old.echo_sessions) × (ready.sessions ≡ old.sessions)
-  pub serves : ServicesServe (counts_of d (more_waiting ready.echoes ready.pages t)) ready (record new { sessions = done })
+  pub serves : ServicesServe (moment_at instant ready.pages ready.sessions (counts_of d (more_waiting ready.echoes ready.pages t))) ready
+      (record new { sessions = done })
   pub sessions : new.sessions ≡ map no_more done
   pub tally : t' ≡ collected done (more_waiting ready.echoes ready.pages t)
 

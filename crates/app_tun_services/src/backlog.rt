@@ -4,7 +4,7 @@ ghost use Rattle.interface.specs.Backlog.Calls.{accepted};
 ghost use Rattle.app_tun_services.specs.Services.{echo_room, most_request, first_slot, socket_count, FirstServes};
 ghost use Rattle.app_tun_services.specs.Backlogs.{StandAt, IsInitialListener, session_at, session_after, back_if, ServesAt, OneServes, BacklogServes};
 
-use crate::counts::Counts;
+use crate::idle::Moment;
 use crate::site::Session;
 use crate::slot::{Service, first_slot, is_over, keeper_slot, port_of, serve_slot, socket_count};
 use interface::{Listener, SocketHandle, SocketStorage};
@@ -32,13 +32,13 @@ pub fn listener(alloc: Global, service: Service) -> Result<Listener, AllocError>
 /// The datagrams at the first place are served.
 pub fn serve_first(
     slots: &mut [SocketStorage<Socket>],
-    counts: &Counts,
+    moment: &Moment,
     buffer: &mut [u8],
     request: &mut [u8],
 )
     requires buffer { length buffer.old ≡ echo_room }
     requires request { length request.old ≡ most_request }
-    ensures { FirstServes counts.now slots.old slots.new }
+    ensures { FirstServes moment.now slots.old slots.new }
 {
     if let [slot, ..] = slots {
         let mut session = Session::INITIAL;
@@ -46,7 +46,7 @@ pub fn serve_first(
             Service::Datagrams,
             slot,
             &mut session,
-            counts,
+            moment,
             buffer,
             request,
         );
@@ -93,19 +93,19 @@ fn serve_at(
     at: usize,
     slots: &mut [SocketStorage<Socket>],
     session: &mut Session,
-    counts: &Counts,
+    moment: &Moment,
     buffer: &mut [u8],
     request: &mut [u8],
 ) -> bool
     requires buffer { length buffer.old ≡ echo_room }
     requires request { length request.old ≡ most_request }
-    ensures { ServesAt counts.now service at slots.old session.old slots.new session.new result }
+    ensures { ServesAt moment.now service at slots.old session.old slots.new session.new result }
 {
     if at >= slots.len() {
         return false;
     }
     let slot = &mut slots[at];
-    serve_slot(service, slot, session, counts, buffer, request);
+    serve_slot(service, slot, session, moment, buffer, request);
     is_over(slot)
 }
 
@@ -126,7 +126,7 @@ fn serve_one(
     slots: &mut [SocketStorage<Socket>],
     sessions: &mut [Session],
     listener: &mut Listener,
-    counts: &Counts,
+    moment: &Moment,
     buffer: &mut [u8],
     request: &mut [u8],
 )
@@ -134,7 +134,7 @@ fn serve_one(
     requires request { length request.old ≡ most_request }
     requires within { at < length listener.old.entries.items }
     requires sessions { length sessions.old ≡ length listener.old.entries.items }
-    ensures served { OneServes counts.now service at slots.old sessions.old listener.old.entries.items slots.new sessions.new listener.new.entries.items }
+    ensures served { OneServes moment.now service at slots.old sessions.old listener.old.entries.items slots.new sessions.new listener.new.entries.items }
     ensures rest { listener.new ≡ record listener.old { entries = listener.new.entries } }
 {
     let entry = listener.entries[at];
@@ -147,7 +147,7 @@ fn serve_one(
         entry.handle.slot(),
         slots,
         &mut session,
-        counts,
+        moment,
         buffer,
         request,
     );
@@ -161,7 +161,7 @@ fn serve_accepted(
     slots: &mut [SocketStorage<Socket>],
     sessions: &mut [Session],
     listener: &mut Listener,
-    counts: &Counts,
+    moment: &Moment,
     buffer: &mut [u8],
     request: &mut [u8],
 )
@@ -169,13 +169,13 @@ fn serve_accepted(
     requires request { length request.old ≡ most_request }
     requires stands { StandAt service listener.old.entries.items }
     requires sessions { length sessions.old ≡ socket_count service }
-    ensures served { BacklogServes counts.now (first_slot service) service slots.old sessions.old listener.old.entries.items slots.new sessions.new
+    ensures served { BacklogServes moment.now (first_slot service) service slots.old sessions.old listener.old.entries.items slots.new sessions.new
         listener.new.entries.items }
     ensures rest { listener.new ≡ record listener.old { entries = listener.new.entries } }
 {
     for at in 0..listener.entries.len() {
         serve_one(
-            service, at, slots, sessions, listener, counts, buffer, request,
+            service, at, slots, sessions, listener, moment, buffer, request,
         );
     }
 }
@@ -186,7 +186,7 @@ pub fn serve_backlog(
     slots: &mut [SocketStorage<Socket>],
     sessions: &mut [Session],
     listener: &mut Listener,
-    counts: &Counts,
+    moment: &Moment,
     buffer: &mut [u8],
     request: &mut [u8],
 )
@@ -194,10 +194,10 @@ pub fn serve_backlog(
     requires request { length request.old ≡ most_request }
     requires stands { StandAt service listener.old.entries.items }
     requires sessions { length sessions.old ≡ socket_count service }
-    ensures served { BacklogServes counts.now (first_slot service) service slots.old sessions.old (map accepted listener.old.entries.items) slots.new
+    ensures served { BacklogServes moment.now (first_slot service) service slots.old sessions.old (map accepted listener.old.entries.items) slots.new
         sessions.new listener.new.entries.items }
     ensures rest { listener.new ≡ record listener.old { entries = listener.new.entries } }
 {
     listener.accept_all();
-    serve_accepted(service, slots, sessions, listener, counts, buffer, request);
+    serve_accepted(service, slots, sessions, listener, moment, buffer, request);
 }

@@ -14,8 +14,8 @@ ghost use Rattle.interface.specs.Polls.{Polls, is_change};
 ghost use Rattle.app_tun_services.specs.Link.Drain.{DrainMove};
 
 use crate::backlog::{listener, serve_backlog, serve_first};
-use crate::counts::Counts;
 use crate::error::ServeError;
+use crate::idle::{Moment, moment_at};
 use crate::interface_of::{capabilities, interface};
 use crate::link::{Drain, write_answer};
 use crate::settings::Settings;
@@ -80,7 +80,7 @@ fn serve_slots(
     sessions: &mut [Session],
     echoes: &mut Listener,
     pages: &mut Listener,
-    counts: &Counts,
+    moment: &Moment,
     buffer: &mut [u8],
     request: &mut [u8],
 )
@@ -90,18 +90,18 @@ fn serve_slots(
     requires pages { StandAt Service.Page pages.old.entries.items }
     requires echo_sessions { length echo_sessions.old ≡ socket_count Service.Streams }
     requires sessions { length sessions.old ≡ socket_count Service.Page }
-    ensures serve { ServicesServe counts.now (served_of slots.old echoes.old.entries.items pages.old.entries.items echo_sessions.old sessions.old)
+    ensures serve { ServicesServe moment.now (served_of slots.old echoes.old.entries.items pages.old.entries.items echo_sessions.old sessions.old)
         (served_of slots.new echoes.new.entries.items pages.new.entries.items echo_sessions.new sessions.new) }
     ensures echoes { echoes.new ≡ record echoes.old { entries = echoes.new.entries } }
     ensures pages { pages.new ≡ record pages.old { entries = pages.new.entries } }
 {
-    serve_first(slots, counts, buffer, request);
+    serve_first(slots, moment, buffer, request);
     serve_backlog(
         Service::Streams,
         slots,
         echo_sessions,
         echoes,
-        counts,
+        moment,
         buffer,
         request,
     );
@@ -110,7 +110,7 @@ fn serve_slots(
         slots,
         sessions,
         pages,
-        counts,
+        moment,
         buffer,
         request,
     );
@@ -123,7 +123,7 @@ fn serve_set(
     sessions: &mut [Session],
     echoes: &mut Listener,
     pages: &mut Listener,
-    counts: &Counts,
+    moment: &Moment,
     buffer: &mut [u8],
     request: &mut [u8],
 )
@@ -133,7 +133,7 @@ fn serve_set(
     requires pages { StandAt Service.Page pages.old.entries.items }
     requires echo_sessions { length echo_sessions.old ≡ socket_count Service.Streams }
     requires sessions { length sessions.old ≡ socket_count Service.Page }
-    ensures serve { ServicesServe counts.now (served_of (slots sockets.old) echoes.old.entries.items pages.old.entries.items echo_sessions.old sessions.old)
+    ensures serve { ServicesServe moment.now (served_of (slots sockets.old) echoes.old.entries.items pages.old.entries.items echo_sessions.old sessions.old)
         (served_of (slots sockets.new) echoes.new.entries.items pages.new.entries.items echo_sessions.new sessions.new) }
     ensures echoes { echoes.new ≡ record echoes.old { entries = echoes.new.entries } }
     ensures pages { pages.new ≡ record pages.old { entries = pages.new.entries } }
@@ -144,7 +144,7 @@ fn serve_set(
         sessions,
         echoes,
         pages,
-        counts,
+        moment,
         buffer,
         request,
     )
@@ -177,14 +177,19 @@ fn serve(
     echoes.refresh(sockets, now);
     pages.refresh(sockets, now);
     tally.count_waiting(echoes, pages);
-    let counts = tally.counts(device);
+    let moment = moment_at(
+        now,
+        pages.entries.as_slice(),
+        sessions,
+        tally.counts(device),
+    );
     serve_set(
         sockets,
         echo_sessions,
         sessions,
         echoes,
         pages,
-        &counts,
+        &moment,
         buffer,
         request,
     );

@@ -12,6 +12,7 @@ mod counts;
 mod datagram;
 mod error;
 mod host;
+mod idle;
 mod interface_of;
 pub mod link;
 mod program;

@@ -16,6 +16,19 @@ const ROUNDS: usize = 8;
 /// How many bytes an answer takes, at most, but for the megabyte.
 const MOST_REPLY: usize = 1024;
 
+/// What was seen of a connection in a turn, and since when it has been so.
+#[derive(Clone, Copy, Debug, PartialEq, Eq)]
+pub struct Seen {
+    /// 1 where bytes of a request wait, else 0.
+    pub request: usize,
+    /// How many bytes wait to be acknowledged.
+    pub queued: usize,
+    /// How many bytes of the megabyte are still to be said.
+    pub left: usize,
+    /// In microseconds.
+    pub since: u64,
+}
+
 /// What a connection is in the middle of.
 #[derive(Clone, Copy, Debug, PartialEq, Eq)]
 pub struct Session {
@@ -23,6 +36,10 @@ pub struct Session {
     pub left: usize,
     /// Nothing is said after them.
     pub closes: bool,
+    /// A request was answered.
+    pub was_asked: bool,
+    /// What was last seen of it.
+    pub seen: Option<Seen>,
     /// How many requests were answered with 200 since that was last asked.
     pub answered: u64,
     /// How many were answered with something else.
@@ -34,6 +51,8 @@ impl Session {
     pub const INITIAL: Session = Session {
         left: 0,
         closes: false,
+        was_asked: false,
+        seen: None,
         answered: 0,
         declined: 0,
     };
@@ -225,6 +244,7 @@ fn say(socket: &mut tcp::Socket, session: &mut Session, counts: &Counts, answer:
         say_body(socket, session, counts, answer.reply);
     }
     session.closes = answer.closes;
+    session.was_asked = true;
     session.count(answer.reply);
 }
 

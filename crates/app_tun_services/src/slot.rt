@@ -4,8 +4,8 @@ ghost use Rattle.app_tun_services.specs.Echo.{datagram_echoed};
 ghost use Rattle.app_tun_services.specs.Services.{service_at, first_slot, socket_count, keeper_slot, port_of, echo_room, most_request, datagram_count, times};
 ghost use Rattle.app_tun_services.specs.Services.{datagrams_served, stream_served, PageServed, ServesAs, SlotServes, is_over};
 
-use crate::counts::Counts;
 use crate::datagram::echo_datagram;
+use crate::idle::{Moment, watch};
 use crate::site::{Session, serve_site};
 use crate::stream::echo_stream;
 use interface::{Item, SocketStorage};
@@ -131,11 +131,12 @@ fn serve_stream(socket: &mut Socket, buffer: &mut [u8])
     }
 }
 
-fn serve_request(socket: &mut Socket, session: &mut Session, counts: &Counts, request: &mut [u8])
-    ensures { PageServed counts.now (length request.old) socket.old session.old socket.new session.new }
+fn serve_request(socket: &mut Socket, session: &mut Session, moment: &Moment, request: &mut [u8])
+    ensures { PageServed moment.now (length request.old) socket.old session.old socket.new session.new }
 {
     if let Socket::Tcp(socket) = socket {
-        serve_site(socket, session, counts, request);
+        serve_site(socket, session, &moment.counts, request);
+        watch(socket, session, moment);
     }
 }
 
@@ -144,18 +145,18 @@ fn serve_socket(
     service: Service,
     socket: &mut Socket,
     session: &mut Session,
-    counts: &Counts,
+    moment: &Moment,
     buffer: &mut [u8],
     request: &mut [u8],
 )
     requires buffer { length buffer.old ≡ echo_room }
     requires request { length request.old ≡ most_request }
-    ensures { ServesAs counts.now service socket.old session.old socket.new session.new }
+    ensures { ServesAs moment.now service socket.old session.old socket.new session.new }
 {
     match service {
         Service::Datagrams => serve_datagrams(socket, buffer),
         Service::Streams => serve_stream(socket, buffer),
-        Service::Page => serve_request(socket, session, counts, request),
+        Service::Page => serve_request(socket, session, moment, request),
         Service::Keeper => {}
     }
 }
@@ -165,16 +166,16 @@ pub fn serve_slot(
     service: Service,
     slot: &mut SocketStorage<Socket>,
     session: &mut Session,
-    counts: &Counts,
+    moment: &Moment,
     buffer: &mut [u8],
     request: &mut [u8],
 )
     requires buffer { length buffer.old ≡ echo_room }
     requires request { length request.old ≡ most_request }
-    ensures { SlotServes counts.now service slot.old session.old slot.new session.new }
+    ensures { SlotServes moment.now service slot.old session.old slot.new session.new }
 {
     if let Some(item) = &mut slot.inner {
-        serve_socket(service, &mut item.socket, session, counts, buffer, request);
+        serve_socket(service, &mut item.socket, session, moment, buffer, request);
     }
 }
 

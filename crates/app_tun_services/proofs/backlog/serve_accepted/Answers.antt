@@ -10,7 +10,7 @@ loop-at-init c = (
   c.requires.buffer,
   c.requires.request,
   refl,
-  served_none c.args.counts.now (first_slot c.args.service) (socket_count c.args.service) c.args.service c.args.slots.now c.args.sessions.now
+  served_none c.args.moment.now (first_slot c.args.service) (socket_count c.args.service) c.args.service c.args.slots.now c.args.sessions.now
       c.args.listener.now.entries.items c.requires.stands,
 )
 
@@ -24,7 +24,7 @@ loop-at-preserved c =
       first_of (search rules, grind (arith, common_steps)),
       first_of (search rules, grind (arith, common_steps)),
       c.serve_one.ensures.rest ∙ ap (λ (l : Listener). record l { entries = c.serve_one.new.listener.entries }) so_far.2,
-      served_more c.loop-at.at c.args.counts.now (first_slot c.args.service) c.args.service c.args.slots.now c.args.sessions.now
+      served_more c.loop-at.at c.args.moment.now (first_slot c.args.service) c.args.service c.args.slots.now c.args.sessions.now
           c.args.listener.now.entries.items
           c.loop-at.slots c.loop-at.sessions mid.entries.items so_far.3 within
           c.serve_one.new.slots c.serve_one.new.sessions c.serve_one.new.listener.entries.items kept c.serve_one.ensures.served,
@@ -39,6 +39,6 @@ serve_one-requires-clause-sessions c =
 
 pub returns-clause-served : goal.returns-clause-served
 returns-clause-served c =
-    served_all c.loop-at.at c.args.counts.now (first_slot c.args.service) c.args.service c.args.slots.now c.args.sessions.now
+    served_all c.loop-at.at c.args.moment.now (first_slot c.args.service) c.args.service c.args.slots.now c.args.sessions.now
     c.args.listener.now.entries.items
     c.loop-at.slots c.loop-at.sessions c.loop-at.listener.entries.items c.loop-at.invariant.3 (omega arith)

@@ -13,7 +13,7 @@ serve_accepted-requires-clause-stands c =
 
 pub returns-clause-served : goal.returns-clause-served
 returns-clause-served c =
-    subst (λ (es : List Entry). BacklogServes c.args.counts.now (first_slot c.args.service) c.args.service c.args.slots.now c.args.sessions.now es
+    subst (λ (es : List Entry). BacklogServes c.args.moment.now (first_slot c.args.service) c.args.service c.args.slots.now c.args.sessions.now es
     c.serve_accepted.new.slots c.serve_accepted.new.sessions c.serve_accepted.new.listener.entries.items) c.accept_all.ensures.accepted
     c.serve_accepted.ensures.served
 

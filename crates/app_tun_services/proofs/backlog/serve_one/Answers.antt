@@ -9,12 +9,12 @@ use Rattle.app_tun_services.proofs.backlog.serve_one.Goals as goal
 pub returns-then-not-is_accepted-clause-served : goal.returns-then-not-is_accepted-clause-served
 returns-then-not-is_accepted-clause-served c =
     let es = c.args.listener.now.entries.items in
-    one_left c.args.counts.now c.args.service c.args.at c.args.slots.now c.args.sessions.now es c.index.result.now c.requires.within c.index.ensures
+    one_left c.args.moment.now c.args.service c.args.at c.args.slots.now c.args.sessions.now es c.index.result.now c.requires.within c.index.ensures
     (first_of (search rules, grind (arith, common_steps)))
 
 pub returns-clause-served : goal.returns-clause-served
 returns-clause-served c =
-    let counts = c.args.counts.now in
+    let counts = c.args.moment.now in
     let service = c.args.service in
     let ps = c.args.slots.now in
     let ss = c.args.sessions.now in

@@ -1,7 +1,9 @@
-use Rattle.std.proofs.Common.{◌≡◌, ◌∙◌, ap, subst, refl}
+use Rattle.std.proofs.Common.{◌≡◌, ◌∙◌, List, ap, subst, refl}
 use Rattle.interface.specs.Set.{slots}
 use Rattle.interface.specs.Backlog.Calls.{micros_of}
-use Rattle.app_tun_services.specs.declared.counts.Counts.{Counts}
+use Rattle.interface.specs.declared.listener.entry.Entry.{Entry}
+use Rattle.app_tun_services.specs.Idle.{moment_at}
+use Rattle.app_tun_services.specs.declared.idle.Moment.{Moment}
 use Rattle.app_tun_services.specs.Tallies.{counts_of, more_waiting, collected}
 use Rattle.app_tun_services.specs.Turns.{served_of, ServicesServe}
 use Rattle.app_tun_services.specs.Services.{first_slot, socket_count}
@@ -30,8 +32,13 @@ returns-clause-serve c =
     let ready = served_of (slots c.refresh-2.new.set) echoes pages c.args.echo_sessions.now c.args.sessions.now in
     let done = served_of (slots c.serve_set.new.sockets) c.serve_set.new.echoes.entries.items c.serve_set.new.pages.entries.items c.serve_set.new.echo_sessions
     c.serve_set.new.sessions in
-    let counted : c.counts-counts.result ≡ counts_of c.args.device.now (more_waiting echoes pages c.args.tally.now) =
-    c.counts-counts.ensures ∙ ap (counts_of c.args.device.now) c.count_waiting.ensures in
+    let counted : c.counts.result ≡ counts_of c.args.device.now (more_waiting echoes pages c.args.tally.now) =
+    c.counts.ensures ∙ ap (counts_of c.args.device.now) c.count_waiting.ensures in
+    let moment : c.moment_at-moment.result ≡
+    moment_at c.args.now pages c.args.sessions.now (counts_of c.args.device.now (more_waiting echoes pages c.args.tally.now)) =
+    c.moment_at-moment.ensures ∙
+    (ap (λ (es : List Entry). moment_at c.args.now es c.args.sessions.now c.counts.result) c.as_slice.ensures.value ∙
+    ap (moment_at c.args.now pages c.args.sessions.now) counted) in
     record {
       seen = slots c.refresh.new.set;
       ready = ready;
@@ -43,7 +50,7 @@ returns-clause-serve c =
           (slots c.refresh-2.new.set) pages
           c.requires.pages c.refresh-2.ensures.refreshed;
       same = (refl, refl);
-      serves = subst (λ (n : Counts). ServicesServe n ready done) counted c.serve_set.ensures.serve;
+      serves = subst (λ (n : Moment). ServicesServe n ready done) moment c.serve_set.ensures.serve;
       sessions = c.collect.ensures.sessions;
       tally = c.collect.ensures.tally ∙ ap (collected c.serve_set.new.sessions) c.count_waiting.ensures;
     }
