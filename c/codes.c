@@ -131,6 +131,7 @@ static void hosts_without_host(zv_host *none)
     WANT(zv_frame_in(none, bytes, 60), ZV_NO_HOST);
     WANT(zv_frame_out(none, out.bytes, 60, &out.count), ZV_NO_HOST);
     WANT(zv_frame_out_length(none, &out.count), ZV_NO_HOST);
+    WANT(zv_trace_line(none, 0, 0, bytes, 60, out.bytes, 60, &out.count), ZV_NO_HOST);
     WANT(zv_poll(none, 0, 1, &out.byte), ZV_NO_HOST);
     WANT(zv_poll_at(none, 0, &out.at), ZV_NO_HOST);
     WANT(zv_counters(none, &out.counts), ZV_NO_HOST);
@@ -586,6 +587,11 @@ static void frames(void)
     HOLDS(count == 142);
     WANT(zv_frame_out(&one, out.bytes, count, &out.count), ZV_OK);
     HOLDS(out.count == 142 && memcmp(out.bytes + 42, bytes, 100) == 0);
+    uint8_t line[200];
+    WANT(zv_trace_line(&one, 1500000, 1, out.bytes, 142, line, sizeof line, &count), ZV_OK);
+    HOLDS(count < sizeof line && memcmp(line, "[  1.500000s] -> ", 17) == 0 && line[count - 1] == '\n');
+    WANT(zv_trace_line(&one, 1500000, 0, out.bytes, 142, line, 5, &count), ZV_OK);
+    HOLDS(count == 5 && memcmp(line, "[  1.", 5) == 0);
     zv_counts before;
     WANT(zv_counters(&one, &before), ZV_OK);
     WANT(zv_frame_in(&one, bytes, 65550), ZV_TOO_LONG);

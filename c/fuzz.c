@@ -315,6 +315,11 @@ static void cross(zv_host *from, zv_host *to)
     }
     if (code != ZV_OK)
         return;
+    uint8_t line[80];
+    size_t length;
+    code = zv_trace_line(from, clock_of[0], 1, frame, count, line, choice(2) ? sizeof line : (size_t)choice(80), &length);
+    if (code != ZV_OK ? code != ZV_MEMORY : length > sizeof line)
+        fail("a frame has no line", code);
     switch (choice(16)) {
     case 0: return;
     case 1: count = (size_t)choice(count + 1); break;

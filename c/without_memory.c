@@ -264,6 +264,8 @@ static void talk(course *it)
     DO(zv_poll(&it->hosts[1], it->now, 8, &changed));
     if (refused_at == 0)
         DO(zv_frame_out_length(&it->hosts[1], &count));
+    uint8_t line[200];
+    DO(zv_trace_line(&it->hosts[1], it->now, 0, packet, sizeof packet, line, sizeof line, &count));
     turns(it->hosts, &it->now);
 }
 

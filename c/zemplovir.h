@@ -213,6 +213,11 @@ uint32_t zv_frame_out(zv_host *host, uint8_t *frame, size_t length, size_t *coun
 /* How many bytes the first frame has that is to go. ZV_EMPTY. */
 uint32_t zv_frame_out_length(zv_host *host, size_t *count);
 
+/* Writes what a frame is as a line of text for a log: `now` in seconds, whether it came (sent is 0) or was sent (1), and a header behind the
+ * other, as "[  1.000000s] <- Ethernet 02-.. > 02-.., ARP request ..\n". It says how many bytes it wrote, and puts no 0 behind them; of a line
+ * that is longer than `size` the front is written. The host stays as it is. ZV_MEMORY. */
+uint32_t zv_trace_line(zv_host *host, int64_t now, uint8_t sent, const uint8_t *frame, size_t length, uint8_t *text, size_t size, size_t *count);
+
 /* Takes in at most `budget` of the frames that came, and goes over the sockets at most `budget` times for what they have to send. While as
  * many frames are to go as may, none comes and none goes: fetch them, and poll again. Then each listener sees how far the sockets of its
  * backlog came. `changed` is 1 where the state or a queue of a socket may have changed, else 0. ZV_MOMENT. */
@@ -552,6 +557,7 @@ ZV_MUST_LOOK(zv_host_set_hardware);
 ZV_MUST_LOOK(zv_host_set_reassembly_slots);
 ZV_MUST_LOOK(zv_frame_out);
 ZV_MUST_LOOK(zv_frame_out_length);
+ZV_MUST_LOOK(zv_trace_line);
 ZV_MUST_LOOK(zv_poll);
 ZV_MUST_LOOK(zv_poll_at);
 ZV_MUST_LOOK(zv_counters);

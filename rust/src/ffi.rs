@@ -83,6 +83,16 @@ extern "C" {
     pub fn zv_frame_in(host: *mut Host, frame: *const u8, length: usize) -> u32;
     pub fn zv_frame_out(host: *mut Host, frame: *mut u8, length: usize, count: *mut usize) -> u32;
     pub fn zv_frame_out_length(host: *mut Host, count: *mut usize) -> u32;
+    pub fn zv_trace_line(
+        host: *mut Host,
+        now: i64,
+        sent: u8,
+        frame: *const u8,
+        length: usize,
+        text: *mut u8,
+        size: usize,
+        count: *mut usize,
+    ) -> u32;
     pub fn zv_poll(host: *mut Host, now: i64, budget: u16, changed: *mut u8) -> u32;
     pub fn zv_poll_at(host: *mut Host, now: i64, at: *mut i64) -> u32;
     pub fn zv_counters(host: *mut Host, counters: *mut Counters) -> u32;

@@ -227,6 +227,18 @@ impl Interface {
         Some(count)
     }
 
+    /// Writes what a frame is as a line of text for a log, and answers how many bytes it wrote. Of a line that is longer than `text` the front
+    /// is written.
+    pub fn trace_line(&mut self, now: Instant, sent: bool, frame: &[u8], text: &mut [u8]) -> Result<usize> {
+        let mut count = 0;
+        done(unsafe {
+            ffi::zv_trace_line(
+                &mut self.host, now.micros, sent.into(), frame.as_ptr(), frame.len(), text.as_mut_ptr(), text.len(), &mut count,
+            )
+        })?;
+        Ok(count)
+    }
+
     /// Takes in what came and sends what is to be sent, each at most so many times. Answers whether a socket's state or queue may have
     /// changed.
     pub fn poll(&mut self, now: Instant, budget: u16) -> Result<bool> {

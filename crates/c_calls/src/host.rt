@@ -13,7 +13,7 @@ use crate::link::FrameLink;
 use crate::slots::Slots;
 use interface::{Config, Interface, Listener};
 use ip_wire::{EthernetAddress, HardwareAddress};
-use net_base::{ChecksumCapabilities, DeviceCapabilities, Instant, Medium};
+use net_base::{ChecksumCapabilities, Device, DeviceCapabilities, Instant, Medium};
 use sockets::{AnySocket, dhcp, dns};
 use std::alloc::Global;
 use std::marker::Model;
@@ -231,6 +231,13 @@ impl Host {
         }
         let (interface, sockets) = self.interface_beside();
         Ok(sockets.poll_at(now, interface))
+    }
+
+    /// What its frames begin with.
+    pub fn medium(&self) -> Medium
+        ensures { result ≡ self.now.link.capabilities.medium }
+    {
+        self.link.capabilities().medium
     }
 
     /// What was counted.

@@ -1,8 +1,9 @@
 -- What C gets of a call: a number, and what it asked for after a pointer.
-use Rattle.std.specs.Prelude.{◌≡◌, ℕ, ◌^◌, ◌-◌, ◌==◌, if◌then◌else◌, Option, None, Some, Result, Ok, Err}
+use Rattle.std.specs.Prelude.{◌≡◌, ◌≤◌, ℕ, ◌^◌, ◌-◌, ◌==◌, if◌then◌else◌, Option, None, Some, Result, Ok, Err, IfOk, IfErr}
 use Rattle.c_calls.specs.Host.{StackValue}
 use Rattle.c_calls.specs.Codes.{number_of}
 use Rattle.c_calls.specs.declared.code.Code.{Code}
+use Rattle.c_calls.specs.declared.code.Code.TheVariants as Is
 
 -- a handle without a host
 abbrev pub no_host : ℕ
@@ -79,3 +80,7 @@ As {A} f Does host answer left = (own : Result A Code) × Does host own left × 
 abbrev pub Where : {A : Type 0} → Result A Code → ℕ → Type 0 → (A → Type 0) → Type 0
 Where (Ok argument) result unchanged does = does argument
 Where (Err code) result unchanged does = (result ≡ number_of code) × unchanged
+
+-- a line of text is written into so much room: how long it is, or there is no memory; the host stays as it is
+abbrev pub Traces : ℕ → StackValue → Result ℕ Code → StackValue → Type 0
+Traces room host answer left = (left ≡ host) × IfOk answer (λ count. count ≤ room) × IfErr answer (λ code. code ≡ Is.Memory)

@@ -14,6 +14,7 @@ mod packets;
 mod stream_settings;
 mod streams;
 mod tables;
+mod trace;
 mod types;
 
 pub use backlogs::{
@@ -50,3 +51,4 @@ pub use tables::{
     zv_host_set_reassembly_slots, zv_host_set_reassembly_timeout, zv_host_update_hardware,
     zv_route_add, zv_route_remove,
 };
+pub use trace::zv_trace_line;

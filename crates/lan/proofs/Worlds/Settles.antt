@@ -1,5 +1,5 @@
 -- Worlds that go on by what a good link and served hosts do, round by round.
-use Rattle.std.proofs.Common.{◌≡◌, ℕ, zero, suc, ◌+◌, ◌-◌, ◌<◌, ℤ, List, [], ◌∷◌, ◌++◌, refl, sym, subst, ap, ◌∙◌, inl, inr, ◌≤◌, add-one, arith, Option, Some, None, Result, Ok, Err, IfOk, OnErr, option_map}
+use Rattle.std.proofs.Common.{◌≡◌, ℕ, zero, suc, ◌+◌, ◌-◌, ◌<◌, ℤ, List, [], ◌∷◌, ◌++◌, refl, sym, subst, ap, ◌∙◌, inl, inr, ◌≤◌, add-one, arith, Option, Some, None, Result, Ok, Err, IfErr, IfOk, OnErr, option_map}
 use Rattle.std.specs.List.{AllByRecursion}
 use Rattle.std.specs.Int.{int_max}
 use Rattle.interface.specs.Instant.{earlier}
@@ -10,7 +10,7 @@ use Rattle.lan.specs.declared.at_link.history.event.Event.{Event}
 use Rattle.lan.specs.declared.at_link.history.event.Event.TheVariants as E
 use Rattle.lan.specs.declared.at_link.history.event.Side.{Side}
 use Rattle.lan.specs.Worlds.AtLink.Runs.{Step, Steps, WorldValue}
-use Rattle.lan.specs.Worlds.Settling.{AreIdle, AreServed, Goes, Handed, IsService, NextRound, Rounds, Settles, deliveries}
+use Rattle.lan.specs.Worlds.Settling.{AreIdle, AreServed, Goes, Handed, IsService, NextRound, Rounds, Settles, Stops, StopsHanding, deliveries}
 
 pub goes_not : (w : WorldValue) → Goes w w
 goes_not w = ([], tt, refl)
@@ -90,3 +90,23 @@ pub the_last_round : (budget : ℕ) (from instant : ℤ) (handed now : Handed) (
     → Settles budget from rounds (Some instant) first new
 the_last_round budget from instant handed now n rounds first old served new below before are goes =
     (n, below, handed, now, old, before, (served, are, goes))
+
+-- REFUSALS
+
+pub stops : (old new : WorldValue) (event : Event) (r : Result Answer Refused) → OnErr r (new ≡ old) → IfErr r (Stops old event) → IfErr r (Stops new event)
+stops old new event (Ok answer) same is = tt
+stops old new event (Err refused) same is = subst (λ (w : WorldValue). Stops w event refused) (sym same) is
+
+-- the frame behind those that were handed over
+pub stops_handing : (old mid new : WorldValue) (side : Side) (from frame to : ℕ) (padding : List ℕ) (refused : Refused) → from ≤ frame → frame < to
+    → padding ≡ [] → Steps old (deliveries side from (frame - from)) mid → new ≡ mid → Stops new (E.Deliver side frame padding) refused
+    → StopsHanding side from (to - from) refused old new
+stops_handing old mid new side from frame to padding refused above below bare before same is =
+    let slot : frame ≡ from + (frame - from) = omega arith in
+    let within : frame - from < to - from = omega arith in
+    let plain : Stops new (E.Deliver side frame []) refused = subst (λ (p : List ℕ). Stops new (E.Deliver side frame p) refused) bare is in (
+      frame - from,
+      within,
+      subst (λ (w : WorldValue). Steps old (deliveries side from (frame - from)) w) (sym same) before,
+      subst (λ (m : ℕ). Stops new (E.Deliver side m []) refused) slot plain,
+    )

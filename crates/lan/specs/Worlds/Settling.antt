@@ -11,7 +11,10 @@ use Rattle.lan.specs.declared.at_link.history.event.Side.{Side}
 use Rattle.lan.specs.declared.at_link.history.event.Side.TheVariants.{A, B}
 pub use Rattle.lan.specs.declared.world.settle.Handed.{Handed}
 use Rattle.lan.specs.Worlds.AtLink.History.{Entry}
-use Rattle.lan.specs.Worlds.AtLink.Runs.{Step, Steps, WorldValue}
+use Rattle.lan.specs.declared.at_link.history.answer.Refused.{Refused}
+use Rattle.lan.specs.Worlds.AtLink.Refusals.{MayRefuse}
+use Rattle.lan.specs.Worlds.AtLink.Kinds.{kind_of}
+use Rattle.lan.specs.Worlds.AtLink.Runs.{Step, Steps, WorldValue, tables_in}
 use Rattle.lan.specs.Worlds.AtLink.Node.{node}
 
 -- a host is polled, or asked when it wants to be; or the link hands a sent frame over as it is
@@ -96,3 +99,46 @@ Settles budget from rounds (Some instant) old new =
     (n : ℕ) × (n < rounds) × (handed now : Handed) × (before : WorldValue) × Rounds budget from old n instant handed before
     × IsRound budget instant handed now None before new
 Settles budget from rounds None old new = (next : ℤ) × (handed : Handed) × Rounds budget from old rounds next handed new
+
+-- REFUSALS
+
+-- an event comes next, and the world refuses it so: by name, or for lack of memory
+abbrev pub Stops : WorldValue → Event → Refused → Type 0
+Stops w event refused = MayRefuse w.hosts (tables_in w.history w.hosts) (kind_of event) refused
+
+-- of so many frames of a host, the first after the k that were handed over is refused
+abbrev pub StopsHanding : Side → ℕ → ℕ → Refused → WorldValue → WorldValue → Type 0
+StopsHanding side from count refused old new =
+    (k : ℕ) × (k < count) × Steps old (deliveries side from k) new × Stops new (E.Deliver side (from + k) []) refused
+
+-- a host's poll is refused, or one of its frames after it
+abbrev pub StopsServing : Side → ℤ → ℕ → ℕ → Refused → WorldValue → WorldValue → Type 0
+StopsServing side instant budget handed refused old new =
+    ((new ≡ old) × Stops new (E.Poll side instant budget) refused)
+    ⊎ ((answer : Answer) × (polled : WorldValue) × Step old (E.Poll side instant budget) answer polled
+    × StopsHanding side handed (min (length (node polled.hosts side).link.sent) (handed + budget) - handed) refused polled new)
+
+-- A isn't served whole, or B after it
+abbrev pub StopsServingBoth : ℤ → ℕ → Handed → Refused → WorldValue → WorldValue → Type 0
+StopsServingBoth instant budget handed refused old new =
+    StopsServing A instant budget handed.a refused old new
+    ⊎ ((now : ℕ) × (between : WorldValue) × IsServed A instant budget handed.a now old between
+    × StopsServing B instant budget handed.b refused between new)
+
+-- where all is calm, a host isn't asked when it wants to be polled
+abbrev pub StopsAsking : ℤ → Handed → Refused → WorldValue → WorldValue → Type 0
+StopsAsking instant handed refused old new =
+    IsCalm handed old × (((new ≡ old) × Stops new (E.PollAt A instant) refused)
+    ⊎ ((at : Option ℤ) × Step old (E.PollAt A instant) (To.At at) new × Stops new (E.PollAt B instant) refused))
+
+-- the round's next event is refused
+abbrev pub StopsRound : ℤ → ℕ → Handed → Refused → WorldValue → WorldValue → Type 0
+StopsRound instant budget handed refused old new =
+    StopsServingBoth instant budget handed refused old new
+    ⊎ ((now : Handed) × (served : WorldValue) × AreServed instant budget handed now old served × StopsAsking instant now refused served new)
+
+-- settling ends early where the next event of a round, behind whole rounds, is one that the world refuses: at once only where that is the first
+abbrev pub StopsSettling : ℕ → ℤ → ℕ → Refused → WorldValue → WorldValue → Type 0
+StopsSettling budget from rounds refused old new =
+    (n : ℕ) × (n < rounds) × (instant : ℤ) × (handed : Handed) × (before : WorldValue) × Rounds budget from old n instant handed before
+    × StopsRound instant budget handed refused before new

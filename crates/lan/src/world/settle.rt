@@ -1,10 +1,10 @@
 //! A world whose link is good for a while, and whose hosts are polled when they want to be.
-ghost use Rattle.std.specs.Prelude.{◌≡◌, ◌↔◌, ◌-◌, Some, None, IfOk, IfSome, IsTrue, OnOk};
+ghost use Rattle.std.specs.Prelude.{◌≡◌, ◌↔◌, ◌-◌, Some, None, IfErr, IfOk, IfSome, IsTrue, OnErr, OnOk};
 ghost use Rattle.lan.specs.declared.at_link.history.answer.Answer.TheVariants as To;
 ghost use Rattle.lan.specs.declared.at_link.history.event.Event.TheVariants as E;
 ghost use Rattle.lan.specs.Worlds.AtLink.Runs.{Step, Steps};
 ghost use Rattle.lan.specs.Worlds.Promises.{IsSafeWorld};
-ghost use Rattle.lan.specs.Worlds.Settling.{AreIdle, AreServed, Goes, IsCalm, IsServed, IsService, NextRound, Settles, all_sent, deliveries};
+ghost use Rattle.lan.specs.Worlds.Settling.{AreIdle, AreServed, Goes, IsCalm, IsServed, IsService, NextRound, Settles, Stops, StopsAsking, StopsHanding, StopsServing, StopsServingBoth, StopsSettling, all_sent, deliveries};
 
 use crate::at_link::{Answer, Bytes, Event, Refused, Side};
 use crate::world::World;
@@ -26,6 +26,8 @@ impl World {
     /// before, and none waits for a host, the clock, which begins at `from`, goes on to the instant at which a host wants to be polled. Frames
     /// that were sent before are left out, as lost.
     ///
+    /// A refusal is that of the event which comes next in a round, and leaves what there was before it: `Moment` where `from` is past, say.
+    ///
     /// Where hosts keep their addresses, and answer nothing that no socket of theirs takes, what is at rest has arrived: all that was written
     /// to a socket that is connected has come to its peer (`proof_stack::progress::settled`).
     pub fn settle(
@@ -37,6 +39,7 @@ impl World {
         ensures rounds { IfOk result (λ rested. Settles budget from rounds rested self.old self.new) }
         ensures goes { Goes self.old self.new }
         ensures rest { IfOk result (λ rested. IfSome rested (λ instant. AreIdle instant self.new.history)) }
+        ensures refused { IfErr result (λ refused. StopsSettling budget from rounds refused self.old self.new) }
         ensures promises { IsSafeWorld self.new }
     {
         let outcome = self.settle_by(from, budget, rounds);
@@ -54,6 +57,7 @@ impl World {
         ensures rounds { IfOk result (λ rested. Settles budget from rounds rested self.old self.new) }
         ensures goes { Goes self.old self.new }
         ensures rest { IfOk result (λ rested. IfSome rested (λ instant. AreIdle instant self.new.history)) }
+        ensures refused { IfErr result (λ refused. StopsSettling budget from rounds refused self.old self.new) }
     {
         let mut instant = from;
         let mut handed = self.all_sent();
@@ -89,6 +93,7 @@ impl World {
     ) -> Result<Handed, Refused>
         ensures goes { Goes self.old self.new }
         ensures served { IfOk result (λ now. AreServed instant budget handed now self.old self.new) }
+        ensures refused { IfErr result (λ refused. StopsServingBoth instant budget handed refused self.old self.new) }
     {
         let a = self.serve(Side::A, instant, budget, handed.a)?;
         let b = self.serve(Side::B, instant, budget, handed.b)?;
@@ -105,6 +110,7 @@ impl World {
     ) -> Result<usize, Refused>
         ensures goes { Goes self.old self.new }
         ensures served { IfOk result (λ now. IsServed side instant budget handed now self.old self.new) }
+        ensures refused { IfErr result (λ refused. StopsServing side instant budget handed refused self.old self.new) }
     {
         self.serve_by(Event::Poll(side, instant, budget))?;
         let end = self
@@ -119,6 +125,7 @@ impl World {
     fn hand_over(&mut self, side: Side, from: usize, to: usize) -> Result<(), Refused>
         ensures goes { Goes self.old self.new }
         ensures handed { OnOk result (Steps self.old (deliveries side from (to - from)) self.new) }
+        ensures refused { IfErr result (λ refused. StopsHanding side from (to - from) refused self.old self.new) }
     {
         for frame in from..to {
             let padding = Bytes::from_vec(Vec::new(self.alloc));
@@ -132,6 +139,8 @@ impl World {
         requires { IsService event }
         ensures goes { Goes self.old self.new }
         ensures step { IfOk result (λ answer. Step self.old event answer self.new) }
+        ensures unchanged { OnErr result (self.new ≡ self.old) }
+        ensures refused { IfErr result (Stops self.new event) }
     {
         self.step(event)
     }
@@ -140,6 +149,7 @@ impl World {
     fn next_round(&mut self, instant: Instant, handed: Handed) -> Result<Option<Instant>, Refused>
         ensures goes { Goes self.old self.new }
         ensures next { IfOk result (λ next. NextRound instant handed next self.old self.new) }
+        ensures refused { IfErr result (λ refused. StopsAsking instant handed refused self.old self.new) }
     {
         if !self.is_calm(handed) {
             return Ok(Some(instant));
@@ -163,6 +173,8 @@ impl World {
     fn ask(&mut self, side: Side, instant: Instant) -> Result<Option<Instant>, Refused>
         ensures goes { Goes self.old self.new }
         ensures asked { IfOk result (λ at. Step self.old (E.PollAt side instant) (To.At at) self.new) }
+        ensures unchanged { OnErr result (self.new ≡ self.old) }
+        ensures refused { IfErr result (Stops self.new (E.PollAt side instant)) }
     {
         match self.serve_by(Event::PollAt(side, instant))? {
             Answer::At(at) => Ok(at),

@@ -1,0 +1,79 @@
+//! Frames as lines of text.
+ghost use Rattle.std.specs.Prelude.{◌≡◌, ◌≤◌, length, IfOk, IfErr};
+ghost use Rattle.c_calls.specs.declared.code.Code.TheVariants as Is;
+ghost use Rattle.zemplovir_c.specs.Answers.{Gives, Traces};
+
+use crate::answers::{NO_HOST, given};
+use crate::handle::Handle;
+use base_wrappers::Direction;
+use c_calls::Code;
+use net_base::{Instant, Medium};
+use std::alloc::Global;
+use wire_trace::trace_line;
+
+/// Copies the front of the bytes, as many as there is room for. Answers how many.
+fn copy_front(bytes: &[u8], out: &mut [u8]) -> usize
+    ensures { result ≤ length out.old }
+{
+    let count = bytes.len().min(out.len());
+    out[..count].copy_from_slice(&bytes[..count]);
+    count
+}
+
+/// Writes the line of a frame.
+fn line_in(
+    alloc: Global,
+    medium: Medium,
+    now: Instant,
+    direction: Direction,
+    frame: &[u8],
+    text: &mut [u8],
+) -> Result<usize, Code>
+    ensures count { IfOk result (λ count. count ≤ length text.old) }
+    ensures memory { IfErr result (λ code. code ≡ Is.Memory) }
+{
+    let mut line = String::new(alloc);
+    match trace_line(alloc, medium, now, direction, frame, &mut line) {
+        Ok(()) => Ok(copy_front(line.as_bytes(), text)),
+        Err(_) => Err(Code::Memory),
+    }
+}
+
+/// Which way a frame goes.
+fn direction_in(sent: u8) -> Direction {
+    if sent == 0 {
+        Direction::Rx
+    } else {
+        Direction::Tx
+    }
+}
+
+/// Writes what a frame is as a line of text: the instant in seconds, whether it came or was sent, and a header behind the other. Of a
+/// line that is longer than the buffer the front is written.
+#[unsafe(no_mangle)]
+pub extern "C" fn zv_trace_line(
+    alloc: Global,
+    handle: &mut Handle,
+    now: i64,
+    sent: u8,
+    frame: &[u8],
+    text: &mut [u8],
+    count: &mut usize,
+) -> u32
+    ensures { Gives (Traces (length text.old)) handle.old.inside result count.old count.new handle.new.inside }
+{
+    let Some(host) = handle.take(alloc) else {
+        return NO_HOST;
+    };
+    let medium = host.medium();
+    handle.put(host);
+    let line = line_in(
+        alloc,
+        medium,
+        Instant::from_micros(now),
+        direction_in(sent),
+        frame,
+        text,
+    );
+    given(line, count)
+}
