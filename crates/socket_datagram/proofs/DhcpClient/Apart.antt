@@ -19,7 +19,7 @@ use Rattle.socket_datagram.specs.DhcpClient.Answers.{is_answer, chosen, offer_in
 use Rattle.socket_datagram.specs.DhcpClient.Events.{is_over, initial, untold}
 use Rattle.socket_datagram.specs.DhcpClient.Laws.{Comes, IsFirstRequest}
 use Rattle.socket_datagram.specs.DhcpClient.Laws.Comes as C
-use Rattle.socket_datagram.specs.DhcpClient.Leases.{is_leasable, server_in, lease_in, lease_span, micros_of, spans_of}
+use Rattle.socket_datagram.specs.DhcpClient.Leases.{is_leasable, server_in, lease_in, lease_with, lease_span, micros_of, spans_of}
 use Rattle.socket_datagram.specs.DhcpClient.Moments.{later, at_least, spread, first_wait}
 use Rattle.socket_datagram.specs.DhcpClient.Offers.{Offers, OffersAs, next_of, waits, restart_of, discover_wait, lease_wait}
 use Rattle.socket_datagram.specs.DhcpClient.States.{lease_of, is_asked, turn_before, turn_of, turn_with}
@@ -27,6 +27,7 @@ use Rattle.socket_datagram.specs.DhcpClient.Value.{DhcpValue, begun, unoffered, 
 use Rattle.socket_datagram.specs.declared.dhcpv4.config.ServerInfo.{ServerInfo}
 use Rattle.socket_datagram.specs.declared.dhcpv4.config.Settings.{Settings}
 use Rattle.socket_datagram.specs.declared.dhcpv4.lease.Lease.{Lease}
+use Rattle.socket_datagram.specs.declared.dhcpv4.lease.Spans.{Spans}
 use Rattle.socket_datagram.specs.declared.dhcpv4.request.Kind.{Kind}
 use Rattle.socket_datagram.specs.declared.dhcpv4.request.Kind.TheVariants as K
 use Rattle.socket_datagram.specs.declared.dhcpv4.state.ClientState.{ClientState}
@@ -118,22 +119,23 @@ either : (t : ℤ) (test : Bool) (v w : DhcpValue) → Rests t v → Rests t w �
 either t true v w one other = one
 either t false v w one other = other
 
+abbrev spans_in : DhcpRepr → Option ℕ → Spans
+spans_in m most = spans_of (lease_span m.lease_duration most) (micros_of m.renew_duration) (micros_of m.rebind_duration)
+
+abbrev given : ℤ → ServerInfo → DhcpRepr → Ipv4Cidr → Option ℕ → ℕ → Lease
+given now server m cidr most least = lease_with now server m cidr (lease_span m.lease_duration most) (spans_in m most) least
+
 module _ (t now : ℤ) (v : DhcpValue) (before : t ≤ℤ now +ℤ pos 1_000_000) (rests : Rests t v) where
+  asked : (m : DhcpRepr) (most : Option ℕ) (least : ℕ) → least ≡ 1_000_000 → t ≤ℤ later now (at_least (spans_in m most).renew least)
+  asked m most least is =
+      subst (λ (n : ℕ). t ≤ℤ later now (at_least (spans_in m most).renew n)) (sym is) (floor t now (spans_in m most).renew before)
+
   bound : (server : ServerInfo) (m : DhcpRepr) (cidr : Option Ipv4Cidr) (most : Option ℕ) (least : ℕ) → least ≡ 1_000_000 →
       Rests t (bound_to v (lease_in now server m cidr most least))
   bound server m None most least is = rests
   bound server m (Some cidr) most least is = by (is_leasable m.your_ip (Some cidr)) where
-    abbrev spans : ℕ
-    spans = (spans_of (lease_span m.lease_duration most) (micros_of m.renew_duration) (micros_of m.rebind_duration)).renew
-    asked : t ≤ℤ later now (at_least spans least)
-    asked = subst (λ (n : ℕ). t ≤ℤ later now (at_least spans n)) (sym is) (floor t now spans before)
-    by : (test : Bool) → Rests t (bound_to v (if test then Some (record {
-      config = record { server = server; address = cidr; router = m.router; dns_servers = m.dns_servers };
-      refresh_at = later now (at_least spans least);
-      rebind_at = later now (at_least (spans_of (lease_span m.lease_duration most) (micros_of m.renew_duration) (micros_of m.rebind_duration)).rebind least);
-      expires_at = later now (lease_span m.lease_duration most);
-    }) else None))
-    by true = record { state = asked; restart = rests.restart; kept = rests.kept }
+    by : (test : Bool) → Rests t (bound_to v (if test then Some (given now server m cidr most least) else None))
+    by true = record { state = asked m most least is; restart = rests.restart; kept = rests.kept }
     by false = rests
 
   offered : (server : ServerInfo) (m : DhcpRepr) (cidr : Option Ipv4Cidr) (s : ClientState) → Rests t (offer_in now server v m cidr s)
@@ -221,13 +223,14 @@ due t now begins_at next kind from e = by (int_lt now begins_at) refl e where
   by true is e = absurd (send_wait kind e)
   by false is e = not_early t now begins_at from is
 
+abbrev asks_more : ℤ → Lease → Turn
+asks_more now lease = if int_lt now lease.rebind_at then T.Send (K.Renew lease) else T.Send (K.Rebind lease)
+
 with_lease : (t now : ℤ) (lease : Lease) (ask_at : ℤ) (kind : Kind) → t ≤ℤ ask_at → turn_with now lease ask_at ≡ T.Send kind → t ≤ℤ now
 with_lease t now lease ask_at kind from e = by (int_le lease.expires_at now) e where
-  abbrev rest : Turn
-  rest = if int_lt now lease.rebind_at then T.Send (K.Renew lease) else T.Send (K.Rebind lease)
-  by : (ended : Bool) → (if ended then T.GiveUp else if int_lt now ask_at then T.Wait else rest) ≡ T.Send kind → t ≤ℤ now
+  by : (ended : Bool) → (if ended then T.GiveUp else if int_lt now ask_at then T.Wait else asks_more now lease) ≡ T.Send kind → t ≤ℤ now
   by true e = absurd (send_end kind e)
-  by false e = due t now ask_at rest kind from e
+  by false e = due t now ask_at (asks_more now lease) kind from e
 
 begins : (t now : ℤ) (begins_at : Option ℤ) (kind : Kind) → From t begins_at → turn_before now begins_at ≡ T.Send kind → t ≤ℤ now
 begins t now None kind from e = absurd from

@@ -100,7 +100,7 @@ acknowledges now v ip repr payload server m cidr lease a kind asked from =
       address = cidr_address m.your_ip m.subnet_mask lease.config.address network;
       network = network;
       host = can_have m.your_ip lease.config.address (cidr_address m.your_ip m.subnet_mask lease.config.address network)
-      (subst (λ (b : Option Ipv4Cidr). is_leasable m.your_ip b ≡ true) from.cidr_is from.can_have);
+          (subst (λ (b : Option Ipv4Cidr). is_leasable m.your_ip b ≡ true) from.cidr_is from.can_have);
       end = from.ends;
     }
 
