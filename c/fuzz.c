@@ -111,7 +111,7 @@ static void fail(const char *why, uint64_t number)
 
 static void check(uint32_t code)
 {
-    if (code > ZV_QUERY_FAILED)
+    if (code > ZV_QUERY_UNANSWERED)
         fail("no such code", code);
 }
 

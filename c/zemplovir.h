@@ -67,7 +67,8 @@ enum {
     ZV_QUERY_PENDING = 24, /* the query has no answer yet */
     ZV_NAME_TOO_LONG = 25, /* the name has more than 255 bytes as it is sent, so more than 253 as a text */
     ZV_INVALID_NAME = 26,  /* a label of the name has no bytes, or more than 63, or the name is no text in UTF-8 */
-    ZV_QUERY_FAILED = 27   /* no server gave an address, or nothing was asked */
+    ZV_QUERY_FAILED = 27,  /* the name has no address, or nothing was asked */
+    ZV_QUERY_UNANSWERED = 28 /* no server answered: each refused, failed, cut its answer short, or was silent */
 };
 
 /* The code in words. */
@@ -102,6 +103,7 @@ static inline const char *zv_strerror(uint32_t code)
     case ZV_NAME_TOO_LONG: return "name too long";
     case ZV_INVALID_NAME: return "invalid name";
     case ZV_QUERY_FAILED: return "no address was found";
+    case ZV_QUERY_UNANSWERED: return "no server answered";
     default: return "unknown code";
     }
 }
@@ -490,7 +492,8 @@ uint32_t zv_dns_send(zv_host *host, uint8_t *bytes, size_t length, size_t *count
 /* Says whether the query went: behind one that did the client waits for its answer. 0 for no. */
 uint32_t zv_dns_sent(zv_host *host, uint8_t sent);
 
-/* The addresses that were found. They are told once, and so is that none were. ZV_QUERY_PENDING, ZV_QUERY_FAILED. */
+/* The addresses that were found. They are told once, and so is that none were. ZV_QUERY_PENDING, ZV_QUERY_FAILED,
+ * ZV_QUERY_UNANSWERED. */
 uint32_t zv_dns_result(zv_host *host, zv_addresses *addresses);
 
 /* When the client has something to send, INT64_MAX for never. */

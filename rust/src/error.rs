@@ -60,6 +60,7 @@ errors! {
     25 NameTooLong "name too long"
     26 InvalidName "invalid name"
     27 QueryFailed "no address was found"
+    28 QueryUnanswered "no server answered"
 }
 
 impl core::error::Error for Error {}

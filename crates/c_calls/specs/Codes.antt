@@ -54,6 +54,7 @@ number_of Is.QueryPending = 24
 number_of Is.NameTooLong = 25
 number_of Is.InvalidName = 26
 number_of Is.QueryFailed = 27
+number_of Is.QueryUnanswered = 28
 
 -- an answer whose error is named by its code
 abbrev pub coded : {A E : Type 0} → (E → Code) → Result A E → Result A Code

@@ -24,9 +24,13 @@ abbrev pub dhcp_answer : HardwareAddress → Result (Unit {0}) Code
 dhcp_answer (Hardware.Ethernet hardware_addr) = Ok tt
 dhcp_answer Hardware.Ip = Err Is.Medium
 
-abbrev pub dhcp_made : HardwareAddress → ℕ → Option DhcpValue → Option DhcpValue
-dhcp_made (Hardware.Ethernet hardware_addr) seed client = Some (Dhcp.made hardware_addr seed)
-dhcp_made Hardware.Ip seed client = client
+-- it waits a second between two messages where the host keeps the requirements
+abbrev pub under : Bool → DhcpValue → DhcpValue
+under host_requirements v = Dhcp.with_settings v (record v.settings { host_requirements = host_requirements })
+
+abbrev pub dhcp_made : HardwareAddress → ℕ → Bool → Option DhcpValue → Option DhcpValue
+dhcp_made (Hardware.Ethernet hardware_addr) seed host_requirements client = Some (under host_requirements (Dhcp.made hardware_addr seed))
+dhcp_made Hardware.Ip seed host_requirements client = client
 
 -- WHAT COMES
 

@@ -29,9 +29,11 @@ of_start Start.NameTooLong = Is.NameTooLong
 abbrev pub of_result : GetQueryResultError → Code
 of_result Get.Pending = Is.QueryPending
 of_result Get.Failed = Is.QueryFailed
+of_result Get.Unanswered = Is.QueryUnanswered
 
-abbrev pub query_made : List IpAddress → Option DnsValue
-query_made servers = Some (Dns.made servers)
+-- it tells what no server answered where the host keeps the requirements
+abbrev pub query_made : List IpAddress → Bool → Option DnsValue
+query_made servers host_requirements = Some (Dns.with_host_requirements (Dns.made servers) host_requirements)
 
 -- ASKING
 

@@ -62,8 +62,10 @@ pub enum Code {
     NameTooLong,
     /// A label of the name has no bytes, or more than 63, or the name is no text.
     InvalidName,
-    /// No server gave an address, or nothing was asked.
+    /// The name has no address, or nothing was asked. Of a host that does without the requirements also: no server answered.
     QueryFailed,
+    /// No server answered the query: each refused, failed, cut its answer short, or was silent.
+    QueryUnanswered,
 }
 
 impl Code {
@@ -99,6 +101,7 @@ impl Code {
             Code::NameTooLong => 25,
             Code::InvalidName => 26,
             Code::QueryFailed => 27,
+            Code::QueryUnanswered => 28,
         }
     }
 }

@@ -22,10 +22,11 @@ impl Host {
     /// A client of DHCP for this hardware address, in place of one that there was. The seed is that of its random words.
     pub fn dhcp_new(&mut self, seed: u64) -> Result<(), Code>
         ensures answer { result ≡ dhcp_answer self.old.host.inner.hardware }
-        ensures after { self.new ≡ record self.old { dhcp = dhcp_made self.old.host.inner.hardware seed self.old.dhcp } }
+        ensures after { self.new ≡ record self.old { dhcp = dhcp_made self.old.host.inner.hardware seed self.old.host.inner.host_requirements self.old.dhcp } }
     {
         let hardware = self.interface().hardware_addr();
-        leases::begin(self.leases(), hardware, seed)
+        let host_requirements = self.interface().host_requirements();
+        leases::begin(self.leases(), hardware, seed, host_requirements)
     }
 
     /// A datagram that a socket received at the clients' port.
@@ -74,9 +75,10 @@ impl Host {
 
     /// A client of DNS that asks these servers, in place of one that there was.
     pub fn dns_new(&mut self, servers: &[IpAddress])
-        ensures { self.new ≡ record self.old { dns = query_made servers.now } }
+        ensures { self.new ≡ record self.old { dns = query_made servers.now self.old.host.inner.host_requirements } }
     {
-        names::begin(self.names(), servers);
+        let host_requirements = self.interface().host_requirements();
+        names::begin(self.names(), servers, host_requirements);
     }
 
     /// Asks for the addresses of a name, which is a text with dots between its labels. A query that is begun draws two random words.

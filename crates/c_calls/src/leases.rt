@@ -13,14 +13,21 @@ use sockets::{Context, PollAt};
 /// The port of clients of DHCP.
 const DHCP_PORT: u16 = 68;
 
-/// A client for a hardware address, in place of one that there was.
-pub fn begin(client: &mut Option<Socket>, hardware: HardwareAddress, seed: u64) -> Result<(), Code>
+/// A client for a hardware address, in place of one that there was, with or without the host requirements.
+pub fn begin(
+    client: &mut Option<Socket>,
+    hardware: HardwareAddress,
+    seed: u64,
+    host_requirements: bool,
+) -> Result<(), Code>
     ensures answer { result ≡ dhcp_answer hardware }
-    ensures after { client.new ≡ dhcp_made hardware seed client.old }
+    ensures after { client.new ≡ dhcp_made hardware seed host_requirements client.old }
 {
     match hardware {
         HardwareAddress::Ethernet(hardware_addr) => {
-            *client = Some(Socket::new(hardware_addr, seed));
+            let mut made = Socket::new(hardware_addr, seed);
+            made.set_host_requirements(host_requirements);
+            *client = Some(made);
             Ok(())
         }
         HardwareAddress::Ip => Err(Code::Medium),

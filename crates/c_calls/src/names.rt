@@ -29,14 +29,17 @@ fn of_result(error: GetQueryResultError) -> Code
     match error {
         GetQueryResultError::Pending => Code::QueryPending,
         GetQueryResultError::Failed => Code::QueryFailed,
+        GetQueryResultError::Unanswered => Code::QueryUnanswered,
     }
 }
 
-/// A client that asks these servers, in place of one that there was.
-pub fn begin(client: &mut Option<Socket>, servers: &[IpAddress])
-    ensures { client.new ≡ query_made servers.now }
+/// A client that asks these servers, in place of one that there was, with or without the host requirements.
+pub fn begin(client: &mut Option<Socket>, servers: &[IpAddress], host_requirements: bool)
+    ensures { client.new ≡ query_made servers.now host_requirements }
 {
-    *client = Some(Socket::new(servers));
+    let mut made = Socket::new(servers);
+    made.set_host_requirements(host_requirements);
+    *client = Some(made);
 }
 
 fn ask<C: Context>(

@@ -105,6 +105,7 @@ module _ (cx : ContextValue) (v v' : DnsValue) (answer : Answer.Offer) where
   dns_has (S.Pending q) is offers = dns_sends q is (DnsOffers.turn_of cx v q) offers
   dns_has (S.Completed found) is offers = rw (offers.0, offers.1) tt
   dns_has S.Failed is offers = rw (offers.0, offers.1) tt
+  dns_has S.Unanswered is offers = rw (offers.0, offers.1) tt
 
   pub dns_packet : DnsOffers.Offers cx v answer v' → HasPacket answer (Dnss.offered_packet v')
   dns_packet offers = dns_has v.state refl offers
@@ -134,6 +135,7 @@ module _ (cx : ContextValue) (v v' : DnsValue) (answer : Answer.Offer) where
       (same_server (Dnss.server_at v.servers q.server) q)
   same_turn (S.Completed found) = refl
   same_turn S.Failed = refl
+  same_turn S.Unanswered = refl
 
   dns_closed : (turn : DnsTurn.Turn) → DnsOffers.OffersAs turn cx v answer v' → DnsOffers.OffersAs turn cx (Dnss.unoffered v) answer v'
   dns_closed N.Wait offers = offers

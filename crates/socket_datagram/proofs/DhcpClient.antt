@@ -1,7 +1,9 @@
 -- The client of DHCP, lemmas.
+pub mod Apart
 pub mod Datagrams
 pub mod Ends
 pub mod Given
+pub mod Hosts
 pub mod Masks
 pub mod OneMessage
 pub mod Sent

@@ -3,6 +3,7 @@ pub mod Aliases
 pub mod Among
 pub mod Datagrams
 pub mod Decided
+pub mod Denied
 pub mod Found
 pub mod Given
 pub mod OneVerdict

@@ -128,7 +128,7 @@ fn sending(
 pub extern "C" fn zv_dhcp_new(alloc: Global, handle: &mut Handle, seed: u64) -> u32
     ensures answer { result ≡ answer_by handle.old.inside (λ host. dhcp_answer host.host.inner.hardware) }
     ensures after { handle.new.inside ≡
-        after_by handle.old.inside (λ host. record host { dhcp = dhcp_made host.host.inner.hardware seed host.dhcp }) }
+        after_by handle.old.inside (λ host. record host { dhcp = dhcp_made host.host.inner.hardware seed host.host.inner.host_requirements host.dhcp }) }
 {
     let Some(mut host) = handle.take(alloc) else {
         return NO_HOST;
@@ -244,7 +244,7 @@ fn begin_dns(
     second: Option<IpAddress>,
     third: Option<IpAddress>,
 )
-    ensures { host.new ≡ record host.old { dns = query_made (servers_of first second third) } }
+    ensures { host.new ≡ record host.old { dns = query_made (servers_of first second third) host.old.host.inner.host_requirements } }
 {
     match (first, second, third) {
         (Some(first), Some(second), Some(third)) => host.dns_new(&[first, second, third]),
@@ -266,7 +266,7 @@ pub extern "C" fn zv_dns_new(
     ensures answer { result ≡ checked_answer (optional_in first.now) (λ one. checked_answer (optional_in second.now) (λ two.
         checked_answer (optional_in third.now) (λ three. answer_by handle.old.inside (λ host. all_done)))) }
     ensures after { handle.new.inside ≡ checked (optional_in first.now) (λ one. checked (optional_in second.now) (λ two.
-        checked (optional_in third.now) (λ three. after_by handle.old.inside (λ host. record host { dns = query_made (servers_of one two three) }))
+        checked (optional_in third.now) (λ three. after_by handle.old.inside (λ host. record host { dns = query_made (servers_of one two three) host.host.inner.host_requirements }))
         handle.old.inside) handle.old.inside) handle.old.inside }
 {
     let first = match optional(first) {

@@ -56,6 +56,7 @@ fn tell(word: &str, micros: u64, first: &str, more: &str, client: &mut Socket) -
         "retries" => client.set_retry_config(retries(micros)),
         "longest" => client.set_max_lease_duration(Some(Duration::from_micros(micros))),
         "ignore" => client.set_ignore_naks(true),
+        "requirements" => client.set_host_requirements(true),
         "reset" => client.reset(),
         "sent" => client.settle(true),
         "unsent" => client.settle(false),

@@ -119,6 +119,7 @@ fn tell(word: &str, rest: &str, client: &mut Socket) -> bool {
             client.update_servers(&[server(number)]);
         }
         "servers" => client.update_servers(&[]),
+        "requirements" => client.set_host_requirements(true),
         _ => return false,
     }
     true

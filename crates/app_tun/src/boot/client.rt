@@ -54,6 +54,20 @@ fn bare(
     Ok(Interface::new(alloc, &config, drain, now)?)
 }
 
+/// A client of DHCP that keeps the requirements of a host on a network of many.
+fn leases(hardware_addr: EthernetAddress, seed: u64) -> dhcp::Socket {
+    let mut socket = dhcp::Socket::new(hardware_addr, seed);
+    socket.set_host_requirements(true);
+    socket
+}
+
+/// A client of DNS that does, without servers.
+fn names() -> dns::Socket {
+    let mut socket = dns::Socket::new(&[]);
+    socket.set_host_requirements(true);
+    socket
+}
+
 /// Adds a socket of each kind.
 fn add_all(
     alloc: Global,
@@ -62,8 +76,8 @@ fn add_all(
     sockets: &mut SocketSet<Socket>,
 ) -> Result<Handles> {
     Ok(Handles {
-        dhcp: add(sockets, dhcp::Socket::new(hardware_addr, seed))?,
-        dns: add(sockets, dns::Socket::new(&[]))?,
+        dhcp: add(sockets, leases(hardware_addr, seed))?,
+        dns: add(sockets, names())?,
         pings: add(sockets, pings(alloc, IDENT)?)?,
         stream: add(sockets, stream(alloc, page::ROOM)?)?,
     })

@@ -146,6 +146,7 @@ fn tell<R: Eprint>(
     match &found {
         Err(GetQueryResultError::Pending) => return Ok(()),
         Err(GetQueryResultError::Failed) => eprintln!(rt; "{now} {name} has no address")?,
+        Err(why) => eprintln!(rt; "{now} {name}: {why}")?,
         Ok(found) => {
             for address in found.iter().flatten() {
                 eprintln!(rt; "{now} {name} is {address}")?;

@@ -87,6 +87,7 @@ module _ (j : InnerValue) where
       server (Some a) = ap (λ (source : IpAddress). (udp.src_port == 53) && (udp.dst_port == q.port) && is_same_address a source) (same_source h)
     asked_by (Dns.Completed found) h = refl
     asked_by Dns.Failed h = refl
+    asked_by Dns.Unanswered h = refl
 
     same_acceptance : (s : Socket) (h : IpRepr) → accepts_datagram cx s (as_read h) udp ≡ accepts_datagram cx s h udp
     same_acceptance (Kind.Udp v) (Ip.Ipv4 header) = refl

@@ -16,7 +16,7 @@ use Rattle.sockets.specs.Socket.{Offers, settled, accepts_datagram}
 use Rattle.socket_datagram.specs.Udp as Udps
 use Rattle.socket_datagram.specs.Udp.{UdpValue, UdpSettings}
 use Rattle.socket_datagram.specs.DhcpClient.Answers as DhcpAnswers
-use Rattle.socket_datagram.specs.DhcpClient.Leases.{is_usable, server_in, lease_in}
+use Rattle.socket_datagram.specs.DhcpClient.Leases.{is_leasable, server_in, lease_in}
 use Rattle.socket_datagram.specs.DhcpClient.Moments.{first_wait}
 use Rattle.socket_datagram.specs.DhcpClient.Offers as DhcpOffers
 use Rattle.socket_datagram.specs.DhcpClient.States as DhcpStates
@@ -84,9 +84,9 @@ module _ (now : ℤ) (v v' : DhcpValue) (source : Ipv4Address) (payload : List �
   before = Dhcps.unoffered v
 
   module _ (server : ServerInfo) where
-    chosen : SameSettings v (DhcpAnswers.chosen now server before takes.message)
+    chosen : SameSettings v (DhcpAnswers.chosen now server before takes.message takes.cidr)
     chosen =
-        either (is_usable takes.message.your_ip) v (record before {
+        either (is_leasable takes.message.your_ip takes.cidr) v (record before {
           state = S.Requesting (record {
             retry_at = now;
             wait = first_wait v.settings.retry.initial_request_timeout;
@@ -96,8 +96,8 @@ module _ (now : ℤ) (v v' : DhcpValue) (source : Ipv4Address) (payload : List �
           });
         }) before refl refl
 
-    offered : (state : ClientState) → SameSettings v (DhcpAnswers.offer_in now server before takes.message state)
-    offered S.Init = refl
+    offered : (state : ClientState) → SameSettings v (DhcpAnswers.offer_in now server before takes.message takes.cidr state)
+    offered (S.Init begins_at) = refl
     offered (S.Selecting s) = chosen
     offered (S.Requesting s) = refl
     offered (S.Bound lease) = refl
@@ -107,8 +107,8 @@ module _ (now : ℤ) (v v' : DhcpValue) (source : Ipv4Address) (payload : List �
     acknowledged : SameSettings v (DhcpAnswers.acknowledged now server before takes.message takes.cidr)
     acknowledged =
         either (DhcpStates.is_asked v.state server) v
-        (DhcpAnswers.bound_to before (lease_in now server takes.message takes.cidr v.settings.max_lease_duration)) before
-        (bound before (lease_in now server takes.message takes.cidr v.settings.max_lease_duration)) refl
+        (DhcpAnswers.bound_to before (lease_in now server takes.message takes.cidr v.settings.max_lease_duration (Dhcps.least_wait v.settings))) before
+        (bound before (lease_in now server takes.message takes.cidr v.settings.max_lease_duration (Dhcps.least_wait v.settings))) refl
 
     ends : SameSettings v (DhcpAnswers.refused server before)
     ends = either (DhcpStates.is_asked v.state server && not v.settings.ignore_naks) v (Dhcps.begun before) before refl refl
@@ -145,13 +145,18 @@ module _ (ports : UdpRepr) where
   asked_next now (Dns.Pending q) none = none
   asked_next now (Dns.Completed found) none = none
   asked_next now Dns.Failed none = none
+  asked_next now Dns.Unanswered none = none
 
-  next : (has : Bool) (now : ℤ) (state : State) → NoAnswer state → NoAnswer (if has then Dnss.ask_next now state else Dns.Failed)
-  next true now state none = asked_next now state none
-  next false now state none = refl
+  left : (told : Bool) → NoAnswer (Dnss.unanswered told)
+  left true = refl
+  left false = refl
+
+  next : (has told : Bool) (now : ℤ) (state : State) → NoAnswer state → NoAnswer (if has then Dnss.ask_next now state else Dnss.unanswered told)
+  next true told now state none = asked_next now state none
+  next false told now state none = left told
 
   turned : (now : ℤ) (v : DnsValue) → NoAnswer v.state → NoAnswer (Dnss.turned now v).state
-  turned now v none = next (Dnss.has_next v.servers v.state) now v.state none
+  turned now v none = next (Dnss.has_next v.servers v.state) v.host_requirements now v.state none
 
   dns_at : (a b : DnsValue) → b ≡ a → NoAnswer a.state → NoAnswer b.state
   dns_at a b is none = subst (λ (x : DnsValue). NoAnswer x.state) (sym is) none
@@ -184,12 +189,14 @@ module _ (ports : UdpRepr) where
     dns_turn (Dns.Pending q) is = by_instants q (int_lt cx.instant (due_at q)) (int_le q.next_at cx.instant) is
     dns_turn (Dns.Completed found) is = rests is
     dns_turn Dns.Failed is = rests is
+    dns_turn Dns.Unanswered is = rests is
 
   sent_by : (state : State) (o : Dnss.Open) → NoAnswer state → NoAnswer (Dnss.sent_by state o.sending)
   sent_by Dns.Idle o none = none
   sent_by (Dns.Pending q) o none = none
   sent_by (Dns.Completed found) o none = none
   sent_by Dns.Failed o none = none
+  sent_by Dns.Unanswered o none = none
 
   sent_in : (state : State) (o : Option Dnss.Open) → NoAnswer state → NoAnswer (Dnss.sent_state state o)
   sent_in state None none = none
@@ -328,6 +335,7 @@ module _ (Came : ChecksumCapabilities → IpRepr → List ℕ → Type 0) (at : 
     by (Some server) = and_left _ (is_same_address server (source_of header)) none
   no_query (Dns.Completed found) none = refl
   no_query Dns.Failed none = refl
+  no_query Dns.Unanswered none = refl
 
   module _ (cx : ContextValue) (same : cx.is_broadcast (destination_of header) ≡ at.is_broadcast (destination_of header)) where
     same_address : (o : Option IpAddress) → Udps.takes_address cx o (destination_of header) ≡ Udps.takes_address at o (destination_of header)

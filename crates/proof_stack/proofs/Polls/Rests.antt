@@ -93,8 +93,14 @@ module _ (cx : ContextValue) (v v' : DhcpValue) where
       (λ _. cond_both (int_lt now lease.rebind_at) (Does.Send (Renew lease)) (Does.Send (Rebind lease))
       (λ (t : Turn). Silent t → now <ℤ earlier lease.expires_at ask_at) (λ _ offers. sent (Renew lease) offers) (λ _ offers. sent (Rebind lease) offers)))
 
+  begin_rests : (now : ℤ) (begins_at : Option ℤ) → Silent (DhcpStates.turn_before now begins_at) → IsBefore now (DhcpStates.poll_before begins_at)
+  begin_rests now None offers = sent Discover offers
+  begin_rests now (Some begins_at) offers =
+      cond_both (int_lt now begins_at) Does.Wait (Does.Send Discover) (λ (t : Turn). Silent t → now <ℤ begins_at)
+      (λ soon _. to_come now begins_at soon) (λ _ asks. sent Discover asks) offers
+
   state_rests : (now : ℤ) (retries : ℕ) (state : ClientState) → Silent (DhcpStates.turn_of now retries state) → IsBefore now (DhcpStates.poll_of state)
-  state_rests now retries Client.Init offers = sent Discover offers
+  state_rests now retries (Client.Init begins_at) offers = begin_rests now begins_at offers
   state_rests now retries (Client.Selecting s) offers =
       cond_both (int_lt now s.retry_at) Does.Wait (Does.Send Discover) (λ (t : Turn). Silent t → now <ℤ s.retry_at)
       (λ soon _. to_come now s.retry_at soon) (λ _ asks. sent Discover asks) offers
@@ -105,7 +111,7 @@ module _ (cx : ContextValue) (v v' : DhcpValue) where
       (λ _. cond_both (nat_le retries s.retry) Does.GiveUp (Does.Send (Request s)) (λ (t : Turn). Silent t → now <ℤ s.retry_at)
       (λ _ asks. given_up asks) (λ _ asks. sent (Request s) asks)) offers
   state_rests now retries (Client.Bound lease) offers = with_rests now lease lease.refresh_at offers
-  state_rests now retries (Client.Renewing lease retry_at) offers = with_rests now lease (earlier retry_at lease.rebind_at) offers
+  state_rests now retries (Client.Renewing lease retry_at) offers = with_rests now lease retry_at offers
   state_rests now retries (Client.Rebinding lease retry_at) offers = with_rests now lease retry_at offers
 
   same_state : (turn : Turn) → Silent turn → v'.state ≡ v.state
@@ -157,6 +163,7 @@ module _ (cx : ContextValue) (v v' : DnsValue) where
   in_state (Names.Pending q) offers = query_rests q offers
   in_state (Names.Completed found) offers = tt
   in_state Names.Failed offers = tt
+  in_state Names.Unanswered offers = tt
 
   same_query : (turn : DnsTurn.Turn) → IsSilent turn → v'.state ≡ v.state
   same_query Asks.Wait offers = ap (λ (w : DnsValue). w.state) offers.1

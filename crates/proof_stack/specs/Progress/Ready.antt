@@ -32,6 +32,7 @@ may_answer ports Dns.Idle = false
 may_answer ports (Dns.Pending q) = (ports.src_port == 53) && (ports.dst_port == q.port)
 may_answer ports (Dns.Completed found) = false
 may_answer ports Dns.Failed = false
+may_answer ports Dns.Unanswered = false
 
 -- the socket is a DNS client with such a query
 abbrev pub waits_for : UdpRepr → Socket → Bool

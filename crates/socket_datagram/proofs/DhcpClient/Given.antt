@@ -15,10 +15,11 @@ use Rattle.wire_dhcp.specs.declared.message_type.DhcpMessageType.TheVariants.{Di
 use Rattle.wire_dhcp.specs.declared.repr.DhcpRepr.{DhcpRepr}
 use Rattle.socket_datagram.specs.DhcpClient.Answers.{is_answer, offer_in, bound_to, told_by, told_from, Takes, ProcessedFrom, Processed}
 use Rattle.socket_datagram.specs.DhcpClient.Laws.{IsAcknowledged, IsGiven}
-use Rattle.socket_datagram.specs.DhcpClient.Leases.{IsCidrIn, IsCidrOf, is_usable, server_of, server_in, lease_span, micros_of, spans_of, lease_with, lease_in}
+use Rattle.socket_datagram.specs.DhcpClient.Leases.{IsCidrIn, IsCidrOf, is_usable, is_leasable, server_of, server_in, lease_span, micros_of, spans_of, lease_with, lease_in}
 use Rattle.socket_datagram.specs.DhcpClient.Moments.{later, first_wait}
 use Rattle.socket_datagram.specs.DhcpClient.States.{lease_of, is_asked}
-use Rattle.socket_datagram.specs.DhcpClient.Value.{DhcpValue, accepts, begun, unoffered}
+use Rattle.socket_datagram.specs.DhcpClient.Value.{DhcpValue, accepts, begun, least_wait, unoffered}
+use Rattle.socket_datagram.proofs.DhcpClient.Hosts.{can_have}
 use Rattle.socket_datagram.specs.declared.dhcpv4.config.ServerInfo.{ServerInfo}
 use Rattle.socket_datagram.specs.declared.dhcpv4.lease.Lease.{Lease}
 use Rattle.socket_datagram.specs.declared.dhcpv4.state.ClientState.{ClientState}
@@ -27,29 +28,33 @@ use Rattle.socket_datagram.specs.declared.dhcpv4.state.ClientState.TheVariants a
 -- what a lease is that an acknowledgement gave
 record IsFrom (now : ℤ) (server : ServerInfo) (m : DhcpRepr) (cidr : Option Ipv4Cidr) (most : Option ℕ) (lease : Lease) : Type 0 where
   cidr_is : cidr ≡ Some lease.config.address
+  can_have : is_leasable m.your_ip cidr ≡ true
   server_is : server ≡ lease.config.server
   ends : lease.expires_at ≡ later now (lease_span m.lease_duration most)
 
-abbrev the_lease : ℤ → ServerInfo → DhcpRepr → Ipv4Cidr → Option ℕ → Lease
-the_lease now server m cidr most =
+abbrev the_lease : ℤ → ServerInfo → DhcpRepr → Ipv4Cidr → Option ℕ → ℕ → Lease
+the_lease now server m cidr most least =
     lease_with now server m cidr (lease_span m.lease_duration most)
-    (spans_of (lease_span m.lease_duration most) (micros_of m.renew_duration) (micros_of m.rebind_duration))
+    (spans_of (lease_span m.lease_duration most) (micros_of m.renew_duration) (micros_of m.rebind_duration)) least
 
-IsFrom-same : (now : ℤ) (server : ServerInfo) (m : DhcpRepr) (cidr : Ipv4Cidr) (most : Option ℕ) (lease : Lease) → the_lease now server m cidr most ≡ lease →
+IsFrom-same : (now : ℤ) (server : ServerInfo) (m : DhcpRepr) (cidr : Ipv4Cidr) (most : Option ℕ) (least : ℕ) (lease : Lease) →
+    is_leasable m.your_ip (Some cidr) ≡ true → the_lease now server m cidr most least ≡ lease →
     IsFrom now server m (Some cidr) most lease
-IsFrom-same now server m cidr most lease same = record {
+IsFrom-same now server m cidr most least lease can same = record {
+  can_have = can;
   cidr_is = ap (λ (l : Lease). Some l.config.address) same;
   server_is = ap (λ (l : Lease). l.config.server) same;
   ends = sym (ap (λ (l : Lease). l.expires_at) same);
 }
 
-IsFrom-lease : (now : ℤ) (server : ServerInfo) (m : DhcpRepr) (cidr : Option Ipv4Cidr) (most : Option ℕ) (lease : Lease) →
-    lease_in now server m cidr most ≡ Some lease → IsFrom now server m cidr most lease
-IsFrom-lease now server m None most lease e = absurd (cc)
-IsFrom-lease now server m (Some cidr) most lease e = by (is_usable m.your_ip) e where
-  by : (t : Bool) → (if t then Some (the_lease now server m cidr most) else None) ≡ Some lease → IsFrom now server m (Some cidr) most lease
-  by true e = IsFrom-same now server m cidr most lease (cc)
-  by false e = absurd (cc)
+IsFrom-lease : (now : ℤ) (server : ServerInfo) (m : DhcpRepr) (cidr : Option Ipv4Cidr) (most : Option ℕ) (least : ℕ) (lease : Lease) →
+    lease_in now server m cidr most least ≡ Some lease → IsFrom now server m cidr most lease
+IsFrom-lease now server m None most least lease e = absurd (cc)
+IsFrom-lease now server m (Some cidr) most least lease e = by (is_leasable m.your_ip (Some cidr)) refl e where
+  by : (t : Bool) → is_leasable m.your_ip (Some cidr) ≡ t → (if t then Some (the_lease now server m cidr most least) else None) ≡ Some lease →
+      IsFrom now server m (Some cidr) most lease
+  by true can e = IsFrom-same now server m cidr most least lease can (cc)
+  by false can e = absurd (cc)
 
 server_named : (source : Ipv4Address) (identifier : Option Ipv4Address) (server : ServerInfo) → server_of source identifier ≡ Some server →
     identifier ≡ Some server.identifier
@@ -94,14 +99,16 @@ acknowledges now v ip repr payload server m cidr lease a kind asked from =
       asked = subst (λ (s : ServerInfo). is_asked v.state s ≡ true) from.server_is asked;
       address = cidr_address m.your_ip m.subnet_mask lease.config.address network;
       network = network;
+      host = can_have m.your_ip lease.config.address (cidr_address m.your_ip m.subnet_mask lease.config.address network)
+          (subst (λ (b : Option Ipv4Cidr). is_leasable m.your_ip b ≡ true) from.cidr_is from.can_have);
       end = from.ends;
     }
 
 -- an offer
-offer_given : (now : ℤ) (v : DhcpValue) (server : ServerInfo) (m : DhcpRepr) (lease : Lease) (s : ClientState) → lease_of v.state ≡ lease_of s →
-    lease_of (offer_in now server (unoffered v) m s).state ≡ Some lease → lease_of v.state ≡ Some lease
-offer_given now v server m lease S.Init same is = is
-offer_given now v server m lease (S.Selecting x) same is = by (is_usable m.your_ip) is where
+offer_given : (now : ℤ) (v : DhcpValue) (server : ServerInfo) (m : DhcpRepr) (lease : Lease) (cidr : Option Ipv4Cidr) (s : ClientState) → lease_of v.state ≡ lease_of s →
+    lease_of (offer_in now server (unoffered v) m cidr s).state ≡ Some lease → lease_of v.state ≡ Some lease
+offer_given now v server m lease cidr (S.Init begins_at) same is = is
+offer_given now v server m lease cidr (S.Selecting x) same is = by (is_leasable m.your_ip cidr) is where
   by : (t : Bool) → lease_of (if t then record (unoffered v) {
     state = S.Requesting (record {
       retry_at = now;
@@ -113,29 +120,30 @@ offer_given now v server m lease (S.Selecting x) same is = by (is_usable m.your_
   } else unoffered v).state ≡ Some lease → lease_of v.state ≡ Some lease
   by true is = absurd (cc)
   by false is = is
-offer_given now v server m lease (S.Requesting x) same is = is
-offer_given now v server m lease (S.Bound l) same is = is
-offer_given now v server m lease (S.Renewing l retry_at) same is = is
-offer_given now v server m lease (S.Rebinding l retry_at) same is = is
+offer_given now v server m lease cidr (S.Requesting x) same is = is
+offer_given now v server m lease cidr (S.Bound l) same is = is
+offer_given now v server m lease cidr (S.Renewing l retry_at) same is = is
+offer_given now v server m lease cidr (S.Rebinding l retry_at) same is = is
 
 -- an acknowledgement
 bound_given : (now : ℤ) (v : DhcpValue) (ip : IpRepr) (repr : UdpRepr) (payload : List ℕ) (server : ServerInfo) (m : DhcpRepr) (cidr : Option Ipv4Cidr)
     (lease : Lease) (given : Option Lease)
     → Answers now v ip repr payload server m cidr → m.message_type ≡ Ack → is_asked v.state server ≡ true →
-    lease_in now server m cidr v.settings.max_lease_duration ≡ given
+    lease_in now server m cidr v.settings.max_lease_duration (least_wait v.settings) ≡ given
     → lease_of (bound_to (unoffered v) given).state ≡ Some lease → IsEither now v ip repr payload lease
 bound_given now v ip repr payload server m cidr lease None a kind asked e is = inl is
 bound_given now v ip repr payload server m cidr lease (Some given) a kind asked e is =
-    let from = IsFrom-lease now server m cidr v.settings.max_lease_duration lease (e ∙ is) in
+    let from = IsFrom-lease now server m cidr v.settings.max_lease_duration (least_wait v.settings) lease (e ∙ is) in
     inr (acknowledges now v ip repr payload server m cidr lease a kind asked from)
 
 ack_given : (now : ℤ) (v : DhcpValue) (ip : IpRepr) (repr : UdpRepr) (payload : List ℕ) (server : ServerInfo) (m : DhcpRepr) (cidr : Option Ipv4Cidr)
     (lease : Lease) (t : Bool)
     → Answers now v ip repr payload server m cidr → m.message_type ≡ Ack → is_asked v.state server ≡ t
-    → lease_of (if t then bound_to (unoffered v) (lease_in now server m cidr v.settings.max_lease_duration) else unoffered v).state ≡ Some lease →
+    → lease_of (if t
+    then bound_to (unoffered v) (lease_in now server m cidr v.settings.max_lease_duration (least_wait v.settings)) else unoffered v).state ≡ Some lease →
     IsEither now v ip repr payload lease
 ack_given now v ip repr payload server m cidr lease true a kind asked is =
-    bound_given now v ip repr payload server m cidr lease (lease_in now server m cidr v.settings.max_lease_duration) a kind asked refl is
+    bound_given now v ip repr payload server m cidr lease (lease_in now server m cidr v.settings.max_lease_duration (least_wait v.settings)) a kind asked refl is
 ack_given now v ip repr payload server m cidr lease false a kind asked is = inl is
 
 -- a refusal
@@ -149,7 +157,7 @@ type_given : (now : ℤ) (v : DhcpValue) (ip : IpRepr) (repr : UdpRepr) (payload
     → Answers now v ip repr payload server m cidr → m.message_type ≡ t → lease_of (told_by t now server (unoffered v) m cidr).state ≡ Some lease →
     IsEither now v ip repr payload lease
 type_given now v ip repr payload server m cidr lease Discover a kind is = inl is
-type_given now v ip repr payload server m cidr lease Offer a kind is = inl (offer_given now v server m lease v.state refl is)
+type_given now v ip repr payload server m cidr lease Offer a kind is = inl (offer_given now v server m lease cidr v.state refl is)
 type_given now v ip repr payload server m cidr lease Request a kind is = inl is
 type_given now v ip repr payload server m cidr lease Decline a kind is = inl is
 type_given now v ip repr payload server m cidr lease Ack a kind is =

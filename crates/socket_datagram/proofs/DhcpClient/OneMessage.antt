@@ -20,10 +20,10 @@ use Rattle.wire_dhcp.specs.declared.repr.DhcpRepr.{DhcpRepr}
 use Rattle.socket_datagram.proofs.DhcpClient.Masks.{one_cidr, one_mask}
 use Rattle.socket_datagram.specs.DhcpClient.Answers.{is_answer, offer_in, bound_to, acknowledged, told_by, told_from, told, ProcessedFrom, Processed}
 use Rattle.socket_datagram.specs.DhcpClient.Leases.{IsCidrIn, IsCidrOf, server_in, lease_in}
-use Rattle.socket_datagram.specs.DhcpClient.Offers.{Offers, OffersAs, Sends, id_of, next_of}
+use Rattle.socket_datagram.specs.DhcpClient.Offers.{Offers, OffersAs, Sends, id_of, next_of, restart_of}
 use Rattle.socket_datagram.specs.DhcpClient.Requests.{IsRequest, header_for}
 use Rattle.socket_datagram.specs.DhcpClient.States.{turn_of, is_asked}
-use Rattle.socket_datagram.specs.DhcpClient.Value.{DhcpValue, accepts, unoffered, ports_of}
+use Rattle.socket_datagram.specs.DhcpClient.Value.{DhcpValue, accepts, least_wait, unoffered, ports_of}
 use Rattle.socket_datagram.specs.declared.dhcpv4.config.ServerInfo.{ServerInfo}
 use Rattle.socket_datagram.specs.declared.dhcpv4.lease.Lease.{Lease}
 use Rattle.socket_datagram.specs.declared.dhcpv4.request.Kind.{Kind}
@@ -158,22 +158,23 @@ one_network address (Some mask) (Some a) (Some b) one other =
 
 -- what a message does isn't by what it borrows
 module _ (now : ℤ) (v : DhcpValue) (m n : DhcpRepr) (cidr : Option Ipv4Cidr) where
-  alike_offer : (server : ServerInfo) (state : ClientState) → offer_in now server v m state ≡ offer_in now server v (borrowing m n) state
-  alike_offer server S.Init = refl
+  alike_offer : (server : ServerInfo) (state : ClientState) → offer_in now server v m cidr state ≡ offer_in now server v (borrowing m n) cidr state
+  alike_offer server (S.Init begins_at) = refl
   alike_offer server (S.Selecting s) = refl
   alike_offer server (S.Requesting s) = refl
   alike_offer server (S.Bound lease) = refl
   alike_offer server (S.Renewing lease retry_at) = refl
   alike_offer server (S.Rebinding lease retry_at) = refl
 
-  alike_lease : (server : ServerInfo) (b : Option Ipv4Cidr) (most : Option ℕ) → lease_in now server m b most ≡ lease_in now server (borrowing m n) b most
-  alike_lease server None most = refl
-  alike_lease server (Some b) most = refl
+  alike_lease : (server : ServerInfo) (b : Option Ipv4Cidr) (most : Option ℕ) (least : ℕ) → lease_in now server m b most least ≡
+      lease_in now server (borrowing m n) b most least
+  alike_lease server None most least = refl
+  alike_lease server (Some b) most least = refl
 
   alike_by : (type : DhcpMessageType) (server : ServerInfo) → told_by type now server v m cidr ≡ told_by type now server v (borrowing m n) cidr
   alike_by Of.Offer server = alike_offer server v.state
   alike_by Of.Ack server =
-      ap (λ (lease : Option Lease). if is_asked v.state server then bound_to v lease else v) (alike_lease server cidr v.settings.max_lease_duration)
+      ap (λ (lease : Option Lease). if is_asked v.state server then bound_to v lease else v) (alike_lease server cidr v.settings.max_lease_duration (least_wait v.settings))
   alike_by Of.Nak server = refl
   alike_by Of.Discover server = refl
   alike_by Of.Request server = refl
@@ -250,6 +251,7 @@ offering now v kind bytes = record v {
     packet = packet_of (header_for kind (length bytes)) (Datagram (ports_of v.settings) bytes);
     transaction_id = id_of v kind;
     next = next_of now v kind;
+    restart_at = restart_of now v;
   });
 }
 

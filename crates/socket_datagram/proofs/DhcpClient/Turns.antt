@@ -1,5 +1,5 @@
 -- What the client does before its due instant, and what becomes of a lease by what it offers.
-use Rattle.std.proofs.Common.{◌≡◌, ℕ, Bool, true, false, if◌then◌else◌, ℤ, ◌<ℤ◌, ◌≤ℤ◌, int_lt, int_le, Some, None, refl, sym, ap, ◌∙◌, subst, arith}
+use Rattle.std.proofs.Common.{◌≡◌, ℕ, Bool, true, false, if◌then◌else◌, ℤ, ◌<ℤ◌, ◌≤ℤ◌, int_lt, int_le, Option, Some, None, refl, sym, ap, ◌∙◌, subst, arith}
 use Rattle.std.specs.Prelude.{nat_le}
 use Rattle.socket_context.specs.Context.{ContextValue}
 use Rattle.socket_context.specs.Offers.{IsBefore}
@@ -8,7 +8,7 @@ use Rattle.socket_context.specs.declared.offer.Offer.TheVariants as Answer
 use Rattle.socket_datagram.specs.DhcpClient.Laws.{IsKept}
 use Rattle.socket_datagram.specs.DhcpClient.Moments.{earlier}
 use Rattle.socket_datagram.specs.DhcpClient.Offers.{Offers, OffersAs, next_of}
-use Rattle.socket_datagram.specs.DhcpClient.States.{lease_of, turn_of, turn_with, poll_of}
+use Rattle.socket_datagram.specs.DhcpClient.States.{lease_of, turn_before, turn_of, turn_with, poll_before, poll_of}
 use Rattle.socket_datagram.specs.DhcpClient.Value.{DhcpValue, begun, settled, sent_from}
 use Rattle.socket_datagram.specs.declared.dhcpv4.lease.Lease.{Lease}
 use Rattle.socket_datagram.specs.declared.dhcpv4.request.Kind.{Kind}
@@ -43,12 +43,16 @@ with_waits now lease ask_at h =
     ap (λ t. chosen t (int_lt now ask_at) (int_lt now lease.rebind_at) lease) (not_over now lease.expires_at both.0)
     ∙ ap (λ t. chosen false t (int_lt now lease.rebind_at) lease) (soon now ask_at both.1)
 
+before_waits : (now : ℤ) (begins_at : Option ℤ) → IsBefore now (poll_before begins_at) → turn_before now begins_at ≡ Wait
+before_waits now None h = absurd h
+before_waits now (Some begins_at) h = ap (λ (t : Bool). if t then Wait else Send Discover) (soon now begins_at h)
+
 waits : (now : ℤ) (retries : ℕ) (s : ClientState) → IsBefore now (poll_of s) → turn_of now retries s ≡ Wait
-waits now retries Init h = absurd h
+waits now retries (Init begins_at) h = before_waits now begins_at h
 waits now retries (Selecting s) h = ap (λ (t : Bool). if t then Wait else Send Discover) (soon now s.retry_at h)
 waits now retries (Requesting s) h = ap (λ (t : Bool). if t then Wait else if nat_le retries s.retry then GiveUp else Send (Request s)) (soon now s.retry_at h)
 waits now retries (Bound lease) h = with_waits now lease lease.refresh_at h
-waits now retries (Renewing lease retry_at) h = with_waits now lease (earlier retry_at lease.rebind_at) h
+waits now retries (Renewing lease retry_at) h = with_waits now lease retry_at h
 waits now retries (Rebinding lease retry_at) h = with_waits now lease retry_at h
 
 pub silent : (cx : ContextValue) (v v' : DhcpValue) (answer : Offer) → IsBefore cx.instant (poll_of v.state) → Offers cx v answer v' →
@@ -64,11 +68,11 @@ same_end : (now : ℤ) (lease other : Lease) → lease ≡ other → other.expir
 same_end now lease other same h = subst (λ (l : Lease). l.expires_at ≤ℤ now) (sym same) h
 
 given_up : (now : ℤ) (retries : ℕ) (s : ClientState) (lease : Lease) → lease_of s ≡ Some lease → lease.expires_at ≤ℤ now → turn_of now retries s ≡ GiveUp
-given_up now retries Init lease has h = absurd (cc)
+given_up now retries (Init begins_at) lease has h = absurd (cc)
 given_up now retries (Selecting s) lease has h = absurd (cc)
 given_up now retries (Requesting s) lease has h = absurd (cc)
 given_up now retries (Bound l) lease has h = with_over now l l.refresh_at (same_end now l lease (cc) h)
-given_up now retries (Renewing l retry_at) lease has h = with_over now l (earlier retry_at l.rebind_at) (same_end now l lease (cc) h)
+given_up now retries (Renewing l retry_at) lease has h = with_over now l retry_at (same_end now l lease (cc) h)
 given_up now retries (Rebinding l retry_at) lease has h = with_over now l retry_at (same_end now l lease (cc) h)
 
 pub offers_end : (cx : ContextValue) (v v' : DhcpValue) (answer : Offer) (lease : Lease) → lease_of v.state ≡ Some lease → lease.expires_at ≤ℤ cx.instant →
@@ -104,9 +108,13 @@ discover_kept : (now : ℤ) (v : DhcpValue) (early : Bool) (kind : Kind) → (if
 discover_kept now v true kind e = absurd (cc)
 discover_kept now v false kind e = let same : Discover ≡ kind = (cc) in subst (λ (k : Kind). lease_of (next_of now v k) ≡ None) same refl
 
+before_kept : (now : ℤ) (v : DhcpValue) (begins_at : Option ℤ) (kind : Kind) → turn_before now begins_at ≡ Send kind → lease_of (next_of now v kind) ≡ None
+before_kept now v None kind e = discover_kept now v false kind e
+before_kept now v (Some begins_at) kind e = discover_kept now v (int_lt now begins_at) kind e
+
 turn_kept : (now : ℤ) (retries : ℕ) (v : DhcpValue) (s : ClientState) (kind : Kind) → turn_of now retries s ≡ Send kind →
     lease_of (next_of now v kind) ≡ lease_of s
-turn_kept now retries v Init kind e = discover_kept now v false kind e
+turn_kept now retries v (Init begins_at) kind e = before_kept now v begins_at kind e
 turn_kept now retries v (Selecting s) kind e = discover_kept now v (int_lt now s.retry_at) kind e
 turn_kept now retries v (Requesting s) kind e = by (int_lt now s.retry_at) (nat_le retries s.retry) e where
   by : (early spent : Bool) → (if early then Wait else if spent then GiveUp else Send (Request s)) ≡ Send kind → lease_of (next_of now v kind) ≡ None
@@ -116,7 +124,7 @@ turn_kept now retries v (Requesting s) kind e = by (int_lt now s.retry_at) (nat_
 turn_kept now retries v (Bound lease) kind e =
     chosen_kept now v (int_le lease.expires_at now) (int_lt now lease.refresh_at) (int_lt now lease.rebind_at) lease kind e
 turn_kept now retries v (Renewing lease retry_at) kind e =
-    chosen_kept now v (int_le lease.expires_at now) (int_lt now (earlier retry_at lease.rebind_at)) (int_lt now lease.rebind_at) lease kind e
+    chosen_kept now v (int_le lease.expires_at now) (int_lt now retry_at) (int_lt now lease.rebind_at) lease kind e
 turn_kept now retries v (Rebinding lease retry_at) kind e =
     chosen_kept now v (int_le lease.expires_at now) (int_lt now retry_at) (int_lt now lease.rebind_at) lease kind e
 

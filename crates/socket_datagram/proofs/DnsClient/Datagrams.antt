@@ -65,6 +65,7 @@ turns_in S.Idle cx v = tt
 turns_in (S.Pending q) cx v = turns cx v q
 turns_in (S.Completed found) cx v = tt
 turns_in S.Failed cx v = tt
+turns_in S.Unanswered cx v = tt
 
 none_some : (p : PacketValue) → (let o : Option PacketValue = None in o) ≡ Some p → ⊥
 none_some p is = cc
@@ -79,6 +80,7 @@ by_state (S.Pending q) message s p named is =
     subst IsDatagram (some_same _ p is) (record { udp = _; bytes = _; carries = refl; protocol = named })
 by_state (S.Completed found) message s p named is = absurd (none_some p is)
 by_state S.Failed message s p named is = absurd (none_some p is)
+by_state S.Unanswered message s p named is = absurd (none_some p is)
 
 by_turn : (turn : Turn) (cx : ContextValue) (v v' : DnsValue) (answer : Offer) (p : PacketValue) → NamesUdp turn → OffersAs turn cx v answer v' →
     offered_packet v' ≡ Some p → IsDatagram p

@@ -23,12 +23,13 @@ use Rattle.socket_datagram.specs.DnsClient.Laws.{IsAlias, IsChain, HoldsAddress,
 use Rattle.socket_datagram.specs.DnsClient.Processed.{is_from, is_for, accepts, judged, ProcessedIf, Processed}
 use Rattle.socket_datagram.specs.DnsClient.Records.{is_same_name, alias_of, alias_by, alias_in, or_else, LeadsTo, address_of, address_by, addresses_of, put_address, padded}
 use Rattle.socket_datagram.specs.DnsClient.Replies.{IsAnswer, IsJudgedBy, IsVerdict, IsVerdictIn}
-use Rattle.socket_datagram.specs.DnsClient.Value.{DnsValue, unoffered, has_next, ask_next, next_state}
+use Rattle.socket_datagram.specs.DnsClient.Value.{DnsValue, unoffered, has_next, ask_next, unanswered, next_state}
 use Rattle.socket_datagram.specs.declared.dns.answer.Verdict.{Verdict}
 use Rattle.socket_datagram.specs.declared.dns.answer.Verdict.TheVariants as V
 use Rattle.socket_datagram.specs.declared.dns.query.Query.{Query}
 use Rattle.socket_datagram.specs.declared.dns.state.State.{State}
 use Rattle.socket_datagram.specs.declared.dns.state.State.TheVariants as S
+use Rattle.socket_datagram.proofs.DnsClient.Turned.{none-left}
 use Rattle.socket_datagram.proofs.DnsClient.Among.{here, there, nothing, first_or_rest}
 
 -- CHAINS.
@@ -204,13 +205,14 @@ asked-none now S.Idle q found pending e = absurd (cc)
 asked-none now (S.Pending p) q found pending e = absurd (cc)
 asked-none now (S.Completed f) q found pending e = absurd (cc)
 asked-none now S.Failed q found pending e = absurd (cc)
+asked-none now S.Unanswered q found pending e = absurd (cc)
 
-turned-none : (now : ℤ) (servers : List (Option IpAddress)) (state : State) (q : Query) (found : List (Option IpAddress)) → state ≡ S.Pending q →
-    next_state now servers state ≡ S.Completed found → ⊥
-turned-none now servers state q found pending e = by (has_next servers state) e where
-  by : (t : Bool) → (if t then ask_next now state else S.Failed) ≡ S.Completed found → ⊥
+turned-none : (now : ℤ) (servers : List (Option IpAddress)) (told : Bool) (state : State) (q : Query) (found : List (Option IpAddress)) → state ≡ S.Pending q →
+    next_state now servers told state ≡ S.Completed found → ⊥
+turned-none now servers told state q found pending e = by (has_next servers state) e where
+  by : (t : Bool) → (if t then ask_next now state else unanswered told) ≡ S.Completed found → ⊥
   by true e = asked-none now state q found pending e
-  by false e = absurd (cc)
+  by false e = none-left told found e
 
 verdict-given : (now : ℤ) (v : DnsValue) (ip : IpRepr) (repr : UdpRepr) (payload : List ℕ) (q : Query) (verdict : Verdict) (found : List (Option IpAddress)) →
     v.state ≡ S.Pending q → From q ip repr → IsVerdict q payload verdict
@@ -220,7 +222,7 @@ verdict-given now v ip repr payload q (V.Found these) found pending f is e =
     let same : these ≡ found = (cc) in
     answered v ip repr payload q found pending f (subst (λ (l : List (Option IpAddress)). IsVerdict q payload (V.Found l)) same is)
 verdict-given now v ip repr payload q V.Missing found pending f is e = absurd (cc)
-verdict-given now v ip repr payload q V.Refused found pending f is e = absurd (turned-none now v.servers v.state q found pending e)
+verdict-given now v ip repr payload q V.Refused found pending f is e = absurd (turned-none now v.servers v.host_requirements v.state q found pending e)
 
 kept-given : (v v' : DnsValue) (ip : IpRepr) (repr : UdpRepr) (payload : List ℕ) → v' ≡ unoffered v → AreGiven v ip repr payload v'
 kept-given v v' ip repr payload same = λ found is. inl (sym (ap (λ (w : DnsValue). w.state) same) ∙ is)
@@ -234,6 +236,7 @@ in-given now v ip repr payload verdict found (S.Pending q) is accepted read e =
     verdict-given now v ip repr payload q verdict found is (from q ip repr accepted) read e
 in-given now v ip repr payload verdict found (S.Completed f) is accepted read e = absurd (cc)
 in-given now v ip repr payload verdict found S.Failed is accepted read e = absurd (cc)
+in-given now v ip repr payload verdict found S.Unanswered is accepted read e = absurd (cc)
 
 if-given : (now : ℤ) (v v' : DnsValue) (ip : IpRepr) (repr : UdpRepr) (payload : List ℕ) (t : Bool) → accepts v.state ip repr ≡ t →
     ProcessedIf t now v payload v' → AreGiven v ip repr payload v'

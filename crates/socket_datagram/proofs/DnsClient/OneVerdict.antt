@@ -206,6 +206,7 @@ one_verdict_in S.Idle message v w one other = one ∙ sym other
 one_verdict_in (S.Pending q) message v w one other = one_verdict q message v w one other
 one_verdict_in (S.Completed found) message v w one other = one ∙ sym other
 one_verdict_in S.Failed message v w one other = one ∙ sym other
+one_verdict_in S.Unanswered message v w one other = one ∙ sym other
 
 -- DATAGRAMS
 

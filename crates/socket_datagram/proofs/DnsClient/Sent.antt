@@ -65,3 +65,4 @@ sendable cx v S.Idle sending is short = tt
 sendable cx v (S.Pending q) sending is short = subst (λ (t : Turn). IsSent q v.message t) is (turns cx v q short)
 sendable cx v (S.Completed found) sending is short = tt
 sendable cx v S.Failed sending is short = tt
+sendable cx v S.Unanswered sending is short = tt

@@ -7,7 +7,7 @@ use Rattle.socket_context.specs.declared.offer.Offer.{Offer}
 use Rattle.socket_context.specs.declared.offer.Offer.TheVariants as Answer
 use Rattle.socket_datagram.specs.DnsClient.Offers.{Offers, OffersAs, turn_in, sent_to}
 use Rattle.socket_datagram.specs.DnsClient.Turns.{poll_of, due_at}
-use Rattle.socket_datagram.specs.DnsClient.Value.{DnsValue, Open, settled, sent_by, sent_state, server_at, has_next, ask_next, next_state}
+use Rattle.socket_datagram.specs.DnsClient.Value.{DnsValue, Open, settled, sent_by, sent_state, server_at, has_next, ask_next, unanswered, next_state}
 use Rattle.socket_datagram.specs.declared.dns.query.Query.{Query}
 use Rattle.socket_datagram.specs.declared.dns.query.Sending.{Sending}
 use Rattle.socket_datagram.specs.declared.dns.state.State.{State}
@@ -26,6 +26,7 @@ waits cx v S.Idle h = refl
 waits cx v (S.Pending q) h = ap (λ t. turn_where t cx v q) (soon cx.instant (due_at q) h)
 waits cx v (S.Completed found) h = refl
 waits cx v S.Failed h = refl
+waits cx v S.Unanswered h = refl
 
 pub silent : (cx : ContextValue) (v v' : DnsValue) (answer : Offer) → IsBefore cx.instant (poll_of v.state) → Offers cx v answer v' →
     (answer ≡ Answer.Silent false) × (v' ≡ settled false v)
@@ -37,18 +38,24 @@ asked-kept now S.Idle found e = e
 asked-kept now (S.Pending q) found e = absurd (cc)
 asked-kept now (S.Completed f) found e = e
 asked-kept now S.Failed found e = e
+asked-kept now S.Unanswered found e = e
 
-next-kept : (now : ℤ) (servers : List (Option IpAddress)) (s : State) (found : List (Option IpAddress)) → next_state now servers s ≡ S.Completed found →
-    s ≡ S.Completed found
-next-kept now servers s found e = by (has_next servers s) e where
-  by : (t : Bool) → (if t then ask_next now s else S.Failed) ≡ S.Completed found → s ≡ S.Completed found
+-- nor of what is left where there is none
+pub none-left : (told : Bool) (found : List (Option IpAddress)) → unanswered told ≡ S.Completed found → ⊥
+none-left true found e = cc
+none-left false found e = cc
+
+next-kept : (now : ℤ) (servers : List (Option IpAddress)) (told : Bool) (s : State) (found : List (Option IpAddress)) →
+    next_state now servers told s ≡ S.Completed found → s ≡ S.Completed found
+next-kept now servers told s found e = by (has_next servers s) e where
+  by : (t : Bool) → (if t then ask_next now s else unanswered told) ≡ S.Completed found → s ≡ S.Completed found
   by true e = asked-kept now s found e
-  by false e = absurd (cc)
+  by false e = absurd (none-left told found e)
 
 as-kept : (cx : ContextValue) (v v' : DnsValue) (answer : Offer) (found : List (Option IpAddress)) (t : Turn) → OffersAs t cx v answer v' →
     v'.state ≡ S.Completed found → v.state ≡ S.Completed found
 as-kept cx v v' answer found Wait offers is = sym (ap (λ (w : DnsValue). w.state) offers.1) ∙ is
-as-kept cx v v' answer found Next offers is = next-kept cx.instant v.servers v.state found (sym (ap (λ (w : DnsValue). w.state) offers.1) ∙ is)
+as-kept cx v v' answer found Next offers is = next-kept cx.instant v.servers v.host_requirements v.state found (sym (ap (λ (w : DnsValue). w.state) offers.1) ∙ is)
 as-kept cx v v' answer found (Send s) offers is = sym (ap (λ (w : DnsValue). w.state) offers.1) ∙ is
 
 pub offers_kept : (cx : ContextValue) (v v' : DnsValue) (answer : Offer) (found : List (Option IpAddress)) → Offers cx v answer v' →
@@ -60,6 +67,7 @@ sent_by-kept S.Idle sending found e = e
 sent_by-kept (S.Pending q) sending found e = absurd (cc)
 sent_by-kept (S.Completed f) sending found e = e
 sent_by-kept S.Failed sending found e = e
+sent_by-kept S.Unanswered sending found e = e
 
 sent-kept : (s : State) (o : Option Open) (found : List (Option IpAddress)) → sent_state s o ≡ S.Completed found → s ≡ S.Completed found
 sent-kept s None found e = e

@@ -10,10 +10,10 @@ use Rattle.wire_dhcp.specs.Dhcp.{IsDhcp, IsMessage}
 use Rattle.wire_dhcp.specs.declared.message_type.DhcpMessageType.{DhcpMessageType}
 use Rattle.wire_dhcp.specs.declared.message_type.DhcpMessageType.TheVariants.{Discover, Offer, Request, Decline, Ack, Nak, Release, Inform}
 use Rattle.wire_dhcp.specs.declared.repr.DhcpRepr.{DhcpRepr}
-use Rattle.socket_datagram.specs.DhcpClient.Leases.{IsCidrOf, is_usable, server_in, lease_in}
+use Rattle.socket_datagram.specs.DhcpClient.Leases.{IsCidrOf, is_leasable, server_in, lease_in}
 use Rattle.socket_datagram.specs.DhcpClient.Moments.{first_wait}
 use Rattle.socket_datagram.specs.DhcpClient.States.{is_asked}
-use Rattle.socket_datagram.specs.DhcpClient.Value.{DhcpValue, accepts, begun, unoffered}
+use Rattle.socket_datagram.specs.DhcpClient.Value.{DhcpValue, accepts, begun, least_wait, unoffered}
 use Rattle.socket_datagram.specs.declared.dhcpv4.config.ServerInfo.{ServerInfo}
 use Rattle.socket_datagram.specs.declared.dhcpv4.lease.Lease.{Lease}
 use Rattle.socket_datagram.specs.declared.dhcpv4.state.ClientState.{ClientState}
@@ -23,10 +23,10 @@ use Rattle.socket_datagram.specs.declared.dhcpv4.state.ClientState.TheVariants a
 abbrev pub is_answer : DhcpValue → DhcpRepr → Bool
 is_answer v m = (m.transaction_id == v.transaction_id) && bytes_eq m.client_hardware_address.0 v.link_addr.0
 
--- the client takes an offer of the address of one host, and asks its server at once
-abbrev pub chosen : ℤ → ServerInfo → DhcpValue → DhcpRepr → DhcpValue
-chosen now server v m =
-    if is_usable m.your_ip
+-- the client takes an offer of an address that one host can have, and asks its server at once
+abbrev pub chosen : ℤ → ServerInfo → DhcpValue → DhcpRepr → Option Ipv4Cidr → DhcpValue
+chosen now server v m cidr =
+    if is_leasable m.your_ip cidr
     then record v {
       state = S.Requesting (record {
         retry_at = now;
@@ -39,16 +39,16 @@ chosen now server v m =
     else v
 
 -- it does so in SELECTING alone
-abbrev pub offer_in : ℤ → ServerInfo → DhcpValue → DhcpRepr → ClientState → DhcpValue
-offer_in now server v m S.Init = v
-offer_in now server v m (S.Selecting s) = chosen now server v m
-offer_in now server v m (S.Requesting s) = v
-offer_in now server v m (S.Bound lease) = v
-offer_in now server v m (S.Renewing lease retry_at) = v
-offer_in now server v m (S.Rebinding lease retry_at) = v
+abbrev pub offer_in : ℤ → ServerInfo → DhcpValue → DhcpRepr → Option Ipv4Cidr → ClientState → DhcpValue
+offer_in now server v m cidr (S.Init begins_at) = v
+offer_in now server v m cidr (S.Selecting s) = chosen now server v m cidr
+offer_in now server v m cidr (S.Requesting s) = v
+offer_in now server v m cidr (S.Bound lease) = v
+offer_in now server v m cidr (S.Renewing lease retry_at) = v
+offer_in now server v m cidr (S.Rebinding lease retry_at) = v
 
-abbrev pub offer_taken : ℤ → ServerInfo → DhcpValue → DhcpRepr → DhcpValue
-offer_taken now server v m = offer_in now server v m v.state
+abbrev pub offer_taken : ℤ → ServerInfo → DhcpValue → DhcpRepr → Option Ipv4Cidr → DhcpValue
+offer_taken now server v m cidr = offer_in now server v m cidr v.state
 
 -- bound to a lease, if there is one
 abbrev pub bound_to : DhcpValue → Option Lease → DhcpValue
@@ -58,14 +58,16 @@ bound_to v (Some lease) = record v { state = S.Bound lease; changed = true }
 -- an acknowledgement counts where the client waits for one of this server
 abbrev pub acknowledged : ℤ → ServerInfo → DhcpValue → DhcpRepr → Option Ipv4Cidr → DhcpValue
 acknowledged now server v m cidr =
-    if is_asked v.state server then bound_to v (lease_in now server m cidr v.settings.max_lease_duration) else v
+    if is_asked v.state server
+    then bound_to v (lease_in now server m cidr v.settings.max_lease_duration (least_wait v.settings))
+    else v
 
 -- so does a refusal, unless these are ignored
 abbrev pub refused : ServerInfo → DhcpValue → DhcpValue
 refused server v = if is_asked v.state server && not v.settings.ignore_naks then begun v else v
 
 abbrev pub told_by : DhcpMessageType → ℤ → ServerInfo → DhcpValue → DhcpRepr → Option Ipv4Cidr → DhcpValue
-told_by Offer now server v m cidr = offer_taken now server v m
+told_by Offer now server v m cidr = offer_taken now server v m cidr
 told_by Ack now server v m cidr = acknowledged now server v m cidr
 told_by Nak now server v m cidr = refused server v
 told_by Discover now server v m cidr = v

@@ -1,11 +1,12 @@
 -- What an acknowledgement says (RFC 2131, sections 4.3.1 and 4.4.5; RFC 2132).
-use Rattle.std.specs.Prelude.{◌≡◌, ℕ, ◌+◌, ◌-◌, ◌*◌, ◌/◌, ◌<◌, nat_lt, min, ◌&&◌, Bool, if◌then◌else◌, ℤ, Option, Some, None}
-use Rattle.ip_wire.specs.AddressTests.{is_unicast_v4}
+use Rattle.std.specs.Prelude.{◌≡◌, ℕ, ◌+◌, ◌-◌, ◌*◌, ◌/◌, ◌<◌, nat_lt, min, ◌==◌, ◌&&◌, ◌||◌, not, Bool, false, slice_index, if◌then◌else◌, ℤ, Option, Some, None}
+use Rattle.std.specs.Str.{bytes_eq}
+use Rattle.ip_wire.specs.AddressTests.{is_unicast_v4, is_loopback_v4, broadcast_in}
 use Rattle.ip_wire.specs.Address.{IsMaskV4}
 use Rattle.ip_wire.specs.Ipv4Address.{Ipv4Address}
 use Rattle.ip_wire.specs.Ipv4Cidr.{Ipv4Cidr}
 use Rattle.wire_dhcp.specs.declared.repr.DhcpRepr.{DhcpRepr}
-use Rattle.socket_datagram.specs.DhcpClient.Moments.{later}
+use Rattle.socket_datagram.specs.DhcpClient.Moments.{later, at_least}
 use Rattle.socket_datagram.specs.declared.dhcpv4.config.ServerInfo.{ServerInfo}
 use Rattle.socket_datagram.specs.declared.dhcpv4.lease.Lease.{Lease}
 use Rattle.socket_datagram.specs.declared.dhcpv4.lease.Spans.{Spans}
@@ -13,6 +14,24 @@ use Rattle.socket_datagram.specs.declared.dhcpv4.lease.Spans.{Spans}
 -- the address of one host
 abbrev pub is_usable : Ipv4Address → Bool
 is_usable a = is_unicast_v4 a
+
+-- an address of this network, or of the loopback network (RFC 1122, section 3.2.1.3: a and g)
+abbrev pub is_reserved_v4 : Ipv4Address → Bool
+is_reserved_v4 a = (slice_index a.0 0 == 0) || is_loopback_v4 a
+
+-- it is the address of all hosts, where there is one
+abbrev pub is_of_all : Option Ipv4Address → Ipv4Address → Bool
+is_of_all None a = false
+is_of_all (Some all) a = bytes_eq all.0 a.0
+
+-- it is that of the network that the message tells of
+abbrev pub is_of_all_in : Option Ipv4Cidr → Ipv4Address → Bool
+is_of_all_in None a = false
+is_of_all_in (Some cidr) a = is_of_all (broadcast_in cidr) a
+
+-- a host can have this address, in the network that the message tells of, if it does
+abbrev pub is_leasable : Ipv4Address → Option Ipv4Cidr → Bool
+is_leasable a cidr = is_usable a && not (is_reserved_v4 a || is_of_all_in cidr a)
 
 -- the server that a message from this source names
 abbrev pub server_of : Ipv4Address → Option Ipv4Address → Option ServerInfo
@@ -66,20 +85,20 @@ spans_of lease None (Some rebind) =
     if nat_lt rebind lease then record { renew = min (lease / 2) rebind; rebind = rebind } else default_spans lease
 spans_of lease None None = default_spans lease
 
--- the lease that an acknowledgement gives at this instant
-abbrev pub lease_with : ℤ → ServerInfo → DhcpRepr → Ipv4Cidr → ℕ → Spans → Lease
-lease_with now server m cidr span spans = record {
+-- the lease that an acknowledgement gives at this instant: the client asks for more after so long at least
+abbrev pub lease_with : ℤ → ServerInfo → DhcpRepr → Ipv4Cidr → ℕ → Spans → ℕ → Lease
+lease_with now server m cidr span spans least = record {
   config = record { server = server; address = cidr; router = m.router; dns_servers = m.dns_servers };
-  refresh_at = later now spans.renew;
-  rebind_at = later now spans.rebind;
+  refresh_at = later now (at_least spans.renew least);
+  rebind_at = later now (at_least spans.rebind least);
   expires_at = later now span;
 }
 
--- it tells of a network, and gives the address of one host
-abbrev pub lease_in : ℤ → ServerInfo → DhcpRepr → Option Ipv4Cidr → Option ℕ → Option Lease
-lease_in now server m None most = None
-lease_in now server m (Some cidr) most =
-    if is_usable m.your_ip
+-- it tells of a network, and gives an address of it that a host can have
+abbrev pub lease_in : ℤ → ServerInfo → DhcpRepr → Option Ipv4Cidr → Option ℕ → ℕ → Option Lease
+lease_in now server m None most least = None
+lease_in now server m (Some cidr) most least =
+    if is_leasable m.your_ip (Some cidr)
     then Some (lease_with now server m cidr (lease_span m.lease_duration most)
-    (spans_of (lease_span m.lease_duration most) (micros_of m.renew_duration) (micros_of m.rebind_duration)))
+    (spans_of (lease_span m.lease_duration most) (micros_of m.renew_duration) (micros_of m.rebind_duration)) least)
     else None

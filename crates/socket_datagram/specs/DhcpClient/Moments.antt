@@ -10,6 +10,10 @@ later now duration = now +ℤ pos (min duration last_instant)
 abbrev pub earlier : ℤ → ℤ → ℤ
 earlier a b = if int_lt b a then b else a
 
+-- the longer of two durations
+abbrev pub at_least : ℕ → ℕ → ℕ
+at_least one other = max one other
+
 -- 64 seconds, the longest wait between requests without an answer
 abbrev pub longest_wait : ℕ
 longest_wait = 64_000_000

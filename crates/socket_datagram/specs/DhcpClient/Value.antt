@@ -1,5 +1,5 @@
 -- The socket as a value, and what its calls leave.
-use Rattle.std.specs.Prelude.{ℕ, ◌==◌, ◌&&◌, ◌||◌, Bool, true, false, List, [], ◌∷◌, Option, Some, None, is_some, if◌then◌else◌}
+use Rattle.std.specs.Prelude.{ℕ, ◌==◌, ◌&&◌, ◌||◌, Bool, true, false, ℤ, List, [], ◌∷◌, Option, Some, None, is_some, if◌then◌else◌}
 use Rattle.net_base.specs.RandomWords.{next_state, word}
 use Rattle.net_base.specs.Time.{longest}
 use Rattle.ip_wire.specs.EthernetAddress.{EthernetAddress}
@@ -16,26 +16,34 @@ use Rattle.socket_datagram.specs.declared.dhcpv4.socket.Pending.{Pending}
 use Rattle.socket_datagram.specs.declared.dhcpv4.state.ClientState.{ClientState}
 use Rattle.socket_datagram.specs.declared.dhcpv4.state.ClientState.TheVariants.{Init}
 
--- a packet that is offered, the number of its transaction, and the state after it
+-- a packet that is offered, the number of its transaction, the state after it, and from when on the client may begin again then
 pub record Open : Type 0 where
   pub packet : PacketValue
   pub transaction_id : ℕ
   pub next : ClientState
+  pub restart_at : Option ℤ
 
--- The hardware address, the settings, the codes that it asks for, the bytes of further options, the state, the number that answers have to
--- name, whether there is something to tell, the generator of random words with the next two, and the open offer.
+-- The hardware address, the settings, the codes that it asks for, the bytes of further options, the state, from when on the client may begin
+-- again, the number that answers have to name, whether there is something to tell, the generator of random words with the next two, and the
+-- open offer.
 pub record DhcpValue : Type 0 where
   pub link_addr : EthernetAddress
   pub settings : Settings
   pub parameters : List ℕ
   pub options : List ℕ
   pub state : ClientState
+  pub restart_at : Option ℤ
   pub transaction_id : ℕ
   pub changed : Bool
   pub random : ℕ
   pub next_id : ℕ
   pub next_word : ℕ
   pub offered : Option Open
+
+-- how long the client waits at least between two messages, in microseconds, the first request for an offer apart: a second under the host
+-- requirements (RFC 2131, section 4.1)
+abbrev pub least_wait : Settings → ℕ
+least_wait s = if s.host_requirements then 1_000_000 else 0
 
 -- from the client's port to the servers'
 abbrev pub ports_of : Settings → UdpRepr
@@ -48,6 +56,7 @@ open_of settings (Some p) message = Some (record {
   packet = packet_of p.header (Datagram (ports_of settings) message);
   transaction_id = p.transaction_id;
   next = p.next;
+  restart_at = p.restart_at;
 })
 
 -- what the client waits with, unless it is told (RFC 2131, section 4.1: four seconds at first)
@@ -65,6 +74,7 @@ default_settings = record {
   retry = default_retry;
   max_lease_duration = None;
   ignore_naks = false;
+  host_requirements = false;
   server_port = 67;
   client_port = 68;
 }
@@ -76,7 +86,8 @@ made link_addr seed = record {
   settings = default_settings;
   parameters = 1 ∷ 3 ∷ 6 ∷ [];
   options = [];
-  state = Init;
+  state = Init None;
+  restart_at = None;
   transaction_id = 0;
   changed = true;
   random = next_state (next_state seed);
@@ -100,9 +111,9 @@ with_parameters v codes taken = if taken then record v { parameters = codes; off
 abbrev pub with_options : DhcpValue → List DhcpOption → Bool → DhcpValue
 with_options v options taken = if taken then record v { options = encoded options; offered = None } else v
 
--- begun again: that a lease is given up is to be told
+-- begun again, as soon as it may: that a lease is given up is to be told
 abbrev pub begun : DhcpValue → DhcpValue
-begun v = record v { state = Init; changed = is_some (lease_of v.state) || v.changed; offered = None }
+begun v = record v { state = Init v.restart_at; changed = is_some (lease_of v.state) || v.changed; offered = None }
 
 -- the datagram is from a server's port to the client's, over IPv4
 abbrev pub accepts : DhcpValue → IpRepr → UdpRepr → Bool
@@ -121,6 +132,7 @@ abbrev pub sent_from : DhcpValue → Option Open → DhcpValue
 sent_from v None = unoffered v
 sent_from v (Some o) = record v {
   state = o.next;
+  restart_at = o.restart_at;
   transaction_id = o.transaction_id;
   random = next_state (next_state v.random);
   next_id = word (next_state v.random);

@@ -13,7 +13,7 @@ use Rattle.socket_datagram.specs.DnsClient.Value.{DnsValue, unoffered, turned, o
 use Rattle.socket_datagram.specs.declared.dns.query.Query.{Query}
 use Rattle.socket_datagram.specs.declared.dns.query.Sending.{Sending}
 use Rattle.socket_datagram.specs.declared.dns.state.State.{State}
-use Rattle.socket_datagram.specs.declared.dns.state.State.TheVariants.{Idle, Pending, Completed, Failed}
+use Rattle.socket_datagram.specs.declared.dns.state.State.TheVariants.{Idle, Pending, Completed, Failed, Unanswered}
 use Rattle.socket_datagram.specs.declared.dns.query.Turn.{Turn}
 use Rattle.socket_datagram.specs.declared.dns.query.Turn.TheVariants.{Wait, Next, Send}
 
@@ -60,6 +60,7 @@ turn_in Idle cx v = Wait
 turn_in (Pending q) cx v = turn_of cx v q
 turn_in (Completed found) cx v = Wait
 turn_in Failed cx v = Wait
+turn_in Unanswered cx v = Wait
 
 abbrev pub offered_in : DnsValue → Sending → DnsValue
 offered_in v s = record v { offered = open_in v.state v.message s }

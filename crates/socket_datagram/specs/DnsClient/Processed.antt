@@ -11,7 +11,7 @@ use Rattle.socket_datagram.specs.declared.dns.answer.Verdict.{Verdict}
 use Rattle.socket_datagram.specs.declared.dns.answer.Verdict.TheVariants.{Unrelated, Found, Missing, Refused}
 use Rattle.socket_datagram.specs.declared.dns.query.Query.{Query}
 use Rattle.socket_datagram.specs.declared.dns.state.State.{State}
-use Rattle.socket_datagram.specs.declared.dns.state.State.TheVariants.{Idle, Pending, Completed, Failed}
+use Rattle.socket_datagram.specs.declared.dns.state.State.TheVariants.{Idle, Pending, Completed, Failed, Unanswered}
 
 -- a datagram comes from the port of servers and from this address, if there is one, and goes to the query's port
 abbrev pub is_from : Option IpAddress → Query → IpRepr → UdpRepr → Bool
@@ -27,6 +27,7 @@ accepts Idle ip repr = false
 accepts (Pending q) ip repr = is_for q ip repr
 accepts (Completed found) ip repr = false
 accepts Failed ip repr = false
+accepts Unanswered ip repr = false
 
 -- what a verdict leaves
 abbrev pub judged : ℤ → DnsValue → Verdict → DnsValue

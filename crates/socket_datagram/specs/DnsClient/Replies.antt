@@ -13,7 +13,7 @@ use Rattle.socket_datagram.specs.declared.dns.answer.Verdict.{Verdict}
 use Rattle.socket_datagram.specs.declared.dns.answer.Verdict.TheVariants.{Unrelated, Found, Missing, Refused}
 use Rattle.socket_datagram.specs.declared.dns.query.Query.{Query}
 use Rattle.socket_datagram.specs.declared.dns.state.State.{State}
-use Rattle.socket_datagram.specs.declared.dns.state.State.TheVariants.{Idle, Pending, Completed, Failed}
+use Rattle.socket_datagram.specs.declared.dns.state.State.TheVariants.{Idle, Pending, Completed, Failed, Unanswered}
 
 -- the header of a response to a standard query, with the query's number and one question
 abbrev pub names_query : Query → List ℕ → Bool
@@ -85,3 +85,4 @@ IsVerdictIn Idle message verdict = verdict ≡ Unrelated
 IsVerdictIn (Pending q) message verdict = IsVerdict q message verdict
 IsVerdictIn (Completed found) message verdict = verdict ≡ Unrelated
 IsVerdictIn Failed message verdict = verdict ≡ Unrelated
+IsVerdictIn Unanswered message verdict = verdict ≡ Unrelated

@@ -6,7 +6,7 @@ use Rattle.wire_dns.specs.declared.question.DnsQuestion.{DnsQuestion}
 use Rattle.socket_datagram.specs.declared.dns.query.Query.{Query}
 use Rattle.socket_datagram.specs.declared.dns.query.Sending.{Sending}
 use Rattle.socket_datagram.specs.declared.dns.state.State.{State}
-use Rattle.socket_datagram.specs.declared.dns.state.State.TheVariants.{Idle, Pending, Completed, Failed}
+use Rattle.socket_datagram.specs.declared.dns.state.State.TheVariants.{Idle, Pending, Completed, Failed, Unanswered}
 
 -- a second at first
 abbrev pub first_wait : ℕ
@@ -68,3 +68,4 @@ poll_of Idle = At.Ingress
 poll_of (Pending q) = At.Time (due_at q)
 poll_of (Completed found) = At.Ingress
 poll_of Failed = At.Ingress
+poll_of Unanswered = At.Ingress

@@ -52,6 +52,8 @@ pub struct Settings {
     pub retry: RetryConfig,
     pub max_lease_duration: Option<Duration>,
     pub ignore_naks: bool,
+    /// Whether a second at least lies between two messages, whatever servers answer.
+    pub host_requirements: bool,
     pub server_port: u16,
     pub client_port: u16,
 }

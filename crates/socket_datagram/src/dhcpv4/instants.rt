@@ -1,7 +1,7 @@
 //! Instants and waits.
 ghost use Rattle.std.specs.Prelude.{◌≡◌};
 ghost use Rattle.net_base.specs.Time.{IsMoment};
-ghost use Rattle.socket_datagram.specs.DhcpClient.Moments.{later, earlier, doubled, first_wait, spread, renew_wait};
+ghost use Rattle.socket_datagram.specs.DhcpClient.Moments.{later, earlier, at_least, doubled, first_wait, spread, renew_wait};
 
 use net_base::{Duration, Instant};
 
@@ -25,6 +25,13 @@ pub fn earlier(one: Instant, other: Instant) -> Instant
     ensures { result ≡ earlier one other }
 {
     if other < one { other } else { one }
+}
+
+/// The longer of two durations.
+pub fn at_least(one: Duration, other: Duration) -> Duration
+    ensures { result ≡ at_least one other }
+{
+    Duration::from_micros(one.total_micros().max(other.total_micros()))
 }
 
 /// The wait that comes first.

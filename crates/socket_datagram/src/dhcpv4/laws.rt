@@ -1,5 +1,5 @@
 //! Laws of the client.
-ghost use Rattle.std.specs.Prelude.{◌≡◌, ◌≤ℤ◌, ◌<ℤ◌, ℤ, ℕ, List, Bool, false, Some};
+ghost use Rattle.std.specs.Prelude.{◌≡◌, ◌⊎◌, ◌≤ℤ◌, ◌<ℤ◌, ◌+ℤ◌, pos, ℤ, ℕ, List, Bool, true, false, Some};
 ghost use Rattle.ip_wire.specs.IpRepr.{IpRepr};
 ghost use Rattle.ip_wire.specs.UdpRepr.{UdpRepr};
 ghost use Rattle.socket_context.specs.Context.{ContextValue};
@@ -8,7 +8,7 @@ ghost use Rattle.socket_context.specs.declared.offer.Offer.{Offer};
 ghost use Rattle.socket_context.specs.declared.offer.Offer.TheVariants as Answer;
 ghost use Rattle.socket_datagram.specs.DhcpClient.Answers.{Processed};
 ghost use Rattle.socket_datagram.specs.DhcpClient.Events.{event_of, initial};
-ghost use Rattle.socket_datagram.specs.DhcpClient.Laws.{IsGiven, IsKept};
+ghost use Rattle.socket_datagram.specs.DhcpClient.Laws.{IsGiven, IsKept, Comes, IsFirstRequest};
 ghost use Rattle.socket_datagram.specs.DhcpClient.Offers.{Offers};
 ghost use Rattle.socket_datagram.specs.DhcpClient.States.{lease_of, poll_of};
 ghost use Rattle.socket_datagram.specs.DhcpClient.Value.{DhcpValue, begun, settled};
@@ -24,7 +24,7 @@ pub fn silence()
         → (answer ≡ Answer.Silent false) × (v' ≡ settled false v) }
 {}
 
-/// Law: a lease comes from an acknowledgement of the client's request alone.
+/// Law: a lease comes from an acknowledgement of the client's request alone, and is of an address that a host can have.
 pub fn leases_are_given()
     ensures { (now : ℤ) (v v' : DhcpValue) (ip : IpRepr) (repr : UdpRepr) (payload : List ℕ)
         → Processed now v ip repr payload v'
@@ -50,6 +50,17 @@ pub fn leases_end()
         → lease_of v.state ≡ Some lease
         → lease.expires_at ≤ℤ now
         → event_of (initial now v) ≡ Some Told.Deconfigured }
+{}
+
+/// Law: under the host requirements at least a second lies between two messages of a client, whatever comes between, but before the first
+/// request for an offer.
+pub fn messages_are_apart()
+    ensures { (cx later : ContextValue) (v v' w w' : DhcpValue)
+        → v.settings.host_requirements ≡ true
+        → Offers cx v (Answer.Packet false) v'
+        → Comes cx.instant (settled true v') w
+        → Offers later w (Answer.Packet false) w'
+        → (cx.instant +ℤ pos 1_000_000 ≤ℤ later.instant) ⊎ IsFirstRequest w.state }
 {}
 
 /// Law: what is told as configured is a lease that isn't over at that instant.

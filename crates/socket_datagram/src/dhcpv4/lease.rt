@@ -1,10 +1,10 @@
 //! Leases, and what acknowledgements say of them.
 ghost use Rattle.std.specs.Prelude.{◌≡◌, ◌<◌, ◌^◌, Option, None, Some};
 ghost use Rattle.net_base.specs.Time.{IsMoment};
-ghost use Rattle.socket_datagram.specs.DhcpClient.Leases.{IsCidrOf, server_in, lease_span, micros_of, spans_of, default_spans, lease_in, is_usable};
+ghost use Rattle.socket_datagram.specs.DhcpClient.Leases.{IsCidrOf, server_in, lease_span, micros_of, spans_of, default_spans, lease_in, is_usable, is_reserved_v4, is_of_all_in, is_leasable};
 
 use crate::dhcpv4::config::{Config, ServerInfo};
-use crate::dhcpv4::instants::later;
+use crate::dhcpv4::instants::{at_least, later};
 use ip_wire::{AddressExt, Ipv4Address, Ipv4Cidr};
 use net_base::{Duration, Instant};
 use wire_dhcp::DhcpRepr;
@@ -55,6 +55,33 @@ pub(crate) fn is_usable(address: &Ipv4Address) -> bool
     ensures { result ≡ is_usable address.now }
 {
     address.x_is_unicast()
+}
+
+/// Whether this is an address of the network 0, or of the loopback network.
+fn is_reserved(address: &Ipv4Address) -> bool
+    ensures { result ≡ is_reserved_v4 address.now }
+{
+    address.octets()[0] == 0 || address.is_loopback()
+}
+
+/// Whether this is the address of all hosts of a network, if there is one.
+fn is_of_all_in(cidr: &Option<Ipv4Cidr>, address: &Ipv4Address) -> bool
+    ensures { result ≡ is_of_all_in cidr.now address.now }
+{
+    match cidr {
+        Some(cidr) => match cidr.broadcast() {
+            Some(all) => all.octets() == address.octets(),
+            None => false,
+        },
+        None => false,
+    }
+}
+
+/// Whether a host can have this address, in this network, if there is one.
+pub(crate) fn is_leasable(address: &Ipv4Address, cidr: &Option<Ipv4Cidr>) -> bool
+    ensures { result ≡ is_leasable address.now cidr.now }
+{
+    is_usable(address) && !(is_reserved(address) || is_of_all_in(cidr, address))
 }
 
 /// The network that a message tells of, with the address that it gives.
@@ -146,19 +173,21 @@ fn default_spans(lease: u64) -> Spans
     made_spans(lease / 2, lease * 7 / 8)
 }
 
-/// The lease that an acknowledgement gives: it tells of a network, and gives the address of one host.
+/// The lease that an acknowledgement gives: it tells of a network, and gives an address of it that a host can have. The client asks for
+/// more after so long at least.
 pub(crate) fn lease_in(
     now: Instant,
     server: ServerInfo,
     message: &DhcpRepr<'_>,
     cidr: Option<Ipv4Cidr>,
     most: Option<Duration>,
+    least: Duration,
 ) -> Option<Lease>
     requires { IsMoment now }
-    ensures { result ≡ lease_in now server message.now cidr most }
+    ensures { result ≡ lease_in now server message.now cidr most least }
 {
     let address = cidr?;
-    if !is_usable(&message.your_ip) {
+    if !is_leasable(&message.your_ip, &cidr) {
         return None;
     }
     let span = lease_span(message, most);
@@ -172,8 +201,8 @@ pub(crate) fn lease_in(
             router: message.router,
             dns_servers: message.dns_servers,
         },
-        refresh_at: later(now, spans.renew),
-        rebind_at: later(now, spans.rebind),
+        refresh_at: later(now, at_least(spans.renew, least)),
+        rebind_at: later(now, at_least(spans.rebind, least)),
         expires_at: later(now, span),
     })
 }

@@ -6,15 +6,15 @@ ghost use Rattle.wire_dhcp.specs.Written.{Fits, buffer_len, written};
 ghost use Rattle.socket_datagram.specs.DhcpClient.Extras.{asked_len, room, verdict, list_verdict};
 ghost use Rattle.socket_datagram.specs.DhcpClient.Answers.{is_answer, chosen, told, acknowledged, refused, offer_taken, Processed};
 ghost use Rattle.socket_datagram.specs.DhcpClient.Events.{event_of, initial, untold};
-ghost use Rattle.socket_datagram.specs.DhcpClient.Offers.{Offers, Sends, next_of, id_of, discover_wait};
+ghost use Rattle.socket_datagram.specs.DhcpClient.Offers.{Offers, Sends, next_of, id_of, discover_wait, restart_of, waits};
 ghost use Rattle.socket_datagram.specs.DhcpClient.States.{poll_of};
-ghost use Rattle.socket_datagram.specs.DhcpClient.Value.{made, default_retry, settled, begun, with_settings, with_parameters, with_options, accepts, offered_packet};
+ghost use Rattle.socket_datagram.specs.DhcpClient.Value.{made, default_retry, settled, begun, least_wait, with_settings, with_parameters, with_options, accepts, offered_packet};
 
 use crate::dhcpv4::config::{Event, RetryConfig, ServerInfo, Settings};
 use crate::dhcpv4::error::OptionsError;
 use crate::dhcpv4::extras::Extras;
-use crate::dhcpv4::instants::{doubled, first_wait, later, renew_wait, spread};
-use crate::dhcpv4::lease::{cidr_of, is_usable, lease_in, server_in};
+use crate::dhcpv4::instants::{at_least, doubled, first_wait, later, renew_wait, spread};
+use crate::dhcpv4::lease::{cidr_of, is_leasable, lease_in, server_in};
 use crate::dhcpv4::request::{Kind, MESSAGE_LEN};
 use crate::dhcpv4::state::{ClientState, Requesting, Selecting, Turn};
 use arrayvec::ArrayVec;
@@ -55,6 +55,7 @@ struct Pending {
     header: IpRepr,
     transaction_id: u32,
     next: ClientState,
+    restart_at: Option<Instant>,
 }
 
 /// A client: the hardware address that it speaks for, its settings and its state.
@@ -64,6 +65,8 @@ pub struct Socket {
     settings: Settings,
     extras: Extras,
     state: ClientState,
+    /// From when on the client may begin again; without an instant at once.
+    restart_at: Option<Instant>,
     /// The number that answers have to name.
     transaction_id: u32,
     /// Whether there is something to tell.
@@ -89,6 +92,7 @@ impl Model for Socket {
       parameters = s.extras.parameters;
       options = s.extras.options;
       state = s.state;
+      restart_at = s.restart_at;
       transaction_id = s.transaction_id;
       changed = s.changed;
       random =
@@ -113,11 +117,13 @@ impl Socket {
                 retry: default_retry(),
                 max_lease_duration: None,
                 ignore_naks: false,
+                host_requirements: false,
                 server_port: 67,
                 client_port: 68,
             },
             extras: Extras::new(),
-            state: ClientState::Init,
+            state: ClientState::Init(None),
+            restart_at: None,
             transaction_id: 0,
             changed: true,
             random,
@@ -157,6 +163,16 @@ impl Socket {
     {
         self.offered = None;
         self.settings.ignore_naks = ignore_naks;
+    }
+
+    /// Sets whether the client waits at least a second between two messages, whatever servers answer, as hosts on a network of many must
+    /// (RFC 2131, section 4.1): after a refusal or the end of a lease it begins again as late as it would ask for an offer again, and it asks
+    /// for more of a lease a second after it was given, or later. The first request for an offer follows at once. At first it isn't set.
+    pub fn set_host_requirements(&mut self, host_requirements: bool)
+        ensures { self.new ≡ with_settings self.old (record self.old.settings { host_requirements = host_requirements }) }
+    {
+        self.offered = None;
+        self.settings.host_requirements = host_requirements;
     }
 
     /// Sets the ports of servers and of the client, which are else 67 and 68.
@@ -199,7 +215,7 @@ impl Socket {
         self.state
     }
 
-    /// Begins again. A lease is given up.
+    /// Begins again, as soon as the last message lets it. A lease is given up.
     pub fn reset(&mut self)
         ensures { self.new ≡ begun self.old }
     {
@@ -207,7 +223,7 @@ impl Socket {
         if self.state.lease().is_some() {
             self.changed = true;
         }
-        self.state = ClientState::Init;
+        self.state = ClientState::Init(self.restart_at);
     }
 
     /// What happened since the last call, at this instant: a lease that is over by then is given up first.
@@ -294,7 +310,7 @@ impl Socket {
             return;
         };
         match message.message_type {
-            DhcpMessageType::Offer => self.take_offer(now, server, message),
+            DhcpMessageType::Offer => self.take_offer(now, server, message, cidr),
             DhcpMessageType::Ack => self.take_ack(now, server, message, cidr),
             DhcpMessageType::Nak => self.take_nak(server),
             DhcpMessageType::Discover => {}
@@ -314,12 +330,18 @@ impl Socket {
     }
 
     /// A server offers an address.
-    fn take_offer(&mut self, now: Instant, server: ServerInfo, message: &DhcpRepr<'_>)
-        ensures { self.new ≡ offer_taken now server self.old message.now }
+    fn take_offer(
+        &mut self,
+        now: Instant,
+        server: ServerInfo,
+        message: &DhcpRepr<'_>,
+        cidr: Option<Ipv4Cidr>,
+    )
+        ensures { self.new ≡ offer_taken now server self.old message.now cidr }
     {
         match self.state {
-            ClientState::Selecting(_) => self.choose(now, server, message),
-            ClientState::Init => {}
+            ClientState::Selecting(_) => self.choose(now, server, message, cidr),
+            ClientState::Init(_) => {}
             ClientState::Requesting(_) => {}
             ClientState::Bound(_) => {}
             ClientState::Renewing(_, _) => {}
@@ -327,11 +349,17 @@ impl Socket {
         }
     }
 
-    /// A client that waits for an offer takes one of the address of one host.
-    fn choose(&mut self, now: Instant, server: ServerInfo, message: &DhcpRepr<'_>)
-        ensures { self.new ≡ chosen now server self.old message.now }
+    /// A client that waits for an offer takes one of an address that a host can have.
+    fn choose(
+        &mut self,
+        now: Instant,
+        server: ServerInfo,
+        message: &DhcpRepr<'_>,
+        cidr: Option<Ipv4Cidr>,
+    )
+        ensures { self.new ≡ chosen now server self.old message.now cidr }
     {
-        if !is_usable(&message.your_ip) {
+        if !is_leasable(&message.your_ip, &cidr) {
             return;
         }
         self.state = ClientState::Requesting(Requesting {
@@ -358,7 +386,8 @@ impl Socket {
             return;
         }
         let most = self.settings.max_lease_duration;
-        let Some(lease) = lease_in(now, server, message, cidr, most) else {
+        let least = self.least_wait();
+        let Some(lease) = lease_in(now, server, message, cidr, most, least) else {
             return;
         };
         self.state = ClientState::Bound(lease);
@@ -410,12 +439,14 @@ impl Socket {
     {
         let transaction_id = self.id_of(kind);
         let next = self.next_of(now, kind);
+        let restart_at = self.restart_of(now);
         let message = kind.message(self.link_addr, transaction_id, mtu, &self.extras);
         self.message = message_of(&message);
         self.offered = Some(Pending {
             header: kind.header(self.message.as_slice().len()),
             transaction_id,
             next,
+            restart_at,
         });
     }
 
@@ -445,24 +476,54 @@ impl Socket {
             Kind::Discover => {
                 let wait = self.discover_wait();
                 ClientState::Selecting(Selecting {
-                    retry_at: later(now, spread(wait, word)),
+                    retry_at: later(now, self.waits(spread(wait, word))),
                     wait: doubled(wait),
                 })
             }
             Kind::Request(state) => ClientState::Requesting(Requesting {
-                retry_at: later(now, spread(state.wait, word)),
+                retry_at: later(now, self.waits(spread(state.wait, word))),
                 wait: doubled(state.wait),
                 retry: state.retry.saturating_add(1),
                 ..*state
             }),
             Kind::Renew(lease) => {
                 let wait = renew_wait(lease.rebind_at - now, least, most);
-                ClientState::Renewing(*lease, later(now, wait))
+                ClientState::Renewing(*lease, later(now, self.waits(wait)))
             }
             Kind::Rebind(lease) => {
                 let wait = renew_wait(lease.expires_at - now, least, most);
-                ClientState::Rebinding(*lease, later(now, wait))
+                ClientState::Rebinding(*lease, later(now, self.waits(wait)))
             }
+        }
+    }
+
+    /// From when on a client may begin again that sends a message now.
+    fn restart_of(&self, now: Instant) -> Option<Instant>
+        requires instant { IsMoment now }
+        ensures { result ≡ restart_of now self.now }
+    {
+        if !self.settings.host_requirements {
+            return None;
+        }
+        let first = first_wait(self.settings.retry.discover_timeout);
+        Some(later(now, self.waits(spread(first, self.next_word))))
+    }
+
+    /// A wait, and the least one.
+    fn waits(&self, wait: Duration) -> Duration
+        ensures { result ≡ waits self.now wait }
+    {
+        at_least(wait, self.least_wait())
+    }
+
+    /// How long the client waits at least between two messages.
+    fn least_wait(&self) -> Duration
+        ensures { result ≡ least_wait self.now.settings }
+    {
+        if self.settings.host_requirements {
+            Duration::from_secs(1)
+        } else {
+            Duration::ZERO
         }
     }
 
@@ -473,7 +534,7 @@ impl Socket {
         let first = first_wait(self.settings.retry.discover_timeout);
         match self.state {
             ClientState::Selecting(state) => state.wait,
-            ClientState::Init => first,
+            ClientState::Init(_) => first,
             ClientState::Requesting(_) => first,
             ClientState::Bound(_) => first,
             ClientState::Renewing(_, _) => first,
@@ -503,6 +564,7 @@ impl Socket {
         if let Some(pending) = self.offered {
             if sent {
                 self.state = pending.next;
+                self.restart_at = pending.restart_at;
                 self.transaction_id = pending.transaction_id;
                 self.next_id = self.random.rand_u32();
                 self.next_word = self.random.rand_u32();

@@ -1,6 +1,6 @@
 //! The client's states (RFC 2131, figure 5), and what time does to them.
 ghost use Rattle.std.specs.Prelude.{◌≡◌};
-ghost use Rattle.socket_datagram.specs.DhcpClient.States.{lease_of, turn_of, turn_with, poll_of, is_asked, is_same};
+ghost use Rattle.socket_datagram.specs.DhcpClient.States.{lease_of, turn_before, turn_of, turn_with, poll_before, poll_of, is_asked, is_same};
 
 use crate::dhcpv4::config::ServerInfo;
 use crate::dhcpv4::instants::earlier;
@@ -35,8 +35,8 @@ pub struct Requesting {
 /// A state of the client.
 #[derive(Clone, Copy, Debug)]
 pub enum ClientState {
-    /// Nothing was asked yet.
-    Init,
+    /// Nothing was asked yet; with an instant, nothing is before it.
+    Init(Option<Instant>),
     Selecting(Selecting),
     Requesting(Requesting),
     /// There is a lease, and nothing to ask.
@@ -67,7 +67,7 @@ impl ClientState {
             ClientState::Bound(lease) => Some(*lease),
             ClientState::Renewing(lease, _) => Some(*lease),
             ClientState::Rebinding(lease, _) => Some(*lease),
-            ClientState::Init => None,
+            ClientState::Init(_) => None,
             ClientState::Selecting(_) => None,
             ClientState::Requesting(_) => None,
         }
@@ -78,7 +78,7 @@ impl ClientState {
         ensures { result ≡ turn_of now retries self.now }
     {
         match self {
-            ClientState::Init => Turn::Send(Kind::Discover),
+            ClientState::Init(begins_at) => turn_before(now, *begins_at),
             ClientState::Selecting(state) => {
                 if now < state.retry_at {
                     Turn::Wait
@@ -96,9 +96,7 @@ impl ClientState {
                 }
             }
             ClientState::Bound(lease) => turn_with(now, lease, lease.refresh_at),
-            ClientState::Renewing(lease, retry_at) => {
-                turn_with(now, lease, earlier(*retry_at, lease.rebind_at))
-            }
+            ClientState::Renewing(lease, retry_at) => turn_with(now, lease, *retry_at),
             ClientState::Rebinding(lease, retry_at) => turn_with(now, lease, *retry_at),
         }
     }
@@ -108,14 +106,13 @@ impl ClientState {
         ensures { result ≡ poll_of self.now }
     {
         match self {
-            ClientState::Init => PollAt::Now,
+            ClientState::Init(begins_at) => poll_before(*begins_at),
             ClientState::Selecting(state) => PollAt::Time(state.retry_at),
             ClientState::Requesting(state) => PollAt::Time(state.retry_at),
             ClientState::Bound(lease) => PollAt::Time(earlier(lease.expires_at, lease.refresh_at)),
-            ClientState::Renewing(lease, retry_at) => PollAt::Time(earlier(
-                lease.expires_at,
-                earlier(*retry_at, lease.rebind_at),
-            )),
+            ClientState::Renewing(lease, retry_at) => {
+                PollAt::Time(earlier(lease.expires_at, *retry_at))
+            }
             ClientState::Rebinding(lease, retry_at) => {
                 PollAt::Time(earlier(lease.expires_at, *retry_at))
             }
@@ -130,10 +127,36 @@ impl ClientState {
             ClientState::Requesting(state) => is_same(&state.server, server),
             ClientState::Renewing(lease, _) => is_same(&lease.config.server, server),
             ClientState::Rebinding(_, _) => true,
-            ClientState::Init => false,
+            ClientState::Init(_) => false,
             ClientState::Selecting(_) => false,
             ClientState::Bound(_) => false,
         }
+    }
+}
+
+/// What a client does at an instant that may begin at another, if there is one, else at once.
+fn turn_before(now: Instant, begins_at: Option<Instant>) -> Turn
+    ensures { result ≡ turn_before now begins_at }
+{
+    match begins_at {
+        Some(begins_at) => {
+            if now < begins_at {
+                Turn::Wait
+            } else {
+                Turn::Send(Kind::Discover)
+            }
+        }
+        None => Turn::Send(Kind::Discover),
+    }
+}
+
+/// When it wants to be polled.
+fn poll_before(begins_at: Option<Instant>) -> PollAt
+    ensures { result ≡ poll_before begins_at }
+{
+    match begins_at {
+        Some(begins_at) => PollAt::Time(begins_at),
+        None => PollAt::Now,
     }
 }
 

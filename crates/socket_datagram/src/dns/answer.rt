@@ -30,6 +30,7 @@ pub(crate) fn verdict_in(state: &State, bytes: &[u8]) -> Verdict
         State::Idle => Verdict::Unrelated,
         State::Completed(_) => Verdict::Unrelated,
         State::Failed => Verdict::Unrelated,
+        State::Unanswered => Verdict::Unrelated,
     }
 }
 

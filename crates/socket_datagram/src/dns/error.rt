@@ -36,7 +36,11 @@ pub enum GetQueryResultError {
     /// No answer came yet.
     #[error("pending")]
     Pending,
-    /// No server gave an address, or there is no query.
+    /// The name has no address, or there is no query; without the host requirements also that no server answered.
     #[error("failed")]
     Failed,
+    /// No server said whether the name has an address: each refused, failed, cut its answer short, or was silent. It is told under the host
+    /// requirements alone.
+    #[error("no server answered")]
+    Unanswered,
 }

@@ -1,5 +1,5 @@
 //! Laws of the client.
-ghost use Rattle.std.specs.Prelude.{◌≡◌, ℕ, ℤ, List, Option, Bool, false};
+ghost use Rattle.std.specs.Prelude.{◌≡◌, ℕ, ℤ, List, Option, Bool, true, false};
 ghost use Rattle.ip_wire.specs.IpAddress.{IpAddress};
 ghost use Rattle.ip_wire.specs.IpRepr.{IpRepr};
 ghost use Rattle.ip_wire.specs.UdpRepr.{UdpRepr};
@@ -7,18 +7,31 @@ ghost use Rattle.socket_context.specs.Context.{ContextValue};
 ghost use Rattle.socket_context.specs.Offers.{IsBefore};
 ghost use Rattle.socket_context.specs.declared.offer.Offer.{Offer};
 ghost use Rattle.socket_context.specs.declared.offer.Offer.TheVariants as Answer;
-ghost use Rattle.socket_datagram.specs.DnsClient.Laws.{AreGiven};
+ghost use Rattle.socket_datagram.specs.DnsClient.Laws.{AreGiven, AreDenied};
 ghost use Rattle.socket_datagram.specs.DnsClient.Offers.{Offers};
 ghost use Rattle.socket_datagram.specs.DnsClient.Processed.{Processed};
 ghost use Rattle.socket_datagram.specs.DnsClient.Turns.{poll_of};
 ghost use Rattle.socket_datagram.specs.DnsClient.Value.{DnsValue, settled};
-ghost use Rattle.socket_datagram.specs.declared.dns.state.State.TheVariants.{Completed};
+ghost use Rattle.socket_datagram.specs.declared.dns.state.State.TheVariants.{Completed, Failed};
 
 /// Law: addresses come from the answer to the client's query alone, and belong to the name that it asked for.
 pub fn addresses_are_given()
     ensures { (now : ℤ) (v v' : DnsValue) (ip : IpRepr) (repr : UdpRepr) (payload : List ℕ)
         → Processed now v ip repr payload v'
         → AreGiven v ip repr payload v' }
+{}
+
+/// Law: under the host requirements a query fails by the whole answer of the server that was asked alone, which says that there is no such
+/// name, or gives it no address: by none that refuses, can't answer or is cut short, and by no silence.
+pub fn failures_are_given()
+    ensures arrived { (now : ℤ) (v v' : DnsValue) (ip : IpRepr) (repr : UdpRepr) (payload : List ℕ)
+        → Processed now v ip repr payload v'
+        → AreDenied v ip repr payload v' }
+    ensures offered { (cx : ContextValue) (v v' : DnsValue) (answer : Offer)
+        → v.host_requirements ≡ true
+        → Offers cx v answer v'
+        → v'.state ≡ Failed
+        → v.state ≡ Failed }
 {}
 
 /// Law: no offer gives addresses, and settling one, either way, gives none.

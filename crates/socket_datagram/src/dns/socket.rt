@@ -10,7 +10,7 @@ ghost use Rattle.socket_datagram.specs.DnsClient.Processed.{Processed, accepts, 
 ghost use Rattle.socket_datagram.specs.DnsClient.Starts.{Starts, started};
 ghost use Rattle.socket_datagram.specs.DnsClient.Turns.{poll_of};
 ghost use Rattle.socket_datagram.specs.DnsClient.Records.{padded};
-ghost use Rattle.socket_datagram.specs.DnsClient.Value.{made, with_servers, with_hop_limit, cancelled, result_of, told, turned, offered_packet, settled};
+ghost use Rattle.socket_datagram.specs.DnsClient.Value.{made, with_servers, with_hop_limit, with_host_requirements, cancelled, result_of, told, turned, offered_packet, settled};
 
 use crate::dns::answer::{Verdict, verdict_in};
 use crate::dns::error::{GetQueryResultError, StartQueryError};
@@ -38,6 +38,7 @@ const PORT_COUNT: u32 = 64_512;
 pub struct Socket {
     servers: [Option<IpAddress>; MAX_SERVERS],
     hop_limit: Option<u8>,
+    host_requirements: bool,
     state: State,
     /// The last query as it is sent.
     message: ArrayVec<u8, MAX_QUERY_LEN>,
@@ -52,6 +53,7 @@ impl Model for Socket {
     ghost view = { λ s. record {
       servers = s.servers;
       hop_limit = s.hop_limit;
+      host_requirements = s.host_requirements;
       state = s.state;
       message = s.message.items;
       offered =
@@ -67,6 +69,7 @@ impl Socket {
         Socket {
             servers: first_servers(servers),
             hop_limit: None,
+            host_requirements: false,
             state: State::Idle,
             message: ArrayVec::new(),
             offered: None,
@@ -95,6 +98,15 @@ impl Socket {
     {
         self.offered = None;
         self.hop_limit = hop_limit;
+    }
+
+    /// Sets whether it is told apart that no server answered: `Unanswered`, and not `Failed` as where the name has no address. At first it
+    /// isn't set.
+    pub fn set_host_requirements(&mut self, host_requirements: bool)
+        ensures { self.new ≡ with_host_requirements self.old host_requirements }
+    {
+        self.offered = None;
+        self.host_requirements = host_requirements;
     }
 
     /// Asks for the addresses of a name, written with dots between its labels: `A` for those of IPv4, `Aaaa` for those of
@@ -206,7 +218,7 @@ impl Socket {
         }
     }
 
-    /// Turns to the next server; after the last one the query failed.
+    /// Turns to the next server; after the last one nobody answered the query.
     fn turn(&mut self, now: Instant)
         requires instant { IsMoment now }
         requires unoffered { self.old.offered ≡ None }
@@ -214,6 +226,8 @@ impl Socket {
     {
         if self.state.has_next(&self.servers) {
             self.state.ask_next(now);
+        } else if self.host_requirements {
+            self.state = State::Unanswered;
         } else {
             self.state = State::Failed;
         }
@@ -256,6 +270,7 @@ impl Socket {
             State::Idle => Turn::Wait,
             State::Completed(_) => Turn::Wait,
             State::Failed => Turn::Wait,
+            State::Unanswered => Turn::Wait,
         }
     }
 
@@ -304,6 +319,7 @@ impl Socket {
             State::Idle => None,
             State::Completed(_) => None,
             State::Failed => None,
+            State::Unanswered => None,
         }
     }
 

@@ -24,7 +24,10 @@ pub enum State {
     Idle,
     Pending(Query),
     Completed(Addresses),
+    /// The name has no address, or no server answered.
     Failed,
+    /// No server answered, and that is told.
+    Unanswered,
 }
 
 impl State {
@@ -37,6 +40,7 @@ impl State {
             State::Idle => false,
             State::Completed(_) => false,
             State::Failed => false,
+            State::Unanswered => false,
         }
     }
 
@@ -49,6 +53,7 @@ impl State {
             State::Pending(_) => Err(GetQueryResultError::Pending),
             State::Idle => Err(GetQueryResultError::Failed),
             State::Failed => Err(GetQueryResultError::Failed),
+            State::Unanswered => Err(GetQueryResultError::Unanswered),
         }
     }
 
@@ -61,6 +66,7 @@ impl State {
             State::Idle => false,
             State::Completed(_) => false,
             State::Failed => false,
+            State::Unanswered => false,
         }
     }
 
@@ -73,6 +79,7 @@ impl State {
             State::Idle => PollAt::Ingress,
             State::Completed(_) => PollAt::Ingress,
             State::Failed => PollAt::Ingress,
+            State::Unanswered => PollAt::Ingress,
         }
     }
 
@@ -85,6 +92,7 @@ impl State {
             State::Idle => false,
             State::Completed(_) => false,
             State::Failed => false,
+            State::Unanswered => false,
         }
     }
 
@@ -98,6 +106,7 @@ impl State {
             State::Idle => {}
             State::Completed(_) => {}
             State::Failed => {}
+            State::Unanswered => {}
         }
     }
 
@@ -110,6 +119,7 @@ impl State {
             State::Idle => {}
             State::Completed(_) => {}
             State::Failed => {}
+            State::Unanswered => {}
         }
     }
 }

@@ -14,6 +14,7 @@ returns g c =
       parameters = i.extras.parameters;
       options = i.extras.options;
       state = i.state;
+      restart_at = i.restart_at;
       transaction_id = i.transaction_id;
       changed = i.changed;
       random =
