@@ -13,17 +13,18 @@ use Rattle.socket_context.specs.declared.offer.Offer.{Offer}
 use Rattle.socket_context.specs.declared.offer.Offer.TheVariants as Answer
 use Rattle.wire_dhcp.specs.declared.message_type.DhcpMessageType.{DhcpMessageType}
 use Rattle.wire_dhcp.specs.declared.message_type.DhcpMessageType.TheVariants as Of
+use Rattle.wire_dhcp.specs.Written.{encoded}
 use Rattle.wire_dhcp.specs.declared.option.DhcpOption.{DhcpOption}
 use Rattle.wire_dhcp.specs.declared.repr.DhcpRepr.{DhcpRepr}
 use Rattle.socket_datagram.specs.DhcpClient.Answers.{is_answer, chosen, offer_in, bound_to, told_by, told_from, ProcessedFrom, Processed}
 use Rattle.socket_datagram.specs.DhcpClient.Events.{is_over, initial, untold}
 use Rattle.socket_datagram.specs.DhcpClient.Laws.{Comes, IsFirstRequest}
-use Rattle.socket_datagram.specs.DhcpClient.Laws.Comes as C
+use Rattle.socket_datagram.specs.DhcpClient.Laws as C
 use Rattle.socket_datagram.specs.DhcpClient.Leases.{is_leasable, server_in, lease_in, lease_with, lease_span, micros_of, spans_of}
 use Rattle.socket_datagram.specs.DhcpClient.Moments.{later, at_least, spread, first_wait}
 use Rattle.socket_datagram.specs.DhcpClient.Offers.{Offers, OffersAs, next_of, waits, restart_of, discover_wait, lease_wait}
 use Rattle.socket_datagram.specs.DhcpClient.States.{lease_of, is_asked, turn_before, turn_of, turn_with}
-use Rattle.socket_datagram.specs.DhcpClient.Value.{DhcpValue, begun, unoffered, settled, sent_from, least_wait, with_settings, with_parameters, with_options}
+use Rattle.socket_datagram.specs.DhcpClient.Value.{DhcpValue, accepts, begun, unoffered, settled, sent_from, least_wait, with_settings, with_parameters, with_options}
 use Rattle.socket_datagram.specs.declared.dhcpv4.config.ServerInfo.{ServerInfo}
 use Rattle.socket_datagram.specs.declared.dhcpv4.config.Settings.{Settings}
 use Rattle.socket_datagram.specs.declared.dhcpv4.lease.Lease.{Lease}
@@ -60,21 +61,21 @@ record Rests (t : ℤ) (v : DhcpValue) : Type 0 where
 far : (d : ℕ) → 1_000_000 ≤ min (max d 1_000_000) last_instant
 far d = grind (arith)
 
-in_time : (t now : ℤ) (d : ℕ) → t ≤ℤ now +ℤ pos 1_000_000 → 1_000_000 ≤ d → t ≤ℤ now +ℤ pos d
+in_time : (t now : ℤ) (d : ℕ) → t ≤ℤ (now +ℤ pos 1_000_000) → 1_000_000 ≤ d → t ≤ℤ (now +ℤ pos d)
 in_time t now d before long = grind (arith)
 
-floor : (t now : ℤ) (d : ℕ) → t ≤ℤ now +ℤ pos 1_000_000 → t ≤ℤ later now (at_least d 1_000_000)
+floor : (t now : ℤ) (d : ℕ) → t ≤ℤ (now +ℤ pos 1_000_000) → t ≤ℤ later now (at_least d 1_000_000)
 floor t now d before = in_time t now (min (max d 1_000_000) last_instant) before (far d)
 
 least_is : (s : Settings) → s.host_requirements ≡ true → least_wait s ≡ 1_000_000
 least_is s kept = ap (λ (t : Bool). if t then 1_000_000 else 0) kept
 
-same_instant : (now : ℤ) → now +ℤ pos 1_000_000 ≤ℤ now +ℤ pos 1_000_000
+same_instant : (now : ℤ) → (now +ℤ pos 1_000_000) ≤ℤ (now +ℤ pos 1_000_000)
 same_instant now = grind (arith)
 
-waited : (now : ℤ) (v : DhcpValue) (d : ℕ) → v.settings.host_requirements ≡ true → now +ℤ pos 1_000_000 ≤ℤ later now (waits v d)
+waited : (now : ℤ) (v : DhcpValue) (d : ℕ) → v.settings.host_requirements ≡ true → (now +ℤ pos 1_000_000) ≤ℤ later now (waits v d)
 waited now v d kept =
-    subst (λ (n : ℕ). now +ℤ pos 1_000_000 ≤ℤ later now (at_least d n)) (sym (least_is v.settings kept)) (floor (now +ℤ pos 1_000_000) now d (same_instant now))
+    subst (λ (n : ℕ). (now +ℤ pos 1_000_000) ≤ℤ later now (at_least d n)) (sym (least_is v.settings kept)) (floor (now +ℤ pos 1_000_000) now d (same_instant now))
 
 -- WHAT IS SENT
 
@@ -125,7 +126,7 @@ spans_in m most = spans_of (lease_span m.lease_duration most) (micros_of m.renew
 abbrev given : ℤ → ServerInfo → DhcpRepr → Ipv4Cidr → Option ℕ → ℕ → Lease
 given now server m cidr most least = lease_with now server m cidr (lease_span m.lease_duration most) (spans_in m most) least
 
-module _ (t now : ℤ) (v : DhcpValue) (before : t ≤ℤ now +ℤ pos 1_000_000) (rests : Rests t v) where
+module _ (t now : ℤ) (v : DhcpValue) (before : t ≤ℤ (now +ℤ pos 1_000_000)) (rests : Rests t v) where
   asked : (m : DhcpRepr) (most : Option ℕ) (least : ℕ) → least ≡ 1_000_000 → t ≤ℤ later now (at_least (spans_in m most).renew least)
   asked m most least is =
       subst (λ (n : ℕ). t ≤ℤ later now (at_least (spans_in m most).renew n)) (sym is) (floor t now (spans_in m most).renew before)
@@ -141,7 +142,15 @@ module _ (t now : ℤ) (v : DhcpValue) (before : t ≤ℤ now +ℤ pos 1_000_000
   offered : (server : ServerInfo) (m : DhcpRepr) (cidr : Option Ipv4Cidr) (s : ClientState) → Rests t (offer_in now server v m cidr s)
   offered server m cidr (S.Init begins_at) = rests
   offered server m cidr (S.Selecting s) =
-      either t (is_leasable m.your_ip cidr) _ v (record { state = inr refl; restart = rests.restart; kept = rests.kept }) rests
+      either t (is_leasable m.your_ip cidr) (record v {
+        state = S.Requesting (record {
+          retry_at = now;
+          wait = first_wait v.settings.retry.initial_request_timeout;
+          retry = 0;
+          server = server;
+          requested_ip = m.your_ip;
+        });
+      }) v (record { state = inr refl; restart = rests.restart; kept = rests.kept }) rests
   offered server m cidr (S.Requesting s) = rests
   offered server m cidr (S.Bound lease) = rests
   offered server m cidr (S.Renewing lease retry_at) = rests
@@ -150,7 +159,7 @@ module _ (t now : ℤ) (v : DhcpValue) (before : t ≤ℤ now +ℤ pos 1_000_000
   typed : (type : DhcpMessageType) (server : ServerInfo) (m : DhcpRepr) (cidr : Option Ipv4Cidr) → Rests t (told_by type now server v m cidr)
   typed Of.Offer server m cidr = offered server m cidr v.state
   typed Of.Ack server m cidr =
-      either t (is_asked v.state server) _ v
+      either t (is_asked v.state server) (bound_to v (lease_in now server m cidr v.settings.max_lease_duration (least_wait v.settings))) v
       (bound server m cidr v.settings.max_lease_duration (least_wait v.settings) (least_is v.settings rests.kept)) rests
   typed Of.Nak server m cidr = either t (is_asked v.state server && not v.settings.ignore_naks) (begun v) v (began t v rests) rests
   typed Of.Discover server m cidr = rests
@@ -163,7 +172,7 @@ module _ (t now : ℤ) (v : DhcpValue) (before : t ≤ℤ now +ℤ pos 1_000_000
   from None m cidr = rests
   from (Some server) m cidr = typed m.message_type server m cidr
 
-arrived : (t now : ℤ) (v v' : DhcpValue) (ip : IpRepr) (payload : List ℕ) (test : Bool) → t ≤ℤ now +ℤ pos 1_000_000 → Rests t v →
+arrived : (t now : ℤ) (v v' : DhcpValue) (ip : IpRepr) (payload : List ℕ) (test : Bool) → t ≤ℤ (now +ℤ pos 1_000_000) → Rests t v →
     ProcessedFrom test now v ip payload v' → Rests t v'
 arrived t now v v' (Ip.Ipv4 header) payload true before rests (inl takes) =
     subst (λ (w : DhcpValue). Rests t w) (sym takes.taken)
@@ -178,33 +187,32 @@ unsent t cx v v' answer T.Wait rests offers = subst (λ (w : DhcpValue). Rests t
 unsent t cx v v' answer T.GiveUp rests offers = subst (λ (w : DhcpValue). Rests t (settled false w)) (sym offers.1) (began t v rests)
 unsent t cx v v' answer (T.Send kind) rests offers = subst (λ (w : DhcpValue). Rests t (settled false w)) (sym offers.1.offers) (closed t v rests)
 
-with_taken : (t : ℤ) (test : Bool) (v w : DhcpValue) → Rests t v → Rests t w → Rests t (if test then w else v)
-with_taken t test v w one other = either t test w v other one
-
-no_sooner : (since now : ℤ) → since ≤ℤ now → since +ℤ pos 1_000_000 ≤ℤ now +ℤ pos 1_000_000
+no_sooner : (since now : ℤ) → since ≤ℤ now → (since +ℤ pos 1_000_000) ≤ℤ (now +ℤ pos 1_000_000)
 no_sooner since now h = grind (arith)
 
-come : (since : ℤ) (v w : DhcpValue) → Comes since v w → Rests (since +ℤ pos 1_000_000) v → Rests (since +ℤ pos 1_000_000) w
-come since v w C.nothing rests = rests
-come since v u (C.arrives {w = w} {now = now} {ip = ip} {repr = repr} {payload = payload} so_far after done) rests =
-    arrived (since +ℤ pos 1_000_000) now w u ip payload _ (no_sooner since now after) (come since v w so_far rests) done
-come since v u (C.begins {w = w} so_far) rests = began (since +ℤ pos 1_000_000) w (come since v w so_far rests)
-come since v u (C.tells {w = w} {now = now} so_far) rests =
-    let before = come since v w so_far rests in
+come : {v u : DhcpValue} (since : ℤ) → Comes since v u → Rests (since +ℤ pos 1_000_000) v → Rests (since +ℤ pos 1_000_000) u
+come since C.nothing rests = rests
+come {u = u} since (C.arrives {w = w} now ip repr payload so_far after done) rests =
+    arrived (since +ℤ pos 1_000_000) now w u ip payload (accepts w ip repr) (no_sooner since now after) (come since so_far rests) done
+come since (C.begins {w = w} so_far) rests = began (since +ℤ pos 1_000_000) w (come since so_far rests)
+come since (C.tells {w = w} now so_far) rests =
+    let before = come since so_far rests in
     let done = either (since +ℤ pos 1_000_000) (is_over now (lease_of w.state)) (begun w) (unoffered w) (began (since +ℤ pos 1_000_000) w before)
     (closed (since +ℤ pos 1_000_000) w before) in
     record { state = done.state; restart = done.restart; kept = done.kept }
-come since v u (C.offers {w = w} {u = left} {cx = cx} {answer = answer} so_far done) rests =
-    unsent (since +ℤ pos 1_000_000) cx w left answer _ (come since v w so_far rests) done
-come since v u (C.sets {w = w} so_far kept) rests =
-    let before = come since v w so_far rests in
+come since (C.offers {w = w} {u = left} cx answer so_far done) rests =
+    unsent (since +ℤ pos 1_000_000) cx w left answer (turn_of cx.instant w.settings.retry.request_retries w.state) (come since so_far rests) done
+come since (C.sets settings so_far kept) rests =
+    let before = come since so_far rests in
     record { state = before.state; restart = before.restart; kept = kept }
-come since v u (C.asks_for {w = w} {codes = codes} {taken = taken} so_far) rests =
-    let before = come since v w so_far rests in
-    either (since +ℤ pos 1_000_000) taken _ w (record { state = before.state; restart = before.restart; kept = before.kept }) before
-come since v u (C.carries {w = w} {options = options} {taken = taken} so_far) rests =
-    let before = come since v w so_far rests in
-    either (since +ℤ pos 1_000_000) taken _ w (record { state = before.state; restart = before.restart; kept = before.kept }) before
+come since (C.asks_for {w = w} codes taken so_far) rests =
+    let before = come since so_far rests in
+    either (since +ℤ pos 1_000_000) taken (record w { parameters = codes; offered = None }) w
+    (record { state = before.state; restart = before.restart; kept = before.kept }) before
+come since (C.carries {w = w} options taken so_far) rests =
+    let before = come since so_far rests in
+    either (since +ℤ pos 1_000_000) taken (record w { options = encoded options; offered = None }) w
+    (record { state = before.state; restart = before.restart; kept = before.kept }) before
 
 -- WHAT IS SENT NEXT
 
@@ -254,7 +262,7 @@ sends t cx v v' (T.Send kind) is rests offers = next t cx.instant v.settings.ret
 
 pub apart : (cx after : ContextValue) (v v' w w' : DhcpValue) → v.settings.host_requirements ≡ true → Offers cx v (Answer.Packet false) v'
     → Comes cx.instant (settled true v') w → Offers after w (Answer.Packet false) w' →
-    (cx.instant +ℤ pos 1_000_000 ≤ℤ after.instant) ⊎ IsFirstRequest w.state
+    ((cx.instant +ℤ pos 1_000_000) ≤ℤ after.instant) ⊎ IsFirstRequest w.state
 apart cx after v v' w w' kept first between second =
     sends (cx.instant +ℤ pos 1_000_000) after w w' (turn_of after.instant w.settings.retry.request_retries w.state) refl
-    (come cx.instant (settled true v') w between (sent cx v v' kept first)) second
+    (come cx.instant between (sent cx v v' kept first)) second

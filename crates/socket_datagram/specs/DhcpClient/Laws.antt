@@ -62,14 +62,14 @@ IsKept v v' = (lease : Lease) → lease_of v'.state ≡ Some lease → lease_of 
 -- messages that are offered and not sent. The host keeps the requirements.
 pub data Comes (since : ℤ) : DhcpValue → DhcpValue → Type 0 where
   nothing : {v : DhcpValue} → Comes since v v
-  arrives : {v w u : DhcpValue} {now : ℤ} {ip : IpRepr} {repr : UdpRepr} {payload : List ℕ}
+  arrives : {v w u : DhcpValue} (now : ℤ) (ip : IpRepr) (repr : UdpRepr) (payload : List ℕ)
       → Comes since v w → since ≤ℤ now → Processed now w ip repr payload u → Comes since v u
   begins : {v w : DhcpValue} → Comes since v w → Comes since v (begun w)
-  tells : {v w : DhcpValue} {now : ℤ} → Comes since v w → Comes since v (untold (initial now w))
-  offers : {v w u : DhcpValue} {cx : ContextValue} {answer : Offer} → Comes since v w → Offers cx w answer u → Comes since v (settled false u)
-  sets : {v w : DhcpValue} {settings : Settings} → Comes since v w → settings.host_requirements ≡ true → Comes since v (with_settings w settings)
-  asks_for : {v w : DhcpValue} {codes : List ℕ} {taken : Bool} → Comes since v w → Comes since v (with_parameters w codes taken)
-  carries : {v w : DhcpValue} {options : List DhcpOption} {taken : Bool} → Comes since v w → Comes since v (with_options w options taken)
+  tells : {v w : DhcpValue} (now : ℤ) → Comes since v w → Comes since v (untold (initial now w))
+  offers : {v w u : DhcpValue} (cx : ContextValue) (answer : Offer) → Comes since v w → Offers cx w answer u → Comes since v (settled false u)
+  sets : {v w : DhcpValue} (settings : Settings) → Comes since v w → settings.host_requirements ≡ true → Comes since v (with_settings w settings)
+  asks_for : {v w : DhcpValue} (codes : List ℕ) (taken : Bool) → Comes since v w → Comes since v (with_parameters w codes taken)
+  carries : {v w : DhcpValue} (options : List DhcpOption) (taken : Bool) → Comes since v w → Comes since v (with_options w options taken)
 
 -- the first request for an offer is due
 abbrev pub IsFirstRequest : ClientState → Type 0

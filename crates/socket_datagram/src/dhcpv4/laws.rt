@@ -60,7 +60,7 @@ pub fn messages_are_apart()
         → Offers cx v (Answer.Packet false) v'
         → Comes cx.instant (settled true v') w
         → Offers later w (Answer.Packet false) w'
-        → (cx.instant +ℤ pos 1_000_000 ≤ℤ later.instant) ⊎ IsFirstRequest w.state }
+        → ((cx.instant +ℤ pos 1_000_000) ≤ℤ later.instant) ⊎ IsFirstRequest w.state }
 {}
 
 /// Law: what is told as configured is a lease that isn't over at that instant.
