@@ -190,9 +190,9 @@ unsent t cx v v' answer (T.Send kind) rests offers = subst (λ (w : DhcpValue). 
 no_sooner : (since now : ℤ) → since ≤ℤ now → (since +ℤ pos 1_000_000) ≤ℤ (now +ℤ pos 1_000_000)
 no_sooner since now h = grind (arith)
 
-come : {v u : DhcpValue} (since : ℤ) → Comes since v u → Rests (since +ℤ pos 1_000_000) v → Rests (since +ℤ pos 1_000_000) u
+come : (since : ℤ) {v u : DhcpValue} → Comes since v u → Rests (since +ℤ pos 1_000_000) v → Rests (since +ℤ pos 1_000_000) u
 come since C.nothing rests = rests
-come {u = u} since (C.arrives {w = w} now ip repr payload so_far after done) rests =
+come since {u = u} (C.arrives {w = w} now ip repr payload so_far after done) rests =
     arrived (since +ℤ pos 1_000_000) now w u ip payload (accepts w ip repr) (no_sooner since now after) (come since so_far rests) done
 come since (C.begins {w = w} so_far) rests = began (since +ℤ pos 1_000_000) w (come since so_far rests)
 come since (C.tells {w = w} now so_far) rests =
@@ -200,7 +200,7 @@ come since (C.tells {w = w} now so_far) rests =
     let done = either (since +ℤ pos 1_000_000) (is_over now (lease_of w.state)) (begun w) (unoffered w) (began (since +ℤ pos 1_000_000) w before)
     (closed (since +ℤ pos 1_000_000) w before) in
     record { state = done.state; restart = done.restart; kept = done.kept }
-come since (C.offers {w = w} {u = left} cx answer so_far done) rests =
+come since (C.offers {w = w} left cx answer so_far done) rests =
     unsent (since +ℤ pos 1_000_000) cx w left answer (turn_of cx.instant w.settings.retry.request_retries w.state) (come since so_far rests) done
 come since (C.sets settings so_far kept) rests =
     let before = come since so_far rests in

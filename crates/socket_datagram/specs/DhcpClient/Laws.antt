@@ -66,7 +66,7 @@ pub data Comes (since : ℤ) : DhcpValue → DhcpValue → Type 0 where
       → Comes since v w → since ≤ℤ now → Processed now w ip repr payload u → Comes since v u
   begins : {v w : DhcpValue} → Comes since v w → Comes since v (begun w)
   tells : {v w : DhcpValue} (now : ℤ) → Comes since v w → Comes since v (untold (initial now w))
-  offers : {v w u : DhcpValue} (cx : ContextValue) (answer : Offer) → Comes since v w → Offers cx w answer u → Comes since v (settled false u)
+  offers : {v w : DhcpValue} (u : DhcpValue) (cx : ContextValue) (answer : Offer) → Comes since v w → Offers cx w answer u → Comes since v (settled false u)
   sets : {v w : DhcpValue} (settings : Settings) → Comes since v w → settings.host_requirements ≡ true → Comes since v (with_settings w settings)
   asks_for : {v w : DhcpValue} (codes : List ℕ) (taken : Bool) → Comes since v w → Comes since v (with_parameters w codes taken)
   carries : {v w : DhcpValue} (options : List DhcpOption) (taken : Bool) → Comes since v w → Comes since v (with_options w options taken)
