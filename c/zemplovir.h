@@ -454,7 +454,8 @@ typedef struct zv_addresses {
     zv_address at[4];
 } zv_addresses;
 
-/* Begins a client of DHCP for this station, in place of one that there was. The seed is that of its random words. ZV_MEDIUM (no Ethernet). */
+/* Begins a client of DHCP for this station, in place of one that there was. The seed is that of its random words. Unless the host is
+ * `without_host_requirements`, at least a second lies between two of its messages. ZV_MEDIUM (no Ethernet). */
 uint32_t zv_dhcp_new(zv_host *host, uint64_t seed);
 
 /* Hands the client a datagram that a socket received at port 68: from where, and at which address. ZV_BAD_ARGUMENT. */

@@ -21,8 +21,8 @@ pub fn addresses_are_given()
         → AreGiven v ip repr payload v' }
 {}
 
-/// Law: under the host requirements a query fails by the whole answer of the server that was asked alone, which says that there is no such
-/// name, or gives it no address: by none that refuses, can't answer or is cut short, and by no silence.
+/// Law: under the host requirements a query fails by a whole answer of the server that was asked alone, which says that there is no such
+/// name, or no address: not by a refusal, and not by silence.
 pub fn failures_are_given()
     ensures arrived { (now : ℤ) (v v' : DnsValue) (ip : IpRepr) (repr : UdpRepr) (payload : List ℕ)
         → Processed now v ip repr payload v'
