@@ -47,27 +47,58 @@ export class Connection {
     }
 }
 
-// What became of the frames that are not acknowledged, and of the acknowledgements of them.
+// What became of frames, those of one fate together: pairs of their names and the fate.
+function fates(frames, row) {
+    const found = new Map();
+    for (const frame of frames) found.set(frame.fateAt(row), [...found.get(frame.fateAt(row)) ?? [], frame.name]);
+    return [...found].map(([fate, names]) => [names.slice(0, 6).join(', ') + (names.length > 6 ? ' ..' : ''), fate]);
+}
+
+// What a segment has, in words.
+function nameOf(left, right, {seen: {tcp: {flags, length}}}) {
+    return flags & SYN ? 'SYN' : flags & FIN && !length ? 'FIN' : `Seq ${left}:${right}`;
+}
+
+// Whether a segment behind a range is told of with it: both are text, went once, and the same became of them.
+function isFurther([left, right, frames], frame, row) {
+    const wentOnce = new Set(frames.map((it) => it.seen.tcp.seqRel)).size === frames.length;
+    const isText = nameOf(left, right, frames[0]) !== 'SYN' && nameOf(right, right, frame) !== 'FIN';
+    return isText && wentOnce && frames.every((it) => it.fateAt(row) === frame.fateAt(row));
+}
+
+// Segments by what they have: triples of the numbers and the frames. Neighbours that went once, and of which the same became, are one.
+function rangesOf(frames, row) {
+    const found = [];
+    const numbers = ({seen: {tcp}, number}) => [tcp.seqRel, tcp.end, number];
+    const sorted = [...frames].sort((one, other) => {
+        const [a, b] = [numbers(one), numbers(other)], k = a.findIndex((it, at) => it !== b[at]);
+        return k < 0 ? 0 : a[k] - b[k];
+    });
+    for (const frame of sorted) {
+        const {seqRel: left, end: right} = frame.seen.tcp, last = found.at(-1);
+        if (last && last[0] === left && last[1] === right) {
+            last[2].push(frame);
+        } else if (last && last[1] === left && isFurther(last, frame, row)) {
+            last[1] = right;
+            last[2].push(frame);
+        } else {
+            found.push([left, right, [frame]]);
+        }
+    }
+    return found;
+}
+
+// What isn't acknowledged and what became of it, and of the acknowledgements of it.
 function whyUnacknowledged(connection, peerFrames, row) {
-    const ranges = new Map();
-    for (const frame of connection.unacknowledged) {
-        const key = `${frame.seen.tcp.seqRel}:${frame.seen.tcp.end}`;
-        ranges.set(key, [...ranges.get(key) ?? [], frame]);
-    }
-    const told = [];
-    for (const [key, frames] of ranges) {
-        const {flags, length} = frames[0].seen.tcp;
-        const fates = frames.map((frame) => `${frame.name} ${frame.fateAt(row)}`).join(', ');
-        told.push(`${flags & SYN ? 'SYN' : flags & FIN && !length ? 'FIN' : `Seq ${key}`} (${fates})`);
-    }
-    const ends = keyOf(turned(connection.ends));
+    const told = rangesOf(connection.unacknowledged, row).map(([left, right, frames]) =>
+        `${nameOf(left, right, frames[0])} (${fates(frames, row).map((pair) => pair.join(' ')).join(', ')})`);
+    const words = `no ACK yet of ${told.slice(0, 3).join('; ')}${told.length > 3 ? ' ..' : ''}`, ends = keyOf(turned(connection.ends));
     const acks = peerFrames.filter((frame) => frame.row <= row).slice(-64).filter((frame) => {
         const segment = frame.seen.tcp;
         return segment && keyOf(frame.seen.ends) === ends && segment.flags & ACK && segment.ackRel > connection.una &&
             !frame.taken.some((handing) => handing.taken <= row);
     });
-    if (acks.length) told.unshift(`ACK in ${acks.slice(0, 6).map((frame) => `${frame.host} ${frame.name} (${frame.fateAt(row)})`).join(', ')}`);
-    return told.slice(0, 4).join('; ') + (told.length > 4 ? ' ...' : '');
+    return words + (acks.length ? `; ${acks[0].host} sent it in ${fates(acks, row).map(([names, fate]) => `${names} (${fate})`).join(', ')}` : '');
 }
 
 // Why a connection may want to be polled: triples of a moment, null where it isn't known, a name and more words.
