@@ -218,17 +218,20 @@ class Script:
         if len(words) != 1:
             raise Bad(f"{A_TIME}, behind `run`")
         end, left = self.now + time_of(words[0]), MOST_POLLS
-        due = set(OTHER)
+        due, changed = set(OTHER), set()
         while True:
             while due:
                 for host in sorted(due):
                     left -= 1
                     if left < 0:
                         raise Bad(f"more than {MOST_POLLS} polls: the hosts don't come to rest")
-                    self.play(["poll", host, str(self.now), str(BUDGET)])
+                    (changed.add if self.play(["poll", host, str(self.now), str(BUDGET)]) == "changed" else changed.discard)(host)
                 due = self.hand_over()
             wakes = {host: self.wake(host) for host in OTHER}
-            # A host that still wants to be polled was polled at this moment, and waits for something else.
+            due = {host for host in changed if wakes[host] is not None and wakes[host] <= self.now}
+            if due:
+                continue
+            # A host that still wants to be polled did nothing when it was, and waits for something else.
             later = [it for it in (*wakes.values(), *(entry[0] for entry in self.on_link[:1])) if it is not None and it > self.now]
             if not later or min(later) > end:
                 break
