@@ -1,6 +1,8 @@
 /* A host on a TUN or TAP device of Linux that sends back what it gets: UDP and TCP at port 7, a page at port 80, and answers to pings.
  *
- *   tun NAME tun|tap ADDRESS PREFIX [ROUTER]        as root, the device made before: docs/guide/c_and_rust.md
+ *   tun NAME tun|tap ADDRESS PREFIX [ROUTER] [--pcap FILE]        as root, the device made before: docs/guide/c_and_rust.md
+ *
+ * FILE gets each frame that came and each that went, one by one, as Wireshark reads them; `-` is standard output: tun .. --pcap - | tshark -r -
  *
  * Frames go behind a header of virtio, many in one call (offload.h).
  */
@@ -59,6 +61,49 @@ static zv_address read_address(const char *text)
     return address;
 }
 
+/* The capture, if there is one. */
+static FILE *capture;
+
+/* A capture's numbers are in this machine's order, which the first of them tells. */
+static void put(uint32_t number)
+{
+    fwrite(&number, sizeof number, 1, capture);
+}
+
+/* Opens a capture of frames of this kind (LINKTYPE_ETHERNET or LINKTYPE_RAW). Says whether it is open. */
+static int capture_to(const char *name, int is_tap)
+{
+    const uint16_t version[] = {2, 4};
+    capture = strcmp(name, "-") == 0 ? stdout : fopen(name, "wb");
+    if (capture == NULL)
+        return 0;
+    put(0xa1b2c3d4);
+    fwrite(version, sizeof version, 1, capture);
+    put(0);
+    put(0);
+    put(OFFLOAD_LONGEST);
+    put(is_tap ? 1 : 101);
+    return fflush(capture) == 0;
+}
+
+/* Writes a frame that came or goes, with the time of day. Where it can't be written, the capture ends, and the host goes on. */
+static void capture_frame(const uint8_t *frame, size_t length)
+{
+    struct timespec t;
+    if (capture == NULL)
+        return;
+    clock_gettime(CLOCK_REALTIME, &t);
+    put((uint32_t)t.tv_sec);
+    put((uint32_t)(t.tv_nsec / 1000));
+    put((uint32_t)length);
+    put((uint32_t)length);
+    fwrite(frame, 1, length, capture);
+    if (fflush(capture) != 0) {
+        perror("tun: the capture ends");
+        capture = NULL;
+    }
+}
+
 /* Waits until the device has a frame, at most so many microseconds. */
 static void wait_for(int device, int64_t left)
 {
@@ -70,6 +115,7 @@ static struct offload joined;
 
 static void frame_in(void *host, const uint8_t *frame, size_t length)
 {
+    capture_frame(frame, length);
     zv_frame_in(host, frame, length);
 }
 
@@ -99,8 +145,10 @@ static int polled(zv_host *host, int64_t moment, uint16_t budget)
 static void send_frames(zv_host *host)
 {
     size_t count;
-    while (zv_frame_out(host, offload_room(&joined), OFFLOAD_LONGEST, &count) == ZV_OK)
+    while (zv_frame_out(host, offload_room(&joined), OFFLOAD_LONGEST, &count) == ZV_OK) {
+        capture_frame(offload_room(&joined), count);
         offload_out(&joined, count);
+    }
     offload_flush(&joined);
 }
 
@@ -258,11 +306,20 @@ static void run(zv_host *host, int device, struct sockets *it)
 int main(int count, char **words)
 {
     zv_host host = {0};
-    if (count < 5) {
-        fprintf(stderr, "usage: tun NAME tun|tap ADDRESS PREFIX [ROUTER]\n");
+    const char *file = NULL;
+    if (count > 6 && strcmp(words[count - 2], "--pcap") == 0) {
+        file = words[count - 1];
+        count -= 2;
+    }
+    if (count < 5 || count > 6) {
+        fprintf(stderr, "usage: tun NAME tun|tap ADDRESS PREFIX [ROUTER] [--pcap FILE]\n");
         return 2;
     }
     const int is_tap = strcmp(words[2], "tap") == 0;
+    if (file != NULL && !capture_to(file, is_tap)) {
+        perror("tun: capture");
+        return 1;
+    }
     const int device = offload_open(&joined, words[1], is_tap, O_NONBLOCK);
     if (device < 0) {
         perror("tun: device");

@@ -1,5 +1,4 @@
 """A row for each event: what stands beside each host's lane, and which frames leave there."""
-import textwrap
 from dataclasses import dataclass, field
 
 from history import OTHER
@@ -33,7 +32,12 @@ def bytes_text(count):
 
 def wrapped(words, lines=3):
     """A reason in at most so many lines of a lane."""
-    found = textwrap.wrap(words, 54)
+    found = []
+    for word in words.split(" "):
+        if found and len(found[-1]) + 1 + len(word) <= 54:
+            found[-1] += f" {word}"
+        else:
+            found.append(word)
     return found[:lines - 1] + [cut(" ".join(found[lines - 1:]), 56)] if len(found) >= lines else found
 
 

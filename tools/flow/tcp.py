@@ -63,22 +63,52 @@ class Connection:
         return words
 
 
+def fates(frames, row):
+    """What became of frames, those of one fate together: pairs of their names and the fate."""
+    found = {}
+    for frame in frames:
+        found.setdefault(frame.fate_at(row), []).append(frame.name)
+    return [(", ".join(names[:6]) + " .." * (len(names) > 6), fate) for fate, names in found.items()]
+
+
+def name_of(left, right, frame):
+    """What a segment has, in words."""
+    flags, length = frame.seen.tcp.flags, frame.seen.tcp.length
+    return "SYN" if flags & SYN else "FIN" if flags & FIN and not length else f"Seq {left}:{right}"
+
+
+def is_further(range_, frame, row):
+    """Whether a segment behind a range is told of with it: both are text, went once, and the same became of them."""
+    left, right, frames = range_
+    went_once = len({it.seen.tcp.seq_rel for it in frames}) == len(frames)
+    is_text = name_of(left, right, frames[0]) != "SYN" and name_of(right, right, frame) != "FIN"
+    return is_text and went_once and all(it.fate_at(row) == frame.fate_at(row) for it in frames)
+
+
+def ranges_of(frames, row):
+    """Segments by what they have: triples of the numbers and the frames. Neighbours that went once, and of which the same became, are one."""
+    found = []
+    for frame in sorted(frames, key=lambda it: (it.seen.tcp.seq_rel, it.seen.tcp.end, it.number)):
+        left, right, last = frame.seen.tcp.seq_rel, frame.seen.tcp.end, found[-1] if found else None
+        if last and last[:2] == [left, right]:
+            last[2].append(frame)
+        elif last and last[1] == left and is_further(last, frame, row):
+            last[1] = right
+            last[2].append(frame)
+        else:
+            found.append([left, right, [frame]])
+    return found
+
+
 def why_unacknowledged(connection, peer_frames, row):
-    """What became of the frames that are not acknowledged, and of the acknowledgements of them."""
-    ranges = {}
-    for frame in connection.unacknowledged:
-        ranges.setdefault((frame.seen.tcp.seq_rel, frame.seen.tcp.end), []).append(frame)
-    told = []
-    for (left, right), frames in ranges.items():
-        flags, length = frames[0].seen.tcp.flags, frames[0].seen.tcp.length
-        fates = ", ".join(f"{frame.name} {frame.fate_at(row)}" for frame in frames)
-        told.append(("SYN" if flags & SYN else "FIN" if flags & FIN and not length else f"Seq {left}:{right}") + f" ({fates})")
+    """What isn't acknowledged and what became of it, and of the acknowledgements of it."""
+    told = [f"{name_of(left, right, frames[0])} ({', '.join(map(' '.join, fates(frames, row)))})"
+            for left, right, frames in ranges_of(connection.unacknowledged, row)]
+    words = "no ACK yet of " + "; ".join(told[:3]) + (" .." if len(told) > 3 else "")
     before = peer_frames[: bisect.bisect_right(peer_frames, row, key=lambda frame: frame.row)][-64:]
     acks = [f for f in before if f.seen.tcp and f.seen.ends == (connection.remote, connection.local)
             and f.seen.tcp.flags & ACK and f.seen.tcp.ack_rel > connection.una and not any(h.taken <= row for h in f.taken)]
-    if acks:
-        told.insert(0, "ACK in " + ", ".join(f"{f.host} {f.name} ({f.fate_at(row)})" for f in acks[:6]))
-    return "; ".join(told[:4]) + (" ..." if len(told) > 4 else "")
+    return words + (f"; {acks[0].host} sent it in " + ", ".join(f"{names} ({fate})" for names, fate in fates(acks, row)) if acks else "")
 
 
 def timers(connection, state, queued, peer_frames, row):

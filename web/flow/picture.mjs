@@ -1,0 +1,54 @@
+// What is drawn of a script, as XHTML. As tools/flow/page.py.
+import {hexOf} from './frames.mjs';
+import {graphs} from './graph.mjs';
+import {History} from './history.mjs';
+import {Lanes, WIDTH} from './lanes.mjs';
+import {Rows} from './rows.mjs';
+import {cut, element, escaped, line, text} from './svg.mjs';
+import {counts, errors, remarks} from './words.mjs';
+
+const LEGEND = [['arrow sent', 'a frame, from the poll that sent it to the one that took it'], ['arrow lost', 'LOST: it was never delivered'],
+                ['arrow again', 'delivered again, or late (out of order)'], ['arrow damaged', 'damaged on the link'],
+                ['arrow cut', 'to where it was fragmented'], ['arrow noise', 'noise: bytes that no host sent'],
+                ['arrow sent waits', 'pale: delivered, but not taken by a poll yet'], ['wait', 'from where a host wants a poll to the poll'],
+                ['wait unanswered', "nobody polled it before the script's end"], ['bar', 'numbers: a segment'],
+                ['bar again', 'numbers: a retransmission'], ['bar lost', 'numbers: lost'], ['acked', 'numbers: acknowledged'],
+                ['allowed', 'numbers: allowed by the window'], ['sack', 'numbers: received out of order (SACK)']];
+
+export function legend() {
+    const parts = [element('rect', '', {x: 0, y: 0, width: WIDTH, height: 104, class: 'paper'})];
+    LEGEND.forEach(([class_, words], k) => {
+        const x = 10 + Math.floor(k / 5) * 480, y = 14 + k % 5 * 20;
+        parts.push(line(x, y - 4, x + 46, y - 4, class_), text(x + 58, y, words, 'dim'));
+        if (class_ === 'arrow lost') {
+            parts.push(element('path', '', {d: 'M-6 -6L6 6M-6 6L6 -6', transform: `translate(${x + 46} ${y - 4})`, class: 'cross'}));
+        }
+    });
+    return element('svg', parts.join(''), {width: WIDTH, height: 104, viewBox: `0 0 ${WIDTH} 104`, xmlns: 'http://www.w3.org/2000/svg'});
+}
+
+// All frames with text and bytes.
+function table(history) {
+    const rows = history.allFrames().map((frame) => {
+        const cells = [`${frame.host} ${frame.name}`, frame.seen.text, frame.fate].map((cell) => element('td', escaped(cell)));
+        return element('tr', cells.join('') + element('td', element('code', escaped(hexOf(frame.data)) || '-', {class: 'bytes'})));
+    });
+    const head = element('tr', ['frame', 'says', 'became', 'bytes'].map((name) => element('th', name)).join(''));
+    return element('details', element('summary', `All frames (${rows.length})`) + element('table', element('tbody', head + rows.join(''))));
+}
+
+function ending(run) {
+    return run.ended ? element('p', escaped(`The script ended early: ${run.ended}`), {class: 'bad'}) : '';
+}
+
+// What is drawn of a run.
+export function section(run) {
+    if (!run.steps.length) return element('p', escaped('Nothing ran.')) + ending(run);
+    const history = new History(run), rows = new Rows(history), lanes = new Lanes(rows, history);
+    const said = remarks(history, rows).map(([name, words]) => element('li', element('b', escaped(`${name}: `)) + escaped(cut(words, 1000))));
+    said.push(...errors(history).map((step) => element('li', element('b', 'Refused: ') +
+        escaped(cut(`line ${step.number}, \`${step.line}\`: ${step.said}`, 300)), {class: 'bad'})));
+    return [element('p', element('code', escaped(run.header.join('; ')))), element('p', element('b', escaped(counts(history)))), ending(run),
+            element('ul', said.join('')), element('div', graphs(history).join('') || '&#8203;'), element('div', lanes.parts().join('')),
+            table(history)].join('');
+}
