@@ -1,7 +1,8 @@
 /* A host on a TUN or TAP device of Linux that sends back what it gets: UDP and TCP at port 7, a page at port 80, and answers to pings.
  *
- *   tun NAME tun|tap ADDRESS PREFIX [ROUTER] [--pcap FILE]        as root, the device made before: docs/guide/c_and_rust.md
+ *   tun NAME tun|tap ADDRESS PREFIX [ROUTER] [--trace] [--pcap FILE]        as root, the device made before: docs/guide/c_and_rust.md
  *
+ * --trace writes a line of text for each frame on standard error.
  * FILE gets each frame that came and each that went, one by one, as Wireshark reads them; `-` is standard output: tun .. --pcap - | tshark -r -
  *
  * Frames go behind a header of virtio, many in one call (offload.h).
@@ -104,6 +105,19 @@ static void capture_frame(const uint8_t *frame, size_t length)
     }
 }
 
+/* Whether each frame is written as a line of text, too. */
+static int is_traced;
+
+/* Shows a frame that came (sent is 0) or goes to who looks on. */
+static void show_frame(zv_host *host, uint8_t sent, const uint8_t *frame, size_t length)
+{
+    uint8_t line[400];
+    size_t count;
+    capture_frame(frame, length);
+    if (is_traced && zv_trace_line(host, now(), sent, frame, length, line, sizeof line, &count) == ZV_OK)
+        fwrite(line, 1, count, stderr);
+}
+
 /* Waits until the device has a frame, at most so many microseconds. */
 static void wait_for(int device, int64_t left)
 {
@@ -115,7 +129,7 @@ static struct offload joined;
 
 static void frame_in(void *host, const uint8_t *frame, size_t length)
 {
-    capture_frame(frame, length);
+    show_frame(host, 0, frame, length);
     zv_frame_in(host, frame, length);
 }
 
@@ -146,7 +160,7 @@ static void send_frames(zv_host *host)
 {
     size_t count;
     while (zv_frame_out(host, offload_room(&joined), OFFLOAD_LONGEST, &count) == ZV_OK) {
-        capture_frame(offload_room(&joined), count);
+        show_frame(host, 1, offload_room(&joined), count);
         offload_out(&joined, count);
     }
     offload_flush(&joined);
@@ -311,8 +325,12 @@ int main(int count, char **words)
         file = words[count - 1];
         count -= 2;
     }
+    if (count > 5 && strcmp(words[count - 1], "--trace") == 0) {
+        is_traced = 1;
+        count--;
+    }
     if (count < 5 || count > 6) {
-        fprintf(stderr, "usage: tun NAME tun|tap ADDRESS PREFIX [ROUTER] [--pcap FILE]\n");
+        fprintf(stderr, "usage: tun NAME tun|tap ADDRESS PREFIX [ROUTER] [--trace] [--pcap FILE]\n");
         return 2;
     }
     const int is_tap = strcmp(words[2], "tap") == 0;
