@@ -1,4 +1,4 @@
-use Rattle.std.proofs.Common.{ℤ, Option, Some, None, subst}
+use Rattle.std.proofs.Common.{ℤ, Option, Some, None, inl, inr, subst}
 use Rattle.lan.specs.Worlds.AtLink.Runs.{WorldValue}
 use Rattle.lan.specs.Worlds.Settling.{Goes, NextRound}
 use Rattle.lan.proofs.Worlds.Settles.{proceeds, one_round_more, rests, the_last_round}
@@ -42,3 +42,25 @@ loop-round-preserved c = record {
       (subst (λ (next : Option ℤ). NextRound c.loop-round.instant c.loop-round.handed next c.serve_both.new.self c.next_round.new.self)
       c.in-Some.is c.in_ok-next.ensures.next);
 }
+
+pub returns-in_err-now-clause-refused : goal.returns-in_err-now-clause-refused
+returns-in_err-now-clause-refused c = (
+  c.loop-round._round,
+  c.loop-round-test.true,
+  c.loop-round.instant,
+  c.loop-round.handed,
+  c.loop-round.self,
+  c.loop-round.invariant.rounds,
+  inl c.in_err-now.ensures.refused,
+)
+
+pub returns-in_err-next-clause-refused : goal.returns-in_err-next-clause-refused
+returns-in_err-next-clause-refused c = (
+  c.loop-round._round,
+  c.loop-round-test.true,
+  c.loop-round.instant,
+  c.loop-round.handed,
+  c.loop-round.self,
+  c.loop-round.invariant.rounds,
+  inr (c.in_ok-now.now, c.serve_both.new.self, c.in_ok-now.ensures.served, c.in_err-next.ensures.refused),
+)
