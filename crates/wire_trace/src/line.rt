@@ -45,19 +45,28 @@ fn put_headers(lines: &str, text: &mut String) -> Result<(), AllocError> {
         if number > 0 {
             text.push_str(", ")?;
         }
-        text.push_str(before_details(line))?;
+        put_header(line, text)?;
     }
     text.push_str("\n")
 }
 
-/// A line without its details, and without bytes in hex.
-fn before_details(line: &str) -> &str {
-    let head = match line.split_once("; ") {
-        Some((head, _)) => head,
-        None => line,
-    };
+/// A line without its details, and without bytes in hex. Of a packet from `::` the colon in front of a space isn't that of the bytes.
+fn put_header(line: &str, text: &mut String) -> Result<(), AllocError> {
+    let head = before(line, "; ");
     match head.split_once(": ") {
-        Some((head, _)) => head,
-        None => head,
+        Some((front, rest)) if front.ends_with(":") => {
+            text.push_str(front)?;
+            text.push_str(": ")?;
+            text.push_str(before(rest, ": "))
+        }
+        _ => text.push_str(before(head, ": ")),
+    }
+}
+
+/// What stands before a mark, or all.
+fn before<'a>(text: &'a str, mark: &str) -> &'a str {
+    match text.split_once(mark) {
+        Some((front, _)) => front,
+        None => text,
     }
 }
