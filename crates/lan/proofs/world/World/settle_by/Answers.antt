@@ -1,6 +1,8 @@
-use Rattle.std.proofs.Common.{ℤ, Option, Some, None, inl, inr, subst}
+use Rattle.std.proofs.Common.{◌≡◌, ℤ, Option, Some, None, Result, Err, IfErr, inl, inr, sym, subst}
+use Rattle.std.proofs.lemmas.Result.{err_from_is_err_and}
+use Rattle.lan.specs.declared.at_link.history.answer.Refused.{Refused}
 use Rattle.lan.specs.Worlds.AtLink.Runs.{WorldValue}
-use Rattle.lan.specs.Worlds.Settling.{Goes, NextRound}
+use Rattle.lan.specs.Worlds.Settling.{Goes, NextRound, StopsSettling}
 use Rattle.lan.proofs.Worlds.Settles.{proceeds, one_round_more, rests, the_last_round}
 use Rattle.lan.proofs.world.World.settle_by.Goals as goal
 
@@ -44,23 +46,31 @@ loop-round-preserved c = record {
 }
 
 pub returns-in_err-now-clause-refused : goal.returns-in_err-now-clause-refused
-returns-in_err-now-clause-refused c = (
-  c.loop-round._round,
-  c.loop-round-test.true,
-  c.loop-round.instant,
-  c.loop-round.handed,
-  c.loop-round.self,
-  c.loop-round.invariant.rounds,
-  inl c.in_err-now.ensures.refused,
-)
+returns-in_err-now-clause-refused c =
+    let it = err_from_is_err_and c.from_residual.result c.from_residual.ensures.1 in
+    let same : c.from_residual.result ≡ Err c.in_err-now.field-0.0 = cc (it.1, it.2) in
+    subst (λ (r : Result (Option ℤ) Refused).
+    IfErr r (λ refused. StopsSettling c.args.budget c.args.from c.args.rounds refused c.args.self.now c.serve_both.new.self)) (sym same) (
+      c.loop-round._round,
+      c.loop-round-test.true,
+      c.loop-round.instant,
+      c.loop-round.handed,
+      c.loop-round.self,
+      c.loop-round.invariant.rounds,
+      inl c.in_err-now.ensures.refused,
+    )
 
 pub returns-in_err-next-clause-refused : goal.returns-in_err-next-clause-refused
-returns-in_err-next-clause-refused c = (
-  c.loop-round._round,
-  c.loop-round-test.true,
-  c.loop-round.instant,
-  c.loop-round.handed,
-  c.loop-round.self,
-  c.loop-round.invariant.rounds,
-  inr (c.in_ok-now.now, c.serve_both.new.self, c.in_ok-now.ensures.served, c.in_err-next.ensures.refused),
-)
+returns-in_err-next-clause-refused c =
+    let it = err_from_is_err_and c.from_residual-in_err-next.result c.from_residual-in_err-next.ensures.1 in
+    let same : c.from_residual-in_err-next.result ≡ Err c.in_err-next.field-0.0 = cc (it.1, it.2) in
+    subst (λ (r : Result (Option ℤ) Refused).
+    IfErr r (λ refused. StopsSettling c.args.budget c.args.from c.args.rounds refused c.args.self.now c.next_round.new.self)) (sym same) (
+      c.loop-round._round,
+      c.loop-round-test.true,
+      c.loop-round.instant,
+      c.loop-round.handed,
+      c.loop-round.self,
+      c.loop-round.invariant.rounds,
+      inr (c.in_ok-now.now, c.serve_both.new.self, c.in_ok-now.ensures.served, c.in_err-next.ensures.refused),
+    )
