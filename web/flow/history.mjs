@@ -127,7 +127,7 @@ export class History {
         }
         const padding = bytesOfHex(words.at(-1).replaceAll('-', ''));
         if (padding.length) notes.push(`+ ${padding.length} bytes of padding`);
-        const data = Uint8Array.from([...frame.data, ...padding]);
+        const data = padding.length ? Uint8Array.from([...frame.data, ...padding]) : frame.data;
         const handing = new Handing(words[0], OTHER[host], row, data, frame, frame.seen, notes.join(', '));
         handing.isLate = !handing.isAgain && frame.number < this.latest[host] && frame.parent === null;
         this.latest[host] = Math.max(this.latest[host], frame.number);

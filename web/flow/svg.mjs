@@ -11,8 +11,12 @@ function shown(char) {
     return NAMED[char] ?? char;
 }
 
+// Texts of nothing but these characters, as most are, stay as they are.
+const PLAIN = /^[ !#-%(-;=?-~]*$/;
+
 export function escaped(text) {
-    return Array.from(String(text), shown).join('');
+    const words = String(text);
+    return PLAIN.test(words) ? words : Array.from(words, shown).join('');
 }
 
 // An element. `content` is XML already; the values of attributes are texts, and one that is null is left out.
