@@ -1,0 +1,3 @@
+pub mod Members
+pub mod Histories
+pub mod Queriers

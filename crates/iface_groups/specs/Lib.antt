@@ -1,0 +1,5 @@
+pub mod Member
+pub mod Query
+pub mod Querier
+pub mod Counts
+pub mod History

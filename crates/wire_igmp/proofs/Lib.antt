@@ -1,0 +1,4 @@
+pub mod Messages
+pub mod Written
+pub mod Equal
+pub mod Records

@@ -1,0 +1,3 @@
+pub mod IgmpMessage
+pub mod GroupRecord
+pub mod Igmp

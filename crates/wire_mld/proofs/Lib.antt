@@ -1,0 +1,3 @@
+pub mod Messages
+pub mod Written
+pub mod Equal

@@ -1,0 +1,2 @@
+pub mod MldMessage
+pub mod Mld
