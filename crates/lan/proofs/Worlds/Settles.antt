@@ -10,7 +10,7 @@ use Rattle.lan.specs.declared.at_link.history.event.Event.{Event}
 use Rattle.lan.specs.declared.at_link.history.event.Event.TheVariants as E
 use Rattle.lan.specs.declared.at_link.history.event.Side.{Side}
 use Rattle.lan.specs.Worlds.AtLink.Runs.{Step, Steps, WorldValue}
-use Rattle.lan.specs.Worlds.Settling.{AreIdle, AreServed, Goes, Handed, IsService, NextRound, Rounds, Settles, Stops, StopsHanding, deliveries}
+use Rattle.lan.specs.Worlds.Settling.{AreIdle, AreServed, Goes, Handed, IsService, NextRound, Rounds, Settles, Stops, deliveries}
 
 pub goes_not : (w : WorldValue) → Goes w w
 goes_not w = ([], tt, refl)
@@ -96,17 +96,3 @@ the_last_round budget from instant handed now n rounds first old served new belo
 pub stops : (old new : WorldValue) (event : Event) (r : Result Answer Refused) → OnErr r (new ≡ old) → IfErr r (Stops old event) → IfErr r (Stops new event)
 stops old new event (Ok answer) same is = tt
 stops old new event (Err refused) same is = subst (λ (w : WorldValue). Stops w event refused) (sym same) is
-
--- the frame behind those that were handed over
-pub stops_handing : (old mid new : WorldValue) (side : Side) (from frame to : ℕ) (padding : List ℕ) (refused : Refused) → from ≤ frame → frame < to
-    → padding ≡ [] → Steps old (deliveries side from (frame - from)) mid → new ≡ mid → Stops new (E.Deliver side frame padding) refused
-    → StopsHanding side from (to - from) refused old new
-stops_handing old mid new side from frame to padding refused above below bare before same is =
-    let slot : frame ≡ from + (frame - from) = omega arith in
-    let within : frame - from < to - from = omega arith in
-    let plain : Stops new (E.Deliver side frame []) refused = subst (λ (p : List ℕ). Stops new (E.Deliver side frame p) refused) bare is in (
-      frame - from,
-      within,
-      subst (λ (w : WorldValue). Steps old (deliveries side from (frame - from)) w) (sym same) before,
-      subst (λ (m : ℕ). Stops new (E.Deliver side m []) refused) slot plain,
-    )

@@ -135,7 +135,7 @@ StopsAsking instant handed refused old new =
 abbrev pub StopsRound : ℤ → ℕ → Handed → Refused → WorldValue → WorldValue → Type 0
 StopsRound instant budget handed refused old new =
     StopsServingBoth instant budget handed refused old new
-    ⊎ ((now : Handed) × (served : WorldValue) × AreServed instant budget handed now old served × StopsAsking instant now refused served new)
+    ⊎ ((now : Handed) × (served : WorldValue) × AreServed instant budget handed now old served × StopsAsking instant handed refused served new)
 
 -- settling ends early where the next event of a round, behind whole rounds, is one that the world refuses: at once only where that is the first
 abbrev pub StopsSettling : ℕ → ℤ → ℕ → Refused → WorldValue → WorldValue → Type 0
