@@ -1,5 +1,5 @@
 -- When messages are equal.
-use Rattle.std.proofs.Common.{rules, ◌≡◌, ℕ, ap}
+use Rattle.std.proofs.Common.{rules, ◌≡◌, ap}
 use Rattle.std.specs.Bool.{Decides}
 use Rattle.std.specs.Cmp.{booleans_Decides}
 use Rattle.std.proofs.lemmas.Bool.Decides.{Decides-and, Decides-eqb}

@@ -8,7 +8,7 @@ use Rattle.wire_address.proofs.Peel.{peel8, peel16, peel_to, length-slice_range}
 use Rattle.wire_address.specs.Address.{IsIpv4Address}
 use Rattle.wire_address.specs.Fields.{be16, IsBytes}
 use Rattle.wire_address.specs.declared.ipv4.Ipv4Address.{Ipv4Address}
-use Rattle.wire_igmp.specs.Igmp.{IsIgmp, IsWhole, Says, Fits, IsValue, IsOfGroup, carried_in, front, free_fields, spelling}
+use Rattle.wire_igmp.specs.Igmp.{IsIgmp, Says, Fits, IsValue, carried_in, front, free_fields, spelling}
 use Rattle.wire_igmp.specs.IgmpMessage.{report_number}
 use Rattle.wire_igmp.specs.declared.message.IgmpVersion.{IgmpVersion}
 use Rattle.wire_igmp.specs.declared.message.IgmpVersion.TheVariants as Version

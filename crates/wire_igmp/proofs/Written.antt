@@ -1,13 +1,12 @@
 -- A message that is sent, and read back.
-use Rattle.std.proofs.Common.{◌≡◌, ℕ, ◌+◌, ◌*◌, ◌/◌, ◌%◌, ◌<◌, ◌≤◌, Bool, true, false, List, [], ◌∷◌, ◌++◌, length, drop, slice_index, refl, sym, ap, subst, arith}
+use Rattle.std.proofs.Common.{◌≡◌, ℕ, ◌+◌, ◌*◌, ◌/◌, ◌%◌, ◌<◌, ◌≤◌, Bool, true, false, List, [], ◌∷◌, length, slice_index, refl, sym, ap, subst, arith}
 use Rattle.std.specs.Prelude.{if◌then◌else◌, ◌==◌}
 use Rattle.wire_address.proofs.Sums.{ChecksumHolds-complement}
 use Rattle.wire_address.specs.Address.{IsIpv4Address}
 use Rattle.wire_address.specs.Fields.{put16}
 use Rattle.wire_address.specs.Sum.{word_sum, ChecksumHolds, complement}
 use Rattle.wire_address.specs.declared.ipv4.Ipv4Address.{Ipv4Address}
-use Rattle.wire_igmp.specs.GroupRecord.{AreRecords}
-use Rattle.wire_igmp.specs.Igmp.{IsIgmp, IsWhole, Says, IsValue, CanCarry, carried_in, header_len, spelling, sent_fields, written}
+use Rattle.wire_igmp.specs.Igmp.{IsIgmp, Says, IsValue, CanCarry, carried_in, header_len, spelling, sent_fields, written}
 use Rattle.wire_igmp.specs.declared.repr.IgmpRepr.{IgmpRepr}
 use Rattle.wire_igmp.specs.declared.repr.IgmpRepr.TheVariants as Repr
 

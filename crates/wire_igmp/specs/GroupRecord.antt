@@ -1,7 +1,7 @@
 -- Group records of IGMPv3 (RFC 3376, section 4.2.4), and of MLDv2 (RFC 3810, section 5.2.4), which differ in the width of
 -- their addresses: type, length of the auxiliary data in words of four bytes, number of sources, the group, the sources,
 -- the auxiliary data.
-use Rattle.std.specs.Prelude.{◌≡◌, ℕ, zero, suc, ◌+◌, ◌*◌, ◌≤◌, ◌==◌, if◌then◌else◌, List, [], ◌∷◌, length, take, drop, slice_index, codes, decimal}
+use Rattle.std.specs.Prelude.{◌≡◌, ℕ, zero, suc, ◌+◌, ◌*◌, ◌≤◌, ◌==◌, if◌then◌else◌, List, ◌∷◌, length, take, drop, slice_index, codes, decimal}
 use Rattle.wire_address.specs.Fields.{be16}
 use Rattle.wire_igmp.specs.declared.group_record.GroupRecord.{GroupRecord}
 use Rattle.wire_igmp.specs.declared.group_record.RecordType.{RecordType}

@@ -9,8 +9,6 @@ use Rattle.wire_address.specs.Sum.{word_sum, ChecksumHolds, complement}
 use Rattle.wire_address.specs.declared.ipv4.Ipv4Address.{Ipv4Address}
 use Rattle.wire_igmp.specs.GroupRecord.{AreRecords}
 use Rattle.wire_igmp.specs.IgmpMessage.{report_number}
-use Rattle.wire_igmp.specs.declared.message.IgmpVersion.{IgmpVersion}
-use Rattle.wire_igmp.specs.declared.message.IgmpVersion.TheVariants as Version
 use Rattle.wire_igmp.specs.declared.packet.IgmpPacket.{IgmpPacket}
 use Rattle.wire_igmp.specs.declared.packet_mut.IgmpPacketMut.{IgmpPacketMut}
 use Rattle.wire_igmp.specs.declared.repr.IgmpRepr.{IgmpRepr}
@@ -39,15 +37,6 @@ IsChecked bytes = ChecksumHolds (word_sum bytes)
 -- the bytes with the message's checksum in its field
 abbrev pub with_checksum : List ℕ → List ℕ
 with_checksum bytes = put16 bytes 2 (complement (word_sum (put16 bytes 2 0)))
-
--- the version of a query of eight bytes with this code (RFC 3376, section 7.1)
-abbrev pub version_of : ℕ → IgmpVersion
-version_of code = if code == 0 then Version.Version1 else Version.Version2
-
--- how many tenths of a second an answer to a query of version 3 may take (RFC 3376, section 4.1.1): from 128 on the code is
--- a floating-point number, of four bits of mantissa and three of exponent
-abbrev pub max_resp_time : ℕ → ℕ
-max_resp_time code = if code / 128 == 0 then code else (16 + code % 16) * 2 ^ (code / 16 % 8 + 3)
 
 -- a query of version 1 or 2 has exactly eight bytes (RFC 3376, section 7.1)
 pub record IsQuery (bytes : List ℕ) (code : ℕ) (group : Ipv4Address) : Type 0 where

@@ -46,11 +46,6 @@ checksum_of source destination bytes = complement (covered source destination by
 abbrev pub with_checksum : Ipv6Address → Ipv6Address → List ℕ → List ℕ
 with_checksum source destination bytes = put16 bytes 2 (checksum_of source destination (put16 bytes 2 0))
 
--- how many milliseconds an answer to a query of version 2 may take (RFC 3810, section 5.1.3): from 32,768 on the code is a
--- floating-point number, of twelve bits of mantissa and three of exponent
-abbrev pub max_resp_delay : ℕ → ℕ
-max_resp_delay code = if code / 32768 == 0 then code else (4096 + code % 4096) * 2 ^ (code / 4096 % 8 + 3)
-
 -- a query of version 1 has exactly 24 bytes (RFC 3810, section 8.1)
 pub record IsQueryV1 (bytes : List ℕ) (code : ℕ) (group : Ipv6Address) : Type 0 where
   pub kind : slice_index bytes 0 ≡ 130
