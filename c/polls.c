@@ -50,6 +50,12 @@ static void see(const uint8_t *bytes, size_t length)
         seen = (seen ^ bytes[i]) * 0x100000001b3;
 }
 
+/* A queue may be full: then a later turn writes. */
+static void try_to(uint32_t code)
+{
+    (void)code;
+}
+
 static void must(const char *what, uint32_t code)
 {
     if (code == ZV_OK)
@@ -158,7 +164,7 @@ static void talk(int64_t now, uint16_t many)
         zv_udp_send(&hosts[0], first + (size_t)(k % many), bytes, (size_t)(k % 200), &remote, &any);
         if (k % 16 == 0)
             zv_icmp_send(&hosts[0], icmp, ping, sizeof ping, &to);
-        zv_tcp_send(&hosts[0], tcp[0], bytes, 300, &length);
+        try_to(zv_tcp_send(&hosts[0], tcp[0], bytes, 300, &length));
         turn(now + k * 50000);
         if (accepted == SIZE_MAX && zv_listener_accept(&hosts[1], listener, &length) == ZV_OK)
             accepted = length;
@@ -166,7 +172,7 @@ static void talk(int64_t now, uint16_t many)
             take_udp(first + n);
         while (accepted != SIZE_MAX && zv_tcp_recv(&hosts[1], accepted, bytes, sizeof bytes, &length) == ZV_OK && length != 0) {
             see(bytes, length);
-            zv_tcp_send(&hosts[1], accepted, bytes, length / 2, &length);
+            try_to(zv_tcp_send(&hosts[1], accepted, bytes, length / 2, &length));
         }
         while (zv_tcp_recv(&hosts[0], tcp[0], bytes, sizeof bytes, &length) == ZV_OK && length != 0)
             see(bytes, length);
