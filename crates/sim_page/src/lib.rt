@@ -1,10 +1,8 @@
 //! The simulator as a static library: a script in, its answers out. `tools/page` puts it into a page.
-//!
-//! `script::play` has the contract. The export stands in a file of its own, as a clause of what C calls may rest on no definition that leads to
-//! what is made for proofs.
 #![tactic(auto)]
 
-ghost use Rattle.std.specs.Prelude.{◌≡◌, ◌≤◌};
+ghost use Rattle.std.specs.Prelude.{◌≡◌, ◌≢◌, ◌≤◌, ◌++◌, ℕ, List, length, take, drop};
+ghost use Rattle.lan.specs.Scripts.{IsReplay};
 
 mod script;
 
@@ -21,6 +19,10 @@ pub extern "C" fn sim_page_play(
     count: &mut usize,
 ) -> u32
     ensures status { result ≤ 2 }
+    ensures plays { result ≢ 2 → (output : List ℕ)
+        × IsReplay script.now output result
+        × (count.new ≡ length output)
+        × (answers.new ≡ take (length answers.old) output ++ drop (length output) answers.old) }
     ensures unplayed { result ≡ 2 → (count.new ≡ count.old) × (answers.new ≡ answers.old) }
 {
     play(alloc, script, answers, count)
