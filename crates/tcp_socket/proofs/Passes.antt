@@ -30,7 +30,7 @@ use Rattle.tcp_block.specs.OpenOffer.{OpenOffer}
 use Rattle.tcp_socket.proofs.Answered.{received_draws}
 use Rattle.tcp_socket.proofs.Steps.{value_of, Leads}
 use Rattle.tcp_socket.specs.Receive.{in_order}
-use Rattle.tcp_socket.specs.FastPath.{is_established, arrives_next, is_in_fast_path, stored, advanced, content_by, taken_by}
+use Rattle.tcp_socket.specs.FastPath.{IsStoredAs, is_established, arrives_next, is_in_fast_path, stored, advanced, content_by, taken_by}
 
 -- AN OPEN CONNECTION STAYS OPEN, AND RCV.NXT STAYS, WHILE AN ACKNOWLEDGEMENT AND A WINDOW ARE TAKEN
 
@@ -158,7 +158,7 @@ pub record Goes (now : ℤ) (v : TcpValue) (header : TcpHeader) (bytes : List �
   pub state : v.tcb.state ≡ In.Established
   pub unoffered : v.offered ≡ None
   pub free : has_out_of_order v ≡ false
-  pub some : (length bytes == 0) ≡ false
+  pub room : nat_lt 0 (free_in v) ≡ true
   pub fits : nat_le (length bytes) (free_in v) ≡ true
   pub no_syn : is_syn header.control ≡ false
   pub no_rst : is_rst header.control ≡ false
@@ -190,13 +190,13 @@ goes now v header bytes is =
     let e = and_parts (not (is_syn header.control || is_rst header.control)) _ d.1 in
     let f = and_parts (not (challenges_first v.tcb header now)) _ e.1 in
     let g = and_parts (v.tcb.receiver.next.0 == header.seq_number.0) _ d.0 in
-    let h = and_parts (not (length bytes == 0)) _ g.1 in
+    let h = and_parts (nat_lt 0 (free_in v)) _ g.1 in
     let control = neither (is_syn header.control) (is_rst header.control) e.0 in
     record {
       state = open_is v.tcb.state a.0;
       unoffered = none_is v.offered (isnt (is_some v.offered) b.0);
       free = isnt (has_out_of_order v) c.0;
-      some = isnt (length bytes == 0) h.0;
+      room = h.0;
       fits = h.1;
       no_syn = control.0;
       no_rst = control.1;
@@ -250,21 +250,38 @@ arrives_open cx v ip header bytes by g next passes =
     ∙ taken_else (challenges_first v.tcb header cx.instant) (drawn cx v ip header) (checked check cx v ip header bytes) g.initial
     ∙ ap (λ (c : Check). checked c cx v ip header bytes) passes
     ∙ taken_then (is_in_window v.tcb (free_in v) header size) (inside cx v ip header bytes by) (passed_outside cx v ip header size by)
-    (meets v.tcb (free_in v) header size next (some_room size (free_in v) g.some g.fits))
+    (meets v.tcb (free_in v) header size next g.room)
     ∙ taken_else (is_syn header.control) (drawn cx v ip header) (taken cx v ip header bytes by) g.no_syn
 
--- the calls that take it
-pub one_pass_leads : (cx : ContextValue) (b : Tcb) (r r2 : Received) (q : Ring ℕ) (o : Option OpenOffer) (v : TcpValue) (ip : IpRepr) (header : TcpHeader)
-    (bytes : List ℕ) (by n : ℕ) (answer : Option Reply) (socket : TcpValue)
-    → value_of b r q o ≡ v → Goes cx.instant v header bytes → distance_of v.tcb.receiver.next header.seq_number ≡ 0
+-- the calls that take it, with its payload stored or with none
+with_payload_leads : (cx : ContextValue) (b : Tcb) (r r2 : Received) (q : Ring ℕ) (o : Option OpenOffer) (v : TcpValue) (ip : IpRepr) (header : TcpHeader)
+    (bytes : List ℕ) (by n : ℕ)
+    → value_of b r q o ≡ v → Goes cx.instant v header bytes → (length bytes == 0) ≡ false → distance_of v.tcb.receiver.next header.seq_number ≡ 0
     → acknowledgement_check v.tcb header.ack_number ≡ Passes by → n ≡ length (front (store r.map 0 bytes)) → r2 ≡ in_order r bytes
-    → answer ≡ (taken_by (Some n) cx (value_of b r2 q o) ip header bytes by).answer
-    → socket ≡ (taken_by (Some n) cx (value_of b r2 q o) ip header bytes by).socket → Leads (arrives cx v ip header bytes) answer socket
-one_pass_leads cx b r r2 q o v ip header bytes by n answer socket is g next passes n_is r2_is a s =
+    → taken_by (Some n) cx (value_of b r2 q o) ip header bytes by ≡ arrives cx v ip header bytes
+with_payload_leads cx b r r2 q o v ip header bytes by n is g some next passes n_is r2_is =
     let kept : value_of b r2 q o ≡ stored v bytes = ap (λ (x : Received). value_of b x q o) r2_is ∙ ap (λ (w : TcpValue). stored w bytes) is in
     let count : n ≡ comes_to v bytes = n_is ∙ ap (λ (w : TcpValue). comes_to w bytes) is in
-    let all : taken_by (Some n) cx (value_of b r2 q o) ip header bytes by ≡ arrives cx v ip header bytes =
     ap (λ (w : TcpValue). taken_by (Some n) cx w ip header bytes by) kept
-    ∙ stored_leads cx v ip header bytes by n g.state next g.some g.fits g.free count ∙ sym (arrives_open cx v ip header bytes by g next passes)
-    in
-    record { answer = a ∙ ap (λ (x : Arrived). x.answer) all; socket = s ∙ ap (λ (x : Arrived). x.socket) all }
+    ∙ stored_leads cx v ip header bytes by n g.state next some g.fits g.free count ∙ sym (arrives_open cx v ip header bytes by g next passes)
+
+leads_to : (s : Option ℕ) (cx : ContextValue) (b : Tcb) (r r2 : Received) (q : Ring ℕ) (o : Option OpenOffer) (v : TcpValue) (ip : IpRepr) (header : TcpHeader)
+    (bytes : List ℕ) (by : ℕ)
+    → value_of b r q o ≡ v → Goes cx.instant v header bytes → distance_of v.tcb.receiver.next header.seq_number ≡ 0
+    → acknowledgement_check v.tcb header.ack_number ≡ Passes by → IsStoredAs s r bytes r2
+    → taken_by s cx (value_of b r2 q o) ip header bytes by ≡ arrives cx v ip header bytes
+leads_to None cx b r r2 q o v ip header bytes by is g next passes kept =
+    ap (λ (w : TcpValue). taken_by None cx w ip header bytes by) (ap (λ (x : Received). value_of b x q o) kept.1 ∙ is)
+    ∙ sym (arrives_open cx v ip header bytes by g next passes)
+leads_to (Some n) cx b r r2 q o v ip header bytes by is g next passes kept =
+    with_payload_leads cx b r r2 q o v ip header bytes by n is g kept.0 next passes kept.1 kept.3
+
+pub one_pass_leads : (s : Option ℕ) (cx : ContextValue) (b : Tcb) (r r2 : Received) (q : Ring ℕ) (o : Option OpenOffer) (v : TcpValue) (ip : IpRepr)
+    (header : TcpHeader) (bytes : List ℕ) (by : ℕ) (answer : Option Reply) (socket : TcpValue)
+    → value_of b r q o ≡ v → Goes cx.instant v header bytes → distance_of v.tcb.receiver.next header.seq_number ≡ 0
+    → acknowledgement_check v.tcb header.ack_number ≡ Passes by → IsStoredAs s r bytes r2
+    → answer ≡ (taken_by s cx (value_of b r2 q o) ip header bytes by).answer
+    → socket ≡ (taken_by s cx (value_of b r2 q o) ip header bytes by).socket → Leads (arrives cx v ip header bytes) answer socket
+one_pass_leads s cx b r r2 q o v ip header bytes by answer socket is g next passes kept a t =
+    let all = leads_to s cx b r r2 q o v ip header bytes by is g next passes kept in
+    record { answer = a ∙ ap (λ (x : Arrived). x.answer) all; socket = t ∙ ap (λ (x : Arrived). x.socket) all }

@@ -23,6 +23,7 @@ ghost use Rattle.tcp_socket.specs.Answering.{acknowledgement, reply_of, answer_o
 ghost use Rattle.tcp_socket.specs.FastPath.{taken_by, rest_by, content_by};
 
 use crate::Socket;
+use crate::fast_path::{acknowledge_tcb, take_window, tells_no_rtt};
 use crate::payload::Payload;
 use ip_wire::{IpRepr, SeqNumber, TcpHeader, TcpRepr};
 use net_base::Instant;
@@ -563,11 +564,7 @@ impl Socket {
         ensures { self.new ≡ told self.old header.now duplicates now }
     {
         let queued = self.queued.len();
-        self.tcb.set_window(header, now);
-        self.tcb.on_sack_blocks(header, now);
-        self.tcb.count(duplicates, now);
-        self.tcb.skip_sacked(queued);
-        self.tcb.restart_timeout(now, queued);
+        take_window(&mut self.tcb, header, duplicates, queued, now);
     }
 
     /// The echo of a segment is taken that makes SND.UNA rise by so much. A loss that it says was none is
@@ -577,6 +574,9 @@ impl Socket {
         requires instant { IsMoment now }
         ensures { self.new ≡ tsecr_heard self.old header.now by now }
     {
+        if by == 0 || tells_no_rtt(&self.tcb) {
+            return;
+        }
         let queued = self.queued.len();
         self.tcb.undo_loss(header, by, queued);
         self.tcb.take_rtt_of_tsecr(header, by, now);
@@ -592,7 +592,7 @@ impl Socket {
         self.sample_rtt(header, by, now);
         let queued = self.queued.len();
         let freed = self.tcb.freed_by(by, queued);
-        self.tcb.acknowledge(by, queued, now);
+        acknowledge_tcb(&mut self.tcb, by, queued, now);
         self.queued.dequeue_allocated(freed);
     }
 

@@ -1,7 +1,8 @@
 //! The receive buffer of a socket.
-ghost use Rattle.std.specs.Prelude.{◌≡◌, ℕ, ◌==◌, ◌↔◌, ◌+◌, ◌≤◌, ◌<◌, ◌^◌, ◌++◌, not, IsTrue, is_ok, is_some, IfSome, OnSome, None, length, take, drop, min, []};
+ghost use Rattle.std.specs.Prelude.{◌≡◌, ℕ, ◌==◌, ◌↔◌, ◌+◌, ◌≤◌, ◌<◌, ◌^◌, ◌++◌, not, IsTrue, is_ok, is_some, IfOk, IfSome, OnErr, OnSome, None, length, take, drop, min, []};
 ghost use Rattle.std.specs.Fn.{FnOnceTakesAt, FnOnceReturnsAt};
 ghost use Rattle.tcp_socket.specs.Receive.{most_bytes, FitsBuffer, in_order, can_hold, early, unbroken, lent};
+ghost use Rattle.tcp_socket.specs.FastPath.{IsStoredAs};
 ghost use Rattle.tcp_block.specs.Value.{received_of, room_of, emptied};
 ghost use Rattle.tcp_block.specs.Calls.{read_from};
 ghost use Rattle.tcp_block.specs.Answers.{run_at, others, first_two};
@@ -10,6 +11,7 @@ ghost use Rattle.tcp_ranges.specs.OutOfOrder.{runs_of};
 ghost use Rattle.ip_wire.specs.Sum.{word_sum, folded};
 ghost use Rattle.net_base.specs.Ring.{overwritten, unbroken_free};
 
+use crate::fast_path::NotInFastPath;
 use ip_wire::checksum;
 use net_base::{Assembler, RingBuffer, TooManyHolesError};
 use std::marker::Model;
@@ -153,6 +155,31 @@ impl ReceiveBuffer {
         let count = self.held.add_then_remove_front(0, bytes.len()).unwrap_or(0);
         self.ring.enqueue_unallocated(count);
         Some(count)
+    }
+
+    /// The same of the payload of a segment, which may be none: then nothing is stored, and the checksum is looked at alone.
+    pub(crate) fn store_tested(
+        &mut self,
+        bytes: &[u8],
+        rest: u16,
+    ) -> Result<Option<usize>, NotInFastPath>
+        requires fits { length bytes.now ≤ length self.old.map }
+        requires nothing_held { length (runs_of self.old.map) ≡ 0 }
+        ensures sum { is_ok result ≡ (folded (rest + word_sum bytes.now) == 65535) }
+        ensures stored { IfOk result (λ s. IsStoredAs s self.old bytes.now self.new) }
+        ensures refused { OnErr result (self.new ≡ self.old) }
+    {
+        if bytes.is_empty() {
+            return if checksum::add(rest, 0) == 0xffff {
+                Ok(None)
+            } else {
+                Err(NotInFastPath)
+            };
+        }
+        match self.store_summed(bytes, rest) {
+            Some(count) => Ok(Some(count)),
+            None => Err(NotInFastPath),
+        }
     }
 
     /// Holds bytes that come so far past the next in order, where not too many runs are held with

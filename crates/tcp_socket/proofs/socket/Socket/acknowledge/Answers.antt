@@ -11,8 +11,8 @@ invariant_of-self c =
     let within : c.freed_by-freed.result ≤ length c.self.inside.queued.queue = rw (← c.len-queued.ensures) c.freed_by-freed.ensures.within in
     record {
       room = rw c.dequeue_allocated.ensures (fits_released c.self.inside.queued c.freed_by-freed.result within c.self.invariant.room);
-      tcb = rw c.acknowledge.ensures (
+      tcb = rw c.acknowledge_tcb.ensures (
           kept_acknowledged c.self.inside.tcb c.args.by c.len-queued.result c.args.now c.self.invariant.tcb
           );
-      unsettled = none_open c.self.inside.offered c.acknowledge.new.self none;
+      unsettled = none_open c.self.inside.offered c.acknowledge_tcb.new.tcb none;
     }
