@@ -18,6 +18,6 @@ pub use tcp_state::endpoints::is_same_listener;
 pub use tcp_state::instants::{is_due, next_challenge_from, time_wait_from};
 pub use tcp_state::offsets::{distance_after, distance_before};
 pub use tcp_state::{
-    AddressPair, ConnectError, FourTuple, ListenError, OfferKind, OpenOffer, RecvError, Reno,
-    Reply, RoundTrip, Run, Scoreboard, SendError, State, isn,
+    AddressPair, ConnectError, EndEvent, EndReason, FourTuple, ListenError, OfferKind, OpenOffer,
+    RecvError, Reno, Reply, RoundTrip, Run, Scoreboard, SendError, State, isn,
 };

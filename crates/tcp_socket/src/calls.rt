@@ -20,8 +20,8 @@ use socket_context::Context;
 use socket_context::addresses::is_unspecified;
 use std::fmt;
 use tcp_block::{
-    AddressPair, ConnectError, FourTuple, ListenError, Names, RecvError, SendError, Sender, State,
-    Tcb, is_same_listener, isn,
+    AddressPair, ConnectError, EndEvent, FourTuple, ListenError, Names, RecvError, SendError,
+    Sender, State, Tcb, is_same_listener, isn,
 };
 
 /// The source of what is sent to this address: the one that is named, else the interface's, if it is
@@ -62,6 +62,7 @@ impl Socket {
         ensures { self.new ≡ opened self.old (record (initial_tcb self.old.tcb.settings) { state = state; names = names; sender = sender }) }
     {
         self.offered = None;
+        self.end_reason = None;
         self.tcb = Tcb {
             state,
             names,
@@ -158,11 +159,13 @@ impl Socket {
         ensures { self.new ≡ close_after self.old }
     {
         self.offered = None;
+        let before = self.tcb.state;
         if self.tcb.state.is_opening() {
             self.tcb.forget();
         } else {
             self.tcb.state = self.tcb.state.after_close();
         }
+        self.note_end(EndEvent::Close, before);
     }
 
     /// Ends the connection. A reset goes to the remote, if there is one, but in TIME-WAIT, where the
@@ -171,12 +174,14 @@ impl Socket {
         ensures { self.new ≡ abort_after self.old }
     {
         self.offered = None;
+        let before = self.tcb.state;
         if self.tcb.state.is_time_wait() {
             self.tcb.forget();
         } else {
             self.tcb.state = State::Closed;
             self.tcb.sender.reset_due = self.tcb.names.pair.is_some();
         }
+        self.note_end(EndEvent::Abort, before);
     }
 
     fn check_send(&self) -> Result<(), SendError>

@@ -2,6 +2,7 @@
 #![tactic(auto)]
 
 mod calls;
+mod ends;
 mod fast_path;
 mod getters;
 mod offer;
@@ -18,5 +19,6 @@ pub use receive_buffer::ReceiveBuffer;
 pub use socket::{Socket, SocketBuffer};
 pub use socket_context::SegmentPayload;
 pub use tcp_block::{
-    CongestionControl, ConnectError, ListenError, RecvError, Reno, Reply, SendError, State,
+    CongestionControl, ConnectError, EndReason, ListenError, RecvError, Reno, Reply, SendError,
+    State,
 };

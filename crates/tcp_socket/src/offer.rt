@@ -20,7 +20,7 @@ ghost use Rattle.socket_context.specs.SegmentPayload.{payload_bytes};
 use crate::Socket;
 use ip_wire::{IpRepr, TcpHeader};
 use socket_context::{Context, IpPayload, Offer, Packet, PollAt, SegmentPayload};
-use tcp_block::{AddressPair, FourTuple, OfferKind, OpenOffer, PROBE, Part, is_due};
+use tcp_block::{AddressPair, EndEvent, FourTuple, OfferKind, OpenOffer, PROBE, Part, is_due};
 
 /// The packet of an open offer, whose headers are lent from where they lie in the socket.
 #[derive(Clone, Copy, Debug)]
@@ -37,7 +37,10 @@ impl Socket {
         ensures socket { self.new ≡ (offer_of (C.context cx.now) self.old).socket }
         ensures sendable { IfSome (offered_packet self.new) IsSendable }
     {
-        self.offer_next(cx)
+        let before = self.tcb.state;
+        let offer = self.offer_next(cx);
+        self.note_end(EndEvent::Timer, before);
+        offer
     }
 
     fn offer_next<C: Context>(&mut self, cx: &C) -> Offer

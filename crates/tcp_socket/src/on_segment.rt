@@ -29,8 +29,9 @@ use ip_wire::{IpRepr, SeqNumber, TcpHeader, TcpRepr};
 use net_base::Instant;
 use socket_context::Context;
 use tcp_block::{
-    AddressPair, FourTuple, Reply, State, Verdict, has_length, is_fin, is_first_syn, is_rst,
-    is_syn, is_void_syn, isn, next_challenge_from, numbers_of, reply_to, rst_reply, time_wait_from,
+    AddressPair, EndEvent, FourTuple, Reply, State, Verdict, has_length, is_fin, is_first_syn,
+    is_rst, is_syn, is_void_syn, isn, next_challenge_from, numbers_of, reply_to, rst_reply,
+    time_wait_from,
 };
 
 /// A segment with what it came in.
@@ -166,7 +167,10 @@ impl Socket {
         if is_void_syn(incoming.header) {
             None
         } else {
-            self.arrive_in_state(cx, incoming)
+            let before = self.tcb.state;
+            let due = self.arrive_in_state(cx, incoming);
+            self.note_end(end_event(incoming.header), before);
+            due
         }
     }
 
@@ -783,6 +787,15 @@ pub enum Due {
     Ack(u16),
     /// One that tells of the run which is held with its first byte at this offset.
     AckWithSack(u16, usize),
+}
+
+/// What a segment is to the connection that it ends.
+fn end_event(header: &TcpHeader) -> EndEvent {
+    if is_rst(header.control) {
+        EndEvent::Reset
+    } else {
+        EndEvent::Segment
+    }
 }
 
 /// A reply as it is handed out.

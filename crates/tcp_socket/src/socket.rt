@@ -6,7 +6,7 @@ ghost use Rattle.tcp_socket.specs.Receive.{FitsBuffer};
 use crate::receive_buffer::ReceiveBuffer;
 use net_base::RingBuffer;
 use std::marker::Model;
-use tcp_block::{OpenOffer, Settings, Tcb};
+use tcp_block::{EndReason, OpenOffer, Settings, Tcb};
 
 /// A buffer of a socket.
 pub type SocketBuffer = RingBuffer<u8>;
@@ -18,6 +18,8 @@ pub struct Socket {
     pub(crate) received: ReceiveBuffer,
     pub(crate) queued: SocketBuffer,
     pub(crate) offered: Option<OpenOffer>,
+    /// Why the last connection ended. It stands beside the value, and no rule looks at it.
+    pub(crate) end_reason: Option<EndReason>,
 }
 
 impl Model for Socket {
@@ -51,6 +53,7 @@ impl Socket {
             received: ReceiveBuffer::new(rx_buffer),
             queued: tx_buffer,
             offered: None,
+            end_reason: None,
         }
     }
 }

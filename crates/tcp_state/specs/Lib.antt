@@ -1,3 +1,4 @@
+pub mod EndReason
 pub mod States
 pub mod Reno
 pub mod Cubic

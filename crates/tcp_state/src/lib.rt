@@ -6,6 +6,7 @@
 
 pub mod controls;
 mod cubic;
+mod end_reason;
 pub mod endpoints;
 mod error;
 pub mod instants;
@@ -20,6 +21,7 @@ mod state;
 mod states;
 
 pub use cubic::{cubes, cubic_laws};
+pub use end_reason::{EndEvent, EndReason};
 pub use endpoints::{AddressPair, FourTuple};
 pub use error::{ConnectError, ListenError, RecvError, SendError};
 pub use isn_source::{isn, isns_rise};
