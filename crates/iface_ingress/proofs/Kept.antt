@@ -30,7 +30,7 @@ use Rattle.iface_ingress.specs.Processed.{handed_reply, HandsTo, control_v4_slot
 use Rattle.iface_ingress.specs.Processed.{if_it_may, limited_reply}
 use Rattle.iface_ingress.specs.Replies.{protocol_unreachable}
 use Rattle.iface_ingress.specs.FragmentStored.{kept_by_kind, ports_item, ports_in, with_ports, NamesNoPorts, HaveNoPorts, IsNoFragmentV6, IsDamaged}
-use Rattle.iface_ingress.specs.Reassembled.{Assemblers, is_taken_in, taken_in, is_fragment, uncut, reassembled, reassembled_v6, bytes_at, slot_in, kept, whole_of}
+use Rattle.iface_ingress.specs.Reassembled.{Assemblers, is_taken_in, taken_in, is_fragment, uncut, reassembled, reassembled_v6, bytes_at, slot_in, kept, whole_of, with_room}
 
 -- SOCKETS OF OTHER KINDS
 
@@ -179,7 +179,7 @@ pub arrives_kept : (i : InnerValue) (timeout : ℕ) (assemblers : Assemblers) (s
     ArrivesAs i timeout assemblers slots content assemblers' a → HaveNoPorts content → IsNoFragmentV6 content → with_ports a.slots ≡ with_ports slots
 arrives_kept i timeout assemblers slots content assemblers' a h bare whole =
     brings_kept i slots _ a h.1
-    (whole_kept (kept i timeout assemblers (taken_in i content)) (slot_in assemblers (taken_in i content)) (taken_in i content) (taken_in_kept i content bare)
+    (whole_kept (kept i timeout (with_room i assemblers (taken_in i content)) (taken_in i content)) (slot_in (with_room i assemblers (taken_in i content)) (taken_in i content)) (taken_in i content) (taken_in_kept i content bare)
     (taken_in_whole i content whole))
 
 -- A SEGMENT THAT IS NONE

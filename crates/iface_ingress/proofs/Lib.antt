@@ -26,3 +26,4 @@ pub mod ShortWay
 pub mod LocalSources
 pub mod Sought
 pub mod OnePass
+pub mod Roomed

@@ -9,11 +9,11 @@ use Rattle.iface_ingress.specs.Incoming.{IncomingValue, Arp, Ip4, Ip6}
 use Rattle.iface_ingress.proofs.OneContent.{one-content, one-carried-content}
 use Rattle.iface_tables.specs.Inner.{InnerValue, context_of}
 use Rattle.iface_ingress.specs.Arrives.{Arrived, Arrives, ArrivesAs, ArrivesV4, ArrivesV6, Brings, Hands, IsHanded, IsSilent, answered, renewed}
-use Rattle.iface_ingress.specs.Arrives.{whole_after}
+use Rattle.iface_ingress.specs.Arrives.{whole_arrived}
 use Rattle.iface_ingress.specs.Delivered.{Slots, packet_delivered, is_taken_raw}
 use Rattle.iface_ingress.specs.Processed.{limited_host, limited_reply, HandsTo}
 use Rattle.iface_ingress.proofs.OneDatagram.{one_delivered}
-use Rattle.iface_ingress.specs.Reassembled.{Assemblers, taken_in}
+use Rattle.iface_ingress.specs.Reassembled.{Assemblers}
 use Rattle.iface_ingress.specs.Upper.{upper_header, upper_payload}
 
 same_arrived : (a b : Arrived) → a.inner ≡ b.inner → a.slots ≡ b.slots → a.reply ≡ b.reply → a ≡ b
@@ -71,7 +71,7 @@ Same s s' a a' = (s ≡ s') × (a ≡ a')
 pub one_arrives_as : (i : InnerValue) (timeout : ℕ) (assemblers : Assemblers) (slots : Slots) (content : Option IncomingValue) (s s' : Assemblers) (a a' : Arrived) →
     ArrivesAs i timeout assemblers slots content s a → ArrivesAs i timeout assemblers slots content s' a' → Same s s' a a'
 one_arrives_as i timeout assemblers slots content s s' a a' one other =
-    (one.0 ∙ sym other.0, one_brings i slots (whole_after i timeout assemblers (taken_in i content)) a a' one.1 other.1)
+    (one.0 ∙ sym other.0, one_brings i slots (whole_arrived i timeout assemblers content) a a' one.1 other.1)
 
 pub one_arrives : (i : InnerValue) (timeout : ℕ) (assemblers : Assemblers) (slots : Slots) (frame : List ℕ) (s s' : Assemblers) (a a' : Arrived) →
     Arrives i timeout assemblers slots frame s a → Arrives i timeout assemblers slots frame s' a' → Same s s' a a'

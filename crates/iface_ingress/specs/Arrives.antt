@@ -17,7 +17,7 @@ use Rattle.iface_ingress.specs.Replies.{is_one_host}
 use Rattle.iface_tables.specs.Inner.{InnerValue, is_for_us, with_renewal}
 use Rattle.iface_ingress.specs.Delivered.{Slots, is_taken_raw, packet_delivered}
 use Rattle.iface_ingress.specs.Processed.{limited_host, limited_reply, HandsTo}
-use Rattle.iface_ingress.specs.Reassembled.{Assemblers, taken_in, slot_in, kept, whole_of, released}
+use Rattle.iface_ingress.specs.Reassembled.{Assemblers, taken_in, slot_in, kept, with_room, whole_of, released}
 use Rattle.iface_ingress.specs.declared.reply.Reply.{Reply}
 use Rattle.iface_ingress.specs.declared.reply.Reply.TheVariants as Answer
 
@@ -139,10 +139,15 @@ assemblers_after i timeout assemblers content = released (slot_in assemblers con
 abbrev pub whole_after : InnerValue → ℕ → Assemblers → Option IncomingValue → Option IncomingValue
 whole_after i timeout assemblers content = whole_of (kept i timeout assemblers content) (slot_in assemblers content) content
 
--- a frame's content arrives, of which the host takes in what is for it: the slots after it, and what it brings
+-- what is whole after a frame's content, of which the host takes in what is for it, in the slots with room for it
+abbrev pub whole_arrived : InnerValue → ℕ → Assemblers → Option IncomingValue → Option IncomingValue
+whole_arrived i timeout assemblers content = whole_after i timeout (with_room i assemblers (taken_in i content)) (taken_in i content)
+
+-- a frame's content arrives: the slots after it, and what it brings
 abbrev pub ArrivesAs : InnerValue → ℕ → Assemblers → Slots → Option IncomingValue → Assemblers → Arrived → Type 0
 ArrivesAs i timeout assemblers slots content assemblers' a =
-    (assemblers' ≡ assemblers_after i timeout assemblers (taken_in i content)) × Brings i slots (whole_after i timeout assemblers (taken_in i content)) a
+    (assemblers' ≡ assemblers_after i timeout (with_room i assemblers (taken_in i content)) (taken_in i content))
+    × Brings i slots (whole_arrived i timeout assemblers content) a
 
 -- a frame arrives
 abbrev pub Arrives : InnerValue → ℕ → Assemblers → Slots → List ℕ → Assemblers → Arrived → Type 0

@@ -13,15 +13,20 @@ use Rattle.ip_wire.specs.Ipv4Repr.{Ipv4Repr}
 use Rattle.iface_tables.specs.Inner.{InnerValue, is_local, never_comes}
 use Rattle.iface_ingress.specs.Delivered.{Slots, is_taken_raw, packet_delivered}
 use Rattle.iface_ingress.specs.Incoming.{IsFramed, IsPacketV4}
-use Rattle.iface_ingress.specs.Reassembled.{passes_filter, is_sender, is_fragment}
+use Rattle.iface_ingress.specs.Reassembled.{passes_filter, is_group_frame, is_sender, is_fragment}
 use Rattle.iface_ingress.specs.Arrives.{Arrived, Hands, renewed}
 
 -- WHERE A PACKET STANDS
 
--- after a link header that names IPv4, in a frame that is received
+-- the frame is received, whomever the packet in it is for
+abbrev pub is_fast_frame : InnerValue → Option EthernetRepr → Bool
+is_fast_frame i None = true
+is_fast_frame i (Some link) = passes_filter i (Some link) && not (is_group_frame i link.dst_addr)
+
+-- after a link header that names IPv4, in such a frame
 abbrev pub StandsFollowing : InnerValue → List ℕ → Option EthernetRepr → List ℕ → Type 0
 StandsFollowing i frame None bytes = ⊥
-StandsFollowing i frame (Some link) bytes = IsFramed frame link Ether.Ipv4 × (passes_filter i (Some link) ≡ true) × (bytes ≡ Ethernet.payload_of frame)
+StandsFollowing i frame (Some link) bytes = IsFramed frame link Ether.Ipv4 × (is_fast_frame i (Some link) ≡ true) × (bytes ≡ Ethernet.payload_of frame)
 
 -- on a medium of bare packets a packet is the whole frame
 abbrev pub StandsIn : HardwareAddress → InnerValue → List ℕ → Option EthernetRepr → List ℕ → Type 0

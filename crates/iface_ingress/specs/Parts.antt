@@ -9,3 +9,8 @@ front_bytes (Some front) = front
 
 abbrev pub part_value : Part → FragmentValue
 part_value p = record { key = p.key; offset = p.offset; more = p.more; bytes = front_bytes p.front ++ p.bytes.now }
+
+-- one, if there is one
+abbrev pub part_if : Option Part → Option FragmentValue
+part_if None = None
+part_if (Some p) = Some (part_value p)

@@ -5,6 +5,7 @@ use Rattle.std.specs.Prelude.{List, [], ◌∷◌, ◌++◌, length, drop, slice
 use Rattle.net_base.specs.Time.{last_instant}
 use Rattle.ip_wire.specs.AddressTests.{is_ethernet_broadcast, is_ethernet_multicast, is_same_hardware, is_unicast_v6, is_unspecified_v4, is_unspecified_v6}
 use Rattle.ip_wire.specs.declared.ethernet.repr.EthernetRepr.{EthernetRepr}
+use Rattle.ip_wire.specs.EthernetAddress.{EthernetAddress}
 use Rattle.ip_wire.specs.HardwareAddress.TheVariants as Hardware
 use Rattle.ip_wire.specs.IpAddress.{IpAddress}
 use Rattle.ip_wire.specs.IpAddress.TheVariants as Address
@@ -28,6 +29,7 @@ use Rattle.iface_tables.specs.declared.key.FragKey.TheVariants as Keys
 use Rattle.iface_tables.specs.Inner.{InnerValue, is_local_solicited_node, is_foreign_loopback, never_comes}
 use Rattle.iface_tables.specs.Reassembly.{AssemblerValue, freed, assembler_index_for}
 use Rattle.iface_tables.specs.Assemblers.{changed_at, completed_at, with_fragment_of, overlaps_datagram, without_datagram}
+use Rattle.iface_tables.specs.Room.{is_same_source, with_room_for}
 
 abbrev pub Assemblers : Type 0
 Assemblers = List (AssemblerValue FragKey)
@@ -66,9 +68,18 @@ abbrev pub is_astray : InnerValue → IpAddress → IpAddress → Bool
 is_astray i source destination =
     is_foreign_loopback i source || (is_foreign_loopback i destination || never_comes i source destination)
 
+-- with host requirements a packet to one host comes in a frame to that host alone, and in none to a group or to all (RFC 1122, section 3.3.6)
+abbrev pub is_group_frame : InnerValue → EthernetAddress → Bool
+is_group_frame i to = i.host_requirements && (is_ethernet_broadcast to || is_ethernet_multicast to)
+
+abbrev pub is_misframed : InnerValue → Option EthernetRepr → Ipv4Address → Bool
+is_misframed i None destination = false
+is_misframed i (Some link) destination = is_group_frame i link.dst_addr && is_one_host i destination
+
 abbrev pub is_ipv4_taken_in : InnerValue → Option EthernetRepr → Ipv4Repr → Bool
 is_ipv4_taken_in i link header =
     passes_filter i link && is_sender i header.src_addr && not (is_astray i (Address.Ipv4 header.src_addr) (Address.Ipv4 header.dst_addr))
+    && not (is_misframed i link header.dst_addr)
 
 abbrev pub is_ipv6_taken_in : InnerValue → Option EthernetRepr → Ipv6Repr → Bool
 is_ipv6_taken_in i link header =
@@ -185,6 +196,18 @@ with_fragment i timeout assemblers (Some p) = if is_unfit assemblers p then with
 
 abbrev pub kept : InnerValue → ℕ → Assemblers → Option IncomingValue → Assemblers
 kept i timeout assemblers content = with_fragment i timeout assemblers (part_of content)
+
+-- with host requirements there is room for a fragment that fits a slot, whoever has the slots (RFC 1122, section 3.3.2)
+abbrev pub finds_room : InnerValue → FragmentValue → Bool
+finds_room i p = i.host_requirements && is_within p
+
+abbrev pub room_for : InnerValue → Assemblers → Option FragmentValue → Assemblers
+room_for i assemblers None = assemblers
+room_for i assemblers (Some p) = if finds_room i p then with_room_for is_same_datagram is_same_source assemblers p.key else assemblers
+
+-- the slots in which a content finds its own
+abbrev pub with_room : InnerValue → Assemblers → Option IncomingValue → Assemblers
+with_room i assemblers content = room_for i assemblers (part_of content)
 
 abbrev pub bytes_at : Option ℕ → Assemblers → Option (List ℕ)
 bytes_at None assemblers = None

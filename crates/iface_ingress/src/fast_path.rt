@@ -8,12 +8,12 @@ ghost use Rattle.iface_tables.specs.Inner.{is_address_of, is_local};
 ghost use Rattle.iface_ingress.specs.Arrives.{Arrives, Hands, IfCanGo, arrived, renewed, reply_of};
 ghost use Rattle.iface_ingress.specs.Delivered.{is_taken_raw, packet_delivered};
 ghost use Rattle.iface_ingress.specs.Reassembled.{Assemblers};
-ghost use Rattle.iface_ingress.specs.FastPath.{StandsFollowing, StandsIn, is_fast, is_plain, TakesPacket};
+ghost use Rattle.iface_ingress.specs.FastPath.{StandsFollowing, StandsIn, is_fast, is_fast_frame, is_plain, TakesPacket};
 
 use crate::deliver::deliver_packet;
 use crate::ip::refresh_at;
 use crate::process::process_ipv4_payload;
-use crate::reassemble::{is_fragment, is_sender, passes_filter};
+use crate::reassemble::{is_fragment, is_group_frame, is_sender, passes_filter};
 use crate::reply::Reply;
 use iface_egress::{InterfaceInner, Slots};
 use ip_wire::{
@@ -73,8 +73,21 @@ fn packet_after_header<'a>(
     };
     *link = Some(header);
     match header.ethertype {
-        EthernetProtocol::Ipv4 if passes_filter(inner, link) => Some(frame.payload()),
+        EthernetProtocol::Ipv4 if is_fast_frame(inner, link) => Some(frame.payload()),
         _ => None,
+    }
+}
+
+/// Whether a frame is received, whomever the packet in it is for.
+fn is_fast_frame(inner: &InterfaceInner, link: &Option<EthernetRepr>) -> bool
+    ensures { result ≡ is_fast_frame inner.now link.now }
+{
+    match link {
+        Some(header) => {
+            let to = header.dst_addr;
+            passes_filter(inner, link) && !is_group_frame(inner, &to)
+        }
+        None => true,
     }
 }
 

@@ -5,10 +5,10 @@ ghost use Rattle.net_base.specs.Time.{IsMoment};
 ghost use Rattle.ip_wire.specs.AddressTests.{is_same_hardware};
 ghost use Rattle.ip_wire.specs.HardwareAddress.TheVariants as Hardware;
 ghost use Rattle.iface_ingress.specs.Incoming.{AreMeasured, content_of, incoming_value};
-ghost use Rattle.iface_ingress.specs.Reassembled.{passes_filter, is_sender, is_control_v6, is_probe, is_sender_v6, is_astray, is_ipv4_taken_in, is_ipv6_taken_in, is_taken_in, taken_in, is_fragment};
-ghost use Rattle.iface_ingress.specs.Reassembled.{is_fragment_v6, following_headers, part_v4, part_v6, part_following, whole_header, is_within, is_strict};
-ghost use Rattle.iface_ingress.specs.Reassembled.{is_unfit, given_up_at, slot_of, slot_in, with_fragment, kept, bytes_at, reassembled, reassembled_v6, released};
-ghost use Rattle.iface_ingress.specs.Parts.{front_bytes, part_value};
+ghost use Rattle.iface_ingress.specs.Reassembled.{passes_filter, is_group_frame, is_misframed, is_sender, is_control_v6, is_probe, is_sender_v6, is_astray, is_ipv4_taken_in, is_ipv6_taken_in, is_taken_in, taken_in, is_fragment};
+ghost use Rattle.iface_ingress.specs.Reassembled.{is_fragment_v6, following_headers, part_of, part_v4, part_v6, part_following, whole_header, is_within, is_strict};
+ghost use Rattle.iface_ingress.specs.Reassembled.{is_unfit, given_up_at, slot_of, slot_in, with_fragment, kept, bytes_at, finds_room, reassembled, reassembled_v6, released, room_for, with_room};
+ghost use Rattle.iface_ingress.specs.Parts.{front_bytes, part_if, part_value};
 
 use crate::icmp_reply::is_one_host;
 use crate::incoming::Incoming;
@@ -79,7 +79,10 @@ fn is_ipv4_taken_in(inner: &InterfaceInner, link: &Option<EthernetRepr>, header:
     let source = IpAddress::Ipv4(header.src_addr);
     let destination = IpAddress::Ipv4(header.dst_addr);
     let astray = is_astray(inner, &source, &destination);
-    passes_filter(inner, link) && is_sender(inner, &header.src_addr) && !astray
+    passes_filter(inner, link)
+        && is_sender(inner, &header.src_addr)
+        && !astray
+        && !is_misframed(inner, link, &header.dst_addr)
 }
 
 fn is_ipv6_taken_in(inner: &InterfaceInner, link: &Option<EthernetRepr>, header: &Ipv6Repr) -> bool
@@ -102,6 +105,31 @@ pub(crate) fn passes_filter(inner: &InterfaceInner, link: &Option<EthernetRepr>)
                 || (target.is_broadcast() || target.is_multicast())
         }
         None => true,
+    }
+}
+
+/// Whether a frame to this hardware address may bring no packet to one host: a host on a network of many hears such packets in frames to
+/// itself alone.
+pub(crate) fn is_group_frame(inner: &InterfaceInner, to: &EthernetAddress) -> bool
+    ensures { result ≡ is_group_frame inner.now to.now }
+{
+    inner.host_requirements() && (to.is_broadcast() || to.is_multicast())
+}
+
+/// Whether a packet for this destination comes in such a frame, though it is to one host.
+fn is_misframed(
+    inner: &InterfaceInner,
+    link: &Option<EthernetRepr>,
+    destination: &Ipv4Address,
+) -> bool
+    ensures { result ≡ is_misframed inner.now link.now destination.now }
+{
+    match link {
+        Some(link) => {
+            let to = link.dst_addr;
+            is_group_frame(inner, &to) && is_one_host(inner, destination)
+        }
+        None => false,
     }
 }
 
@@ -301,9 +329,19 @@ pub fn keep(
     content: Option<&Incoming<'_>>,
 ) -> Option<usize>
     requires measured { AreMeasured (content_of (option_copied content)) }
-    ensures slot { result ≡ slot_in assemblers.old (content_of (option_copied content.entry)) }
+    ensures slot { result ≡ slot_in (with_room inner.now assemblers.old (content_of (option_copied content.entry))) (content_of (option_copied content.entry)) }
     ensures in_range { ForSome result (λ at. at < length assemblers.new) }
-    ensures after { assemblers.new ≡ kept inner.now timeout assemblers.old (content_of (option_copied content.entry)) }
+    ensures after { assemblers.new ≡
+        kept inner.now timeout (with_room inner.now assemblers.old (content_of (option_copied content.entry))) (content_of (option_copied content.entry)) }
+{
+    let part = part_in(content);
+    keep_if(inner, assemblers, timeout, &part)
+}
+
+/// The fragment that a content is, if it is one.
+fn part_in<'a>(content: Option<&'a Incoming<'_>>) -> Option<Part<'a>>
+    requires { AreMeasured (content_of (option_copied content)) }
+    ensures { part_if result ≡ part_of (content_of (option_copied content.entry)) }
 {
     match content {
         Some(
@@ -313,59 +351,77 @@ pub fn keep(
                 payload,
                 ..
             },
-        ) if is_fragment(*fragment) => {
-            keep_part(
-                inner,
-                assemblers,
-                timeout,
-                &part_v4(header, *fragment, payload),
-            )
-        }
+        ) if is_fragment(*fragment) => Some(part_v4(header, *fragment, payload)),
         Some(
             Incoming::Ipv6 {
                 header,
                 payload,
                 ..
             },
-        ) => keep_v6(inner, assemblers, timeout, header, payload),
+        ) => part_in_v6(header, payload),
         _ => None,
     }
 }
 
-/// Takes an IPv6 packet into its datagram's slot, if it is a fragment.
-fn keep_v6(
-    inner: &InterfaceInner,
-    assemblers: &mut PacketAssemblerSet,
-    timeout: Duration,
-    header: &Ipv6Repr,
-    payload: &[u8],
-) -> Option<usize>
+/// The fragment that an IPv6 packet is, if it is one.
+fn part_in_v6<'a>(header: &Ipv6Repr, payload: &'a [u8]) -> Option<Part<'a>>
     requires { length payload.now < 2 ^ 16 }
-    ensures slot { result ≡ slot_of assemblers.old (part_following header.now payload.now (following_headers header.now payload.now)) }
-    ensures in_range { ForSome result (λ at. at < length assemblers.new) }
-    ensures after { assemblers.new ≡
-        with_fragment inner.now timeout assemblers.old (part_following header.now payload.now (following_headers header.now payload.now)) }
+    ensures { part_if result ≡ part_following header.now payload.now (following_headers header.now payload.now) }
 {
     match go_through(header.next_header, payload) {
         Following::FragmentPart { at } => {
             let (_headers, rest) = payload.split_at(at);
-            keep_part(inner, assemblers, timeout, &part_v6(header, rest))
+            Some(part_v6(header, rest))
         }
         _ => None,
     }
 }
 
-/// Takes a fragment into its datagram's slot, or gives its datagram up.
+/// Takes a fragment into its datagram's slot, if there is one.
+fn keep_if(
+    inner: &InterfaceInner,
+    assemblers: &mut PacketAssemblerSet,
+    timeout: Duration,
+    part: &Option<Part<'_>>,
+) -> Option<usize>
+    ensures slot { result ≡ slot_of (room_for inner.now assemblers.old (part_if part.now)) (part_if part.now) }
+    ensures in_range { ForSome result (λ at. at < length assemblers.new) }
+    ensures after { assemblers.new ≡ with_fragment inner.now timeout (room_for inner.now assemblers.old (part_if part.now)) (part_if part.now) }
+{
+    match part {
+        Some(part) => keep_part(inner, assemblers, timeout, part),
+        None => None,
+    }
+}
+
+/// Whether there is room for a fragment, whoever has the slots.
+fn finds_room(inner: &InterfaceInner, part: &Part<'_>) -> bool
+    ensures { result ≡ finds_room inner.now (part_value part.now) }
+{
+    inner.host_requirements() && is_within(part)
+}
+
+/// Makes room for a fragment's datagram, where a fragment finds room.
+fn make_room(inner: &InterfaceInner, assemblers: &mut PacketAssemblerSet, part: &Part<'_>)
+    ensures { assemblers.new ≡ room_for inner.now assemblers.old (Some (part_value part.now)) }
+{
+    if finds_room(inner, part) {
+        assemblers.make_room(&part.key);
+    }
+}
+
+/// Takes a fragment into its datagram's slot, for which there may be room to make, or gives its datagram up.
 fn keep_part(
     inner: &InterfaceInner,
     assemblers: &mut PacketAssemblerSet,
     timeout: Duration,
     part: &Part<'_>,
 ) -> Option<usize>
-    ensures slot { result ≡ slot_of assemblers.old (Some (part_value part.now)) }
+    ensures slot { result ≡ slot_of (room_for inner.now assemblers.old (Some (part_value part.now))) (Some (part_value part.now)) }
     ensures in_range { ForSome result (λ at. at < length assemblers.new) }
-    ensures after { assemblers.new ≡ with_fragment inner.now timeout assemblers.old (Some (part_value part.now)) }
+    ensures after { assemblers.new ≡ with_fragment inner.now timeout (room_for inner.now assemblers.old (Some (part_value part.now))) (Some (part_value part.now)) }
 {
+    make_room(inner, assemblers, part);
     if is_unfit(assemblers, part) {
         assemblers.remove(&part.key);
         return None;

@@ -3,11 +3,13 @@ pub mod BestOf
 pub mod ByPrefix
 pub mod Changed
 pub mod ErrorLimit
+pub mod Oldest
 pub mod Orders
 pub mod PathMtu
 pub mod Places
 pub mod ReassembledDatagram
 pub mod Renewed
+pub mod RoomMade
 pub mod RouteTable
 pub mod FourBytes
 pub mod InParts

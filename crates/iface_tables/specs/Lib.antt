@@ -9,6 +9,7 @@ pub mod Searches
 pub mod FragmentList
 pub mod Prefixes
 pub mod Reassembly
+pub mod Room
 pub mod Route
 pub mod Settings
 pub mod Refusals

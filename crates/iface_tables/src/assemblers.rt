@@ -5,6 +5,7 @@ ghost use Rattle.std.specs.Option.{ForSome, option_copied};
 ghost use Rattle.iface_tables.specs.Reassembly.{placed, freed, is_free, is_key, is_of, assembler_index_for};
 ghost use Rattle.iface_tables.specs.Assemblers.{free_assemblers, opened, with_assembler_for, changed_at, completed_at, is_expired, unless_expired, without_expired};
 ghost use Rattle.iface_tables.specs.Assemblers.{with_fragment_of, assembler_of, overlaps_datagram, without_datagram};
+ghost use Rattle.iface_tables.specs.Room.{any_slot, given_up_for, goes_before, has_share, held_by, is_same_source, oldest, place_given_up, with_room_for};
 
 use crate::fragmentation::{AssemblerFullError, PacketAssembler};
 use crate::key::FragKey;
@@ -157,6 +158,14 @@ impl PacketAssemblerSet {
         }
     }
 
+    /// Makes room for this datagram, unless it has a slot. Where its source has half of the slots, or the only one, the source's oldest
+    /// datagram is given up; else the oldest of all is, where no slot is free.
+    pub fn make_room(&mut self, key: &FragKey)
+        ensures { self.new ≡ with_room_for ⟦<FragKey as PartialEq>⟧.eq is_same_source self.old key.now }
+    {
+        make_room_in(self.assemblers.as_mut_slice(), key);
+    }
+
     /// Frees the slots whose instant has passed.
     pub fn remove_expired(&mut self, timestamp: Instant)
         ensures { self.new ≡ without_expired self.old timestamp }
@@ -197,6 +206,110 @@ fn free_assembler(assemblers: &[Assembler]) -> Option<usize>
     ensures in_range { ForSome result (λ at. at < length assemblers.now) }
 {
     assemblers.iter().position(|assembler| assembler.is_free())
+}
+
+/// Makes room for a datagram.
+#[tactic(auto, using(crate::proofs::Changed::changed_length))]
+fn make_room_in(assemblers: &mut [Assembler], key: &FragKey)
+    ensures value { assemblers.new ≡ with_room_for ⟦<FragKey as PartialEq>⟧.eq is_same_source assemblers.old key.now }
+    ensures len { length assemblers.new ≡ length assemblers.old }
+{
+    if let Some(at) = place_given_up(assemblers, key) {
+        free_at(assemblers, at);
+    }
+}
+
+/// Where the slot is that is given up for a datagram, which may have its own, and there may be none.
+fn place_given_up(assemblers: &[Assembler], key: &FragKey) -> Option<usize>
+    ensures index { result ≡ place_given_up ⟦<FragKey as PartialEq>⟧.eq is_same_source assemblers.now key.now }
+    ensures in_range { ForSome result (λ at. at < length assemblers.now) }
+{
+    if assembler_index_of(assemblers, key).is_some() || assemblers.len() == 0 {
+        return None;
+    }
+    given_up_for(assemblers, key)
+}
+
+/// Where the slot is that is given up for a new datagram.
+fn given_up_for(assemblers: &[Assembler], key: &FragKey) -> Option<usize>
+    requires { 0 < length assemblers.now }
+    ensures index { result ≡ given_up_for is_same_source assemblers.now key.now }
+    ensures in_range { ForSome result (λ at. at < length assemblers.now) }
+{
+    if has_share(assemblers, key) {
+        return Some(oldest_from(assemblers, key));
+    }
+    match free_assembler(assemblers) {
+        Some(_) => None,
+        None => Some(oldest(assemblers)),
+    }
+}
+
+/// Whether the source of this datagram has half of the slots, or the only one.
+fn has_share(assemblers: &[Assembler], key: &FragKey) -> bool
+    ensures { result ≡ has_share is_same_source key.now assemblers.now }
+{
+    let share = (assemblers.len() / 2).max(1);
+    share <= held_by(assemblers, key)
+}
+
+/// How many slots have a datagram from the source of this one.
+fn held_by(assemblers: &[Assembler], key: &FragKey) -> usize
+    ensures { result ≡ held_by is_same_source key.now assemblers.now }
+{
+    assemblers
+        .iter()
+        .filter(|assembler| is_from(assembler, key))
+        .count()
+}
+
+/// Whether a slot has a datagram from the source of this one.
+fn is_from(assembler: &Assembler, key: &FragKey) -> bool
+    ensures { result ≡ is_of is_same_source key.now assembler.now }
+{
+    match assembler.key() {
+        Some(held) => held.has_source_of(key),
+        None => false,
+    }
+}
+
+/// Where the oldest datagram from the source of this one is, the first place if there is none.
+#[tactic(auto, using(crate::proofs::Oldest::in_order))]
+fn oldest_from(assemblers: &[Assembler], key: &FragKey) -> usize
+    requires { 0 < length assemblers.now }
+    ensures index { result ≡ oldest (is_of is_same_source key.now) assemblers.now }
+    ensures in_range { result < length assemblers.now }
+{
+    let mut at = 0;
+    for i in 1..assemblers.len() {
+        if goes_before(&assemblers[i], &assemblers[at], key) {
+            at = i;
+        }
+    }
+    at
+}
+
+/// Whether the first slot has a datagram from the source of this one, and the second a later one or another's.
+fn goes_before(one: &Assembler, other: &Assembler, key: &FragKey) -> bool
+    ensures { result ≡ goes_before (is_of is_same_source key.now) one.now other.now }
+{
+    is_from(one, key) && (!is_from(other, key) || one.expires_at() < other.expires_at())
+}
+
+/// Where the oldest datagram is.
+#[tactic(auto, using(crate::proofs::Oldest::in_order))]
+fn oldest(assemblers: &[Assembler]) -> usize
+    requires { 0 < length assemblers.now }
+    ensures index { result ≡ oldest any_slot assemblers.now }
+    ensures in_range { result < length assemblers.now }
+{
+    let mut at = 0;
+    for i in 1..assemblers.len() {
+        if assemblers[i].expires_at() < assemblers[at].expires_at() {
+            at = i;
+        }
+    }
+    at
 }
 
 /// The datagram at this place, if there is one and every byte of it came.

@@ -201,6 +201,13 @@ impl<K: Drop, const SIZE: usize, const HOLES: usize> PacketAssembler<K, SIZE, HO
         self.expires_at
     }
 
+    /// The datagram that has the slot, if one has.
+    pub fn key(&self) -> Option<&K>
+        ensures { option_copied result ≡ self.now.key }
+    {
+        self.key.as_ref()
+    }
+
     /// Whether no datagram has the slot.
     pub fn is_free(&self) -> bool
         ensures { result ≡ is_free self.now }

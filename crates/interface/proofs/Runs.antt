@@ -7,9 +7,8 @@ use Rattle.iface_tables.specs.Inner.{InnerValue, at_instant}
 use Rattle.iface_egress.specs.declared.socket_set.SocketStorage.{SocketStorage}
 use Rattle.iface_ingress.specs.Incoming.{IncomingValue}
 use Rattle.iface_ingress.specs.Arrives as Replies
-use Rattle.iface_ingress.specs.Arrives.{ReplyValue, whole_after}
+use Rattle.iface_ingress.specs.Arrives.{ReplyValue, whole_arrived}
 use Rattle.iface_ingress.specs.FragmentStored.{HasSameSettings}
-use Rattle.iface_ingress.specs.Reassembled.{taken_in}
 use Rattle.iface_ingress.proofs.Settings.{brings_same}
 use Rattle.interface.specs.Host.{Sender}
 use Rattle.interface.specs.SameHost.{IsSameHost}
@@ -44,7 +43,7 @@ module _ {D : Type 0} (moves : D → Move → D → Type 0) where
   pub receives_same : (content : Option IncomingValue) (s s' : State D) (receives : Receives moves content s s')
       → HasSameSettings s.host.inner receives.0.inner × IsSameHost receives.0.inner s'.host.inner
   receives_same content s s' receives = (
-    brings_same s.host.inner s.slots (whole_after s.host.inner s.host.timeout s.host.assemblers (taken_in s.host.inner content)) receives.0 receives.1.1,
+    brings_same s.host.inner s.slots (whole_arrived s.host.inner s.host.timeout s.host.assemblers content) receives.0 receives.1.1,
     replied_same (is_awaited receives.0) receives.0.reply (sender_with moves s receives.0) (sender_of moves s') receives.3,
   )
 

@@ -19,12 +19,11 @@ use Rattle.iface_ingress.specs.Incoming.{IncomingValue, Arp, Ip4, Ip6}
 use Rattle.iface_egress.specs.declared.socket_set.Item.{Item}
 use Rattle.iface_egress.specs.declared.socket_set.SocketStorage.{SocketStorage}
 use Rattle.iface_tables.specs.Inner.{InnerValue, context_of}
-use Rattle.iface_ingress.specs.Arrives.{Arrived, ArrivesV4, ArrivesV6, Brings, Hands, renewed, whole_after}
+use Rattle.iface_ingress.specs.Arrives.{Arrived, ArrivesV4, ArrivesV6, Brings, Hands, renewed, whole_arrived}
 use Rattle.iface_ingress.specs.Delivered.{Slots, with_change, changed_item, changed_in, changed_at, packet_delivered, is_taken_raw, datagram_slot}
 use Rattle.iface_ingress.specs.Datagrams.{ItemTakes, GivenIn, GivenAt}
 use Rattle.iface_ingress.specs.Delivered.{segment_delivered, segment_slot, with_segment}
 use Rattle.iface_ingress.specs.Processed.{HandsTo, control_v4_slots, control_v6_slots, segment_slots, names_no_endpoint}
-use Rattle.iface_ingress.specs.Reassembled.{taken_in}
 use Rattle.interface.specs.State.{State}
 use Rattle.interface.specs.Ingress.{Takes}
 use Rattle.interface.specs.Used.{is_used, sockets_in}
@@ -153,5 +152,5 @@ module _ {D : Type 0} (moves : D → Move → D → Type 0) where
   takes_shape s s' (Some true) takes =
       let reads = takes.4 in
       let arrives = reads.2 in
-      ap shape arrives.2 ∙ brings_shape s.host.inner s.slots (whole_after s.host.inner s.host.timeout s.host.assemblers (taken_in s.host.inner reads.0))
+      ap shape arrives.2 ∙ brings_shape s.host.inner s.slots (whole_arrived s.host.inner s.host.timeout s.host.assemblers reads.0)
       arrives.0 arrives.1.1

@@ -17,13 +17,13 @@ use Rattle.interface.specs.Host.{HostValue}
 abbrev pub first_timeout : ℕ
 first_timeout = 60_000_000
 
--- so many datagrams at a time can come in fragments at first
-abbrev pub assembler_count : ℕ
-assembler_count = 2
+-- so many datagrams at a time can come in fragments at first; on a network of many from more sources
+abbrev pub assembler_count : Config → ℕ
+assembler_count config = if config.host_requirements then 16 else 2
 
 abbrev pub new_host : Config → DeviceCapabilities → ℤ → HostValue
 new_host config device instant =
-    record { inner = made config device instant; left = None; assemblers = free_assemblers assembler_count 4096; timeout = first_timeout }
+    record { inner = made config device instant; left = None; assemblers = free_assemblers (assembler_count config) 4096; timeout = first_timeout }
 
 -- A refusal has its reason. Without one, an interface is made, or there is no memory for it.
 abbrev pub Makes : Config → DeviceCapabilities → ℤ → Result HostValue NewError → Type 0

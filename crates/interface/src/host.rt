@@ -10,7 +10,7 @@ ghost use Rattle.iface_egress.specs.Inner.{is_local, is_member_of};
 ghost use Rattle.iface_egress.specs.Settings.{unless, hardware_refusal, with_hardware, is_stranger, with_addresses, with_any_ip, routes_of, with_route_table};
 ghost use Rattle.iface_egress.specs.Source.{first_v4, first_v6, source_for, source_v4, source_v6};
 ghost use Rattle.interface.specs.Host.{host_at, maintained};
-ghost use Rattle.interface.specs.Made.{IsIdle, Makes, with_inner, with_assemblers, with_timeout};
+ghost use Rattle.interface.specs.Made.{IsIdle, assembler_count, Makes, with_inner, with_assemblers, with_timeout};
 
 use arrayvec::ArrayVec;
 use iface_egress::{
@@ -25,6 +25,9 @@ use std::marker::Model;
 
 /// How many datagrams can come in fragments at a time at first.
 const REASSEMBLY_COUNT: usize = 2;
+
+/// The same on a network of many.
+const REASSEMBLY_COUNT_OF_MANY: usize = 16;
 
 /// How long the fragments of a datagram are waited for at first, in seconds.
 const REASSEMBLY_SECS: u64 = 60;
@@ -63,7 +66,7 @@ impl Interface {
         let Ok(fragmenter) = Fragmenter::new(alloc) else {
             return Err(NewError::Memory);
         };
-        let Ok(assemblers) = PacketAssemblerSet::new(alloc, REASSEMBLY_COUNT) else {
+        let Ok(assemblers) = PacketAssemblerSet::new(alloc, assembler_count(config)) else {
             return Err(NewError::Memory);
         };
         Ok(Interface {
@@ -281,4 +284,15 @@ impl Context for Interface {
     }
 
     ghost drawn_context = { λ h. refl };
+}
+
+/// How many datagrams can come in fragments at a time at first.
+fn assembler_count(config: &Config) -> usize
+    ensures { result ≡ assembler_count config.now }
+{
+    if config.host_requirements {
+        REASSEMBLY_COUNT_OF_MANY
+    } else {
+        REASSEMBLY_COUNT
+    }
 }

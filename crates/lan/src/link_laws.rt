@@ -13,7 +13,7 @@ ghost use Rattle.lan.specs.Worlds.AtLink.Fragments.{LeftValue};
 ghost use Rattle.lan.specs.Worlds.AtLink.IsTransmitted.{IsTransmitted, FragmentIsTransmitted, Departs};
 ghost use Rattle.lan.specs.Worlds.AtLink.Plan.{plan_of};
 ghost use Rattle.lan.specs.Worlds.AtLink.Sent.{Sent};
-ghost use Rattle.lan.specs.Worlds.AtLink.Arrives.{Arrived, ArrivesAs, Brings, whole_after};
+ghost use Rattle.lan.specs.Worlds.AtLink.Arrives.{Arrived, ArrivesAs, Brings, whole_arrived};
 ghost use Rattle.lan.specs.Worlds.AtLink.Delivered.{Slots};
 ghost use Rattle.lan.specs.Worlds.AtLink.Incoming.{IncomingValue, IsContent};
 ghost use Rattle.lan.specs.Worlds.AtLink.Reassembled.{Assemblers, taken_in};
@@ -71,7 +71,7 @@ pub fn what_is_taken_was_made()
         → AreFew out
         → IsReceiver (IsIn made) out i assemblers (frame ∷ rest)
         → IsContent i.hardware i.checksums frame content
-        → BringsMade (IsIn made) (whole_after i timeout assemblers (taken_in i content)) }
+        → BringsMade (IsIn made) (whole_arrived i timeout assemblers content) }
     ensures keeps { (made : List Addressed) (first next : ℕ) (out : List Outgoing) (i : InnerValue) (timeout : ℕ) (assemblers assemblers' : Assemblers) (slots : Slots)
         (frame : List ℕ) (rest : List (List ℕ)) (content : Option IncomingValue) (a : Arrived)
         → AreSent (IsIn made) first next out

@@ -1,12 +1,15 @@
 -- What is asked of each event: that a frame which is taken brings its segment, and that a segment which is new goes in a frame.
 use Rattle.std.proofs.Common.{◌≡◌, ◌≢◌, inl, inr, ℕ, ◌≤◌, Bool, true, false, ℤ, IsTrue, List, [], ◌∷◌, ◌++◌, Option, Some, None, refl, sym, ap, ◌∙◌, subst, arith}
-use Rattle.std.specs.Prelude.{slice_get, slice_index_or, not, ◌&&◌}
+use Rattle.std.specs.Prelude.{slice_get, slice_index_or, not, ◌&&◌, ◌||◌}
 use Rattle.wire_ip.specs.declared.ip.repr.IpRepr.{IpRepr}
 use Rattle.std.proofs.lemmas.Bool.{or_left}
 use Rattle.std.proofs.lemmas.Slice.Eq.{bytes_eq-Decides}
-use Rattle.ip_wire.specs.AddressTests.{is_same_hardware}
+use Rattle.ip_wire.specs.AddressTests.{is_ethernet_broadcast, is_ethernet_multicast, is_same_hardware}
 use Rattle.ip_wire.specs.HardwareAddress.{HardwareAddress}
 use Rattle.ip_wire.specs.HardwareAddress.TheVariants as Hardware
+use Rattle.wire_ip.specs.Ip.{destination_of}
+use Rattle.ip_wire.specs.IpAddress.{IpAddress}
+use Rattle.ip_wire.specs.IpAddress.TheVariants as Address
 use Rattle.ip_wire.specs.TcpHeader.{TcpHeader}
 use Rattle.tcp_state.specs.Endpoints.{local_of, remote_of}
 use Rattle.tcp_state.specs.States.{is_listening}
@@ -20,6 +23,7 @@ use Rattle.tcp_liveness.proofs.Accepts.{accepted_by, between}
 use Rattle.tcp_refinement.specs.Host.{Made, made_of}
 use Rattle.interface.specs.Delivered.{AreOfOneMedium}
 use Rattle.iface_tables.specs.Inner.{InnerValue}
+use Rattle.iface_ingress.specs.Replies.{is_one_host}
 use Rattle.iface_tables.specs.Settings.{is_mtu}
 use Rattle.sim_link.specs.Port.{has_tx_token}
 use Rattle.lan.specs.declared.at_link.history.event.Side.{Side}
@@ -57,7 +61,7 @@ use Rattle.lan.proofs.Worlds.StillOnward.{ran, seen_in_run}
 use Rattle.proof_stack.specs.Progress.FramesInTransit.{SendsIn}
 use Rattle.proof_stack.specs.Progress.Ends.{AreBoth, AreConnected, AreEnds, AreThroughout, GoesAlong, IsConnected}
 use Rattle.proof_stack.specs.Progress.Events.{AreGone, AreOfEvent, HappensBy, IsOfCall, MoveBy, clock_in, shown_in, untimed}
-use Rattle.proof_stack.specs.Progress.Delivered.{hears}
+use Rattle.proof_stack.specs.Progress.Delivered.{hears, is_misframed_to}
 use Rattle.proof_stack.specs.Progress.KnownHopLimit.{KnowEachOther, KnowsOther, KnowsThroughout}
 use Rattle.proof_stack.specs.Progress.Leave.{LiesAmong}
 use Rattle.proof_stack.specs.Progress.Moving.{IsTcp}
@@ -86,7 +90,14 @@ back B = refl
 -- THE RECEIVER
 
 heard_with : (first i : InnerValue) (ip : IpRepr) → IsForHost first Hardware.Ip ip → IsForHost (with_routes first i) Hardware.Ip ip
-heard_with first i ip is = record { heard = is.heard; sender = is.sender; here = is.here; ours = is.ours; named = is.named }
+heard_with first i ip is = record { heard = is.heard; framed = is.framed; sender = is.sender; here = is.here; ours = is.ours; named = is.named }
+
+-- at a host without host requirements a frame to many may bring a packet to one
+unframed : (i : InnerValue) (to : HardwareAddress) (a : IpAddress) → i.host_requirements ≡ false → is_misframed_to i to a ≡ false
+unframed i Hardware.Ip a alone = refl
+unframed i (Hardware.Ethernet node) (Address.Ipv4 a) alone = λ k.
+    (alone k && (is_ethernet_broadcast node || is_ethernet_multicast node)) && is_one_host i a
+unframed i (Hardware.Ethernet node) (Address.Ipv6 a) alone = refl
 
 -- a host hears what is for its own address
 hears_its_own : (i : InnerValue) → hears i i.hardware ≡ true
@@ -188,6 +199,10 @@ module _ (starts : Starts) (initial : IsInitialWorld starts) (own : Side → Har
   first_mtu A = initial.a.mtu
   first_mtu B = initial.b.mtu
 
+  alone : (s : Side) → (first s).host_requirements ≡ false
+  alone A = initial.a.alone
+  alone B = initial.b.alone
+
   -- its hosts, after a history
   module _ (history : List Entry) (hosts : Nodes) (still : StillRun starts history hosts) (typed : AreTyped history) where
     abbrev inner : Side → InnerValue
@@ -213,6 +228,7 @@ module _ (starts : Starts) (initial : IsInitialWorld starts) (own : Side → Har
         let o = other s in
         for_host_same (with_routes (first o) (inner o)) (inner o) (stayed (first o) (inner o) (seen o)) (own o) ip
         (subst (λ (h : HardwareAddress). hears (inner o) h ≡ true) its (hears_its_own (inner o)))
+        (unframed (inner o) (own o) (destination_of ip) ((seen o).host_requirements ∙ alone o))
         (heard_with (first o) (inner o) ip (ends.taken_in s ip along))
 
   -- ONE EVENT

@@ -31,7 +31,7 @@ use Rattle.interface.specs.Ingress.{is_solicitation}
 use Rattle.interface.specs.TransmittedFrame.{CanRead, HasWidths}
 use Rattle.lan.specs.Worlds.Link.Made.{sealed}
 use Rattle.lan.proofs.Worlds.Moves.Held.{IsSeenAs}
-use Rattle.proof_stack.specs.Progress.Delivered.{hears, reader_of}
+use Rattle.proof_stack.specs.Progress.Delivered.{hears, is_misframed_to, reader_of}
 use Rattle.proof_stack.specs.Progress.Ends.{GoesAlong}
 use Rattle.proof_stack.specs.Progress.Queued.{frame_under, with_ident}
 use Rattle.proof_stack.specs.Progress.Segments.{CanTransmit}
@@ -86,9 +86,11 @@ module _ (i i' : InnerValue) (same : HasSettingsOf i i') where
   never_same ip k =
       is_unspecified (destination_of ip) || (foreign i i' same (destination_of ip) k || not (may_come (source_of ip) (destination_of ip) k))
 
-  pub for_host_same : (to : HardwareAddress) (ip : IpRepr) → hears i' to ≡ true → IsForHost i Hardware.Ip ip → IsForHost i' to ip
-  for_host_same to ip heard is = record {
+  pub for_host_same : (to : HardwareAddress) (ip : IpRepr) → hears i' to ≡ true → is_misframed_to i' to (destination_of ip) ≡ false
+      → IsForHost i Hardware.Ip ip → IsForHost i' to ip
+  for_host_same to ip heard framed is = record {
     heard = heard;
+    framed = framed;
     sender = sender i i' same (source_of ip) ∙ is.sender;
     here = astray i i' same (source_of ip) (destination_of ip) ∙ is.here;
     ours = for_us i i' same (destination_of ip) ∙ is.ours;

@@ -177,6 +177,7 @@ module _ (starts : Starts) (pairs : Side → FourTuple) where
         let destination : destination_of ip ≡ local_of far.addresses = along.destination ∙ addresses side in
         record {
           heard = refl;
+          framed = refl;
           sender = ap (may_be_sender j) source ∙ sender_so j (remote_of far.addresses) (hosts (other side)).remote (between (other side)).one;
           here = (λ k. is_astray j (source k) (destination k)) ∙ (between (other side)).here;
           ours = ap (is_for_us j) destination ∙ (between (other side)).ours;

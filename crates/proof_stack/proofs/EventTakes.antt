@@ -13,12 +13,12 @@ use Rattle.ip_wire.specs.TcpHeader.{TcpHeader}
 use Rattle.ip_wire.specs.declared.ethernet.repr.EthernetRepr.{EthernetRepr}
 use Rattle.tcp_block.specs.Value.{TcpValue}
 use Rattle.sockets.specs.Socket.{accepts_segment}
-use Rattle.iface_ingress.specs.Arrives.{whole_after}
+use Rattle.iface_ingress.specs.Arrives.{whole_after, whole_arrived}
 use Rattle.iface_ingress.specs.Delivered.{Slots, first_slot, is_connected, passes, passes_in, segment_slot}
 use Rattle.iface_ingress.specs.Processed.{names_no_endpoint}
 use Rattle.iface_ingress.specs.Incoming.{IncomingValue, Ip6, IsContent}
 use Rattle.iface_ingress.specs.Packet.{PacketValue, PayloadValue, Segment, packet_of, payload_written}
-use Rattle.iface_ingress.specs.Reassembled.{Assemblers, bytes_at, kept, slot_in, reassembled_v6, taken_in}
+use Rattle.iface_ingress.specs.Reassembled.{Assemblers, bytes_at, kept, slot_in, reassembled_v6, with_room}
 use Rattle.iface_ingress.specs.Sent.{CanBeRead, ether_for, uncut}
 use Rattle.iface_ingress.specs.Socket.{Socket}
 use Rattle.iface_ingress.specs.Socket.TheVariants as Kind
@@ -69,7 +69,7 @@ use Rattle.proof_stack.proofs.Polls.Inboxes.{Frames, leave, ports, waiting}
 use Rattle.proof_stack.proofs.Polls.Reached.{IsNoFragment, no_fragment}
 use Rattle.proof_stack.proofs.Polls.Readers.{brings, packet_read}
 use Rattle.proof_stack.proofs.Polls.Segments.{named_same, slot_same}
-use Rattle.proof_stack.proofs.Polls.Stays.{astray, for_us, heard, position_is, sender}
+use Rattle.proof_stack.proofs.Polls.Stays.{astray, for_us, framed, heard, position_is, sender}
 
 clash : {X : Type 0} → true ≡ false → X
 clash {X} e = absurd cc
@@ -224,7 +224,7 @@ module _ (side : Side) (i0 : InnerValue) (t : ℤ) (net : Net) (steps : List Ste
     listens : Rattle.iface_ingress.specs.Reassembled.is_taken_in moved.i (uncut link read payload) ≡ true
     listens =
         Delivered.taken_in then_host moved.i i.hardware to ip payload (heard i0 moved.i moved.settings to ∙ for_host.heard)
-        (sender i0 moved.i moved.settings (source_of ip) ∙ for_host.sender)
+        (framed i0 moved.i moved.settings to (destination_of ip) ∙ for_host.framed) (sender i0 moved.i moved.settings (source_of ip) ∙ for_host.sender)
         (astray i0 moved.i moved.settings (source_of ip) (destination_of ip) ∙ for_host.here)
 
     ours : is_for_us moved.i (destination_of read) ≡ true
@@ -233,12 +233,14 @@ module _ (side : Side) (i0 : InnerValue) (t : ℤ) (net : Net) (steps : List Ste
 
     handed : HandsIn side i0 t net read payload steps
     handed =
-        let all : BringsIn side i0 t net moved.i (whole_after moved.i moved.timeout moved.assemblers (taken_in moved.i content)) steps =
-        subst (λ (c : Option IncomingValue). BringsIn side i0 t net moved.i (whole_after moved.i moved.timeout moved.assemblers (taken_in moved.i c)) steps) content_is
+        let all : BringsIn side i0 t net moved.i (whole_arrived moved.i moved.timeout moved.assemblers content) steps =
+        subst (λ (c : Option IncomingValue). BringsIn side i0 t net moved.i (whole_arrived moved.i moved.timeout moved.assemblers c) steps) content_is
         moved.brings in
-        let it : BringsIn side i0 t net moved.i (whole_after moved.i moved.timeout moved.assemblers content) steps =
-        subst (λ (b : Bool). BringsIn side i0 t net moved.i (whole_after moved.i moved.timeout moved.assemblers (if b then content else None)) steps) listens all in
-        whole_brings moved.i moved.timeout moved.assemblers link read payload (no_fragment read payload Protocol.Tcp carries.protocol (λ same. cc)) ours it
+        let room : Option IncomingValue → Assemblers = λ o. with_room moved.i moved.assemblers o in
+        let it : BringsIn side i0 t net moved.i (whole_after moved.i moved.timeout (room content) content) steps =
+        subst (λ (b : Bool). BringsIn side i0 t net moved.i
+        (whole_after moved.i moved.timeout (room (if b then content else None)) (if b then content else None)) steps) listens all in
+        whole_brings moved.i moved.timeout (room content) link read payload (no_fragment read payload Protocol.Tcp carries.protocol (λ same. cc)) ours it
 
     comes_in : ComesIn side i0 t net read header bytes steps
     comes_in =

@@ -1,6 +1,8 @@
 //! What `==` says of a poll's answers, and how an interface begins.
 ghost use Rattle.std.specs.Prelude.{◌≡◌, ◌↔◌, ◌<◌, IsTrue, pos, [], None, false, true, length, max, IsErr, IfOk};
 ghost use Rattle.net_base.specs.Capabilities.{ip_mtu};
+ghost use Rattle.ip_wire.specs.HardwareAddress.{HardwareAddress};
+ghost use Rattle.iface_tables.specs.Settings.{default_config, network_config};
 ghost use Rattle.interface.specs.Ingress.{longest_frame};
 ghost use Rattle.interface.specs.Made.{first_timeout, assembler_count};
 
@@ -16,15 +18,16 @@ pub fn polls_are_equated()
 {}
 
 /// Law: the longest frame that is read: the longest IPv4 packet after an Ethernet header. Two datagrams can
-/// come in fragments, each of which is waited for a minute.
+/// come in fragments, sixteen on a network of many, each of which is waited for a minute.
 pub fn host_numbers()
     ensures frame { longest_frame ≡ 65549 }
-    ensures assemblers { assembler_count ≡ 2 }
+    ensures assemblers { (hardware : HardwareAddress) → assembler_count (default_config hardware) ≡ 2 }
+    ensures many { (hardware : HardwareAddress) → assembler_count (network_config hardware) ≡ 16 }
     ensures timeout { first_timeout ≡ 60000000 }
 {}
 
 /// An interface that begins has no addresses, no routes, no neighbours and no silence, and room for as many routes and neighbours as its
-/// configuration says, for one neighbour at least; two datagrams can come in fragments, each of
+/// configuration says, for one neighbour at least; two datagrams can come in fragments, or as many as on a network of many, each of
 /// which is waited for a minute. There is none at a device whose longest IP packet is below 576 or above 65,535 bytes.
 pub fn begins<D: Device>(
     alloc: Global,
@@ -40,7 +43,7 @@ pub fn begins<D: Device>(
         h.inner.neighbors ≡ record { entries = []; room = max config.now.neighbor_cache_count 1; silent = pos 0; searches = [] }) }
     ensures initial { IfOk result (λ h. h.inner.initial ≡ true) }
     ensures left { IfOk result (λ h. h.left ≡ None) }
-    ensures assemblers { IfOk result (λ h. length h.assemblers ≡ 2) }
+    ensures assemblers { IfOk result (λ h. length h.assemblers ≡ assembler_count config.now) }
     ensures timeout { IfOk result (λ h. h.timeout ≡ 60000000) }
     ensures short { ip_mtu (D.described device.now) < 576 → IsErr result }
     ensures long { 65535 < ip_mtu (D.described device.now) → IsErr result }

@@ -19,10 +19,10 @@ use Rattle.iface_egress.specs.Plan.{plan_of}
 use Rattle.iface_egress.specs.declared.egress_path.Sent.{Sent}
 use Rattle.iface_egress.specs.declared.egress_path.Sent.TheVariants as Outcome
 use Rattle.iface_egress.proofs.Changes.{changes, fragment_sends, same_settings}
-use Rattle.iface_ingress.specs.Arrives.{Arrived, ArrivesAs, whole_after}
+use Rattle.iface_ingress.specs.Arrives.{Arrived, ArrivesAs, whole_arrived}
 use Rattle.iface_ingress.specs.Delivered.{Slots}
 use Rattle.iface_ingress.specs.Incoming.{IncomingValue, Arp, Ip4, Ip6, IsContent}
-use Rattle.iface_ingress.specs.Reassembled.{Assemblers, taken_in}
+use Rattle.iface_ingress.specs.Reassembled.{Assemblers}
 use Rattle.iface_ingress.specs.Sent.{CanBeRead, normal_payload}
 use Rattle.interface.specs.Polls.{begun}
 use Rattle.interface.specs.Serve.{is_done}
@@ -188,9 +188,9 @@ module _ (q : Party) (others base : List Outgoing) (first : ℕ) (before : List 
     pub brings : (s : State PortValue) (p : Party) (frame : List ℕ) (d : PortValue) (content : Option IncomingValue) →
         PortMove s.device (Took s.host.inner.instant frame) d →
         IsContent s.host.inner.hardware s.host.inner.checksums frame content → L n s p
-        → Moves.BringsMade q s.host.inner.checksums (whole_after s.host.inner s.host.timeout s.host.assemblers (taken_in s.host.inner content))
+        → Moves.BringsMade q s.host.inner.checksums (whole_arrived s.host.inner s.host.timeout s.host.assemblers content)
     brings s p frame d content move is l =
-        brings_so q s.host.inner.checksums (whole_after s.host.inner s.host.timeout s.host.assemblers (taken_in s.host.inner content)) l.receiver.checksums
+        brings_so q s.host.inner.checksums (whole_arrived s.host.inner s.host.timeout s.host.assemblers content) l.receiver.checksums
         (taken_was_made (MadeBy q) start others next other.sent other.few s.host.inner s.host.timeout s.host.assemblers frame d.link.waiting content
         (waits_first s p frame d move l) is)
 
@@ -204,12 +204,12 @@ module _ (q : Party) (others base : List Outgoing) (first : ℕ) (before : List 
       more = l.more;
       sender = subst (λ (w : List (List ℕ)). IsSender (MadeBy p) first a.inner s.host.left w l.out) (sym (taken_sent s.host.inner.instant s.device d frame move))
           (arrival_keeps_sender (MadeBy p) first l.out s.host.inner s.host.left s.device.link.sent s.slots
-          (whole_after s.host.inner s.host.timeout s.host.assemblers (taken_in s.host.inner content)) a arrives.1 l.sender);
+          (whole_arrived s.host.inner s.host.timeout s.host.assemblers content) a arrives.1 l.sender);
       receiver = taken_keeps (MadeBy q) start others next other.sent other.few s.host.inner s.host.timeout s.host.assemblers s.slots frame d.link.waiting content
           assemblers a (waits_first s p frame d move l) is arrives;
       count = l.count;
       tied = tied_on s.host.inner.hardware a.inner.hardware base l.out before d.link.sent
-          (brings_same s.host.inner s.slots (whole_after s.host.inner s.host.timeout s.host.assemblers (taken_in s.host.inner content)) a arrives.1).hardware
+          (brings_same s.host.inner s.slots (whole_arrived s.host.inner s.host.timeout s.host.assemblers content) a arrives.1).hardware
           (subst (λ (w : List (List ℕ)). IsTied (medium_on s.host.inner.hardware) base before l.out w)
           (sym (taken_sent s.host.inner.instant s.device d frame move)) l.tied);
     }
@@ -284,7 +284,7 @@ module _ (q : Party) (others base : List Outgoing) (first : ℕ) (before : List 
       L n (state d (record s.host { inner = a.inner; assemblers = assemblers }) slots) p
   tells s p frame d0 content assemblers a packet gone d slots is arrives reply departs l =
       let same : a.inner.hardware ≡ s.host.inner.hardware =
-      (brings_same s.host.inner s.slots (whole_after s.host.inner s.host.timeout s.host.assemblers (taken_in s.host.inner content)) a arrives.1).hardware in
+      (brings_same s.host.inner s.slots (whole_arrived s.host.inner s.host.timeout s.host.assemblers content) a arrives.1).hardware in
       let long : HasSixBytes s.host.inner.hardware = subst HasSixBytes same l.sender.sound.own in
       let between = told_between s.host.inner s.host.timeout s.host.assemblers s.slots frame content a packet long is arrives.1 reply in
       let node : IsNode a.inner.hardware = subst IsNode (sym same) between.0 in

@@ -24,7 +24,7 @@ use Rattle.iface_egress.proofs.Changes.{changes, fragment_sends}
 use Rattle.iface_ingress.specs.Arrives as Replies
 use Rattle.iface_ingress.specs.Arrives.{ReplyValue}
 use Rattle.iface_ingress.specs.Incoming.{IncomingValue, IsIncoming, IsContent}
-use Rattle.iface_ingress.specs.Reassembled.{is_taken_in, taken_in}
+use Rattle.iface_ingress.specs.Reassembled.{is_taken_in, taken_in, with_room}
 use Rattle.interface.specs.Host.{Sender}
 use Rattle.interface.specs.Ingress.{Takes, Replied, is_awaited, sender_of, sender_with}
 use Rattle.interface.proofs.Kept.{IsKept}
@@ -42,7 +42,7 @@ use Rattle.lan.specs.Worlds.Link.Made.{sealed}
 use Rattle.lan.specs.Worlds.Link.Frames.{medium_on}
 use Rattle.lan.specs.Worlds.FragmentFacts.{Fact}
 use Rattle.lan.proofs.Worlds.Keeps.{waits_same, once_waits, taken_frame}
-use Rattle.lan.proofs.Worlds.Link.AssemblerFacts.{Assembler, AssemblersSo, ContentSo, assemblers_so, expired_so}
+use Rattle.lan.proofs.Worlds.Link.AssemblerFacts.{Assembler, AssemblersSo, ContentSo, assemblers_so, expired_so, room_so}
 use Rattle.lan.proofs.Worlds.Link.SaidFrames.{TakenSo}
 
 -- A PORT LEAVES WHAT WAITS
@@ -149,7 +149,8 @@ module _ (S : FragKey → Fact → Type 0) (medium : Medium) where
       record {
         hardware = ap (λ (x : InnerValue). medium_on x.hardware) same.1 ∙ ap medium_on same.0.hardware ∙ h.hardware;
         checksums = ap (λ (x : InnerValue). x.checksums) same.1 ∙ same.0.checksums ∙ h.checksums;
-        assemblers_are = subst (AssemblersSo S) (sym reads.2.1.0) (assemblers_so S s.host.inner s.host.timeout s.host.assemblers (taken_in s.host.inner reads.0) so h.assemblers_are);
+        assemblers_are = subst (AssemblersSo S) (sym reads.2.1.0) (assemblers_so S s.host.inner s.host.timeout (with_room s.host.inner s.host.assemblers (taken_in s.host.inner reads.0)) (taken_in s.host.inner reads.0) so
+            (room_so S s.host.inner s.host.assemblers (taken_in s.host.inner reads.0) h.assemblers_are));
         waits = subst (AllByRecursion (TakenSo S medium))
             (sym (replied_waits (is_awaited reads.2.0) reads.2.0.reply (sender_with PortMove (at_device s mid) reads.2.0) (sender_of PortMove s')
             reads.2.3)) first.1;

@@ -23,10 +23,10 @@ use Rattle.iface_tables.specs.Inner.{InnerValue, is_for_us}
 use Rattle.iface_ingress.specs.Arp as Arps
 use Rattle.iface_ingress.specs.Arp.{arp_answer, answer_at}
 use Rattle.iface_ingress.specs.Arrives as Replies
-use Rattle.iface_ingress.specs.Arrives.{Arrived, ArrivesV4, ArrivesV6, Brings, told, answered, whole_after}
+use Rattle.iface_ingress.specs.Arrives.{Arrived, ArrivesV4, ArrivesV6, Brings, told, answered, whole_after, whole_arrived}
 use Rattle.iface_ingress.specs.Delivered.{Slots}
 use Rattle.iface_ingress.specs.Incoming.{IncomingValue, Arp, Ip4, Ip6, IsIncoming, IsContent}
-use Rattle.iface_ingress.specs.Reassembled.{Assemblers, is_fragment, is_fragment_v6, is_taken_in, taken_in, bytes_at, kept, slot_in, reassembled, reassembled_v6}
+use Rattle.iface_ingress.specs.Reassembled.{Assemblers, is_fragment, is_fragment_v6, is_taken_in, taken_in, bytes_at, kept, slot_in, with_room, reassembled, reassembled_v6}
 use Rattle.iface_ingress.specs.Reassembled.{uncut, whole_of}
 use Rattle.lan.specs.Worlds.Link.Sides.{IsNode, HasSixBytes, IsBetweenNodes}
 
@@ -144,12 +144,12 @@ read_arp Hardware.Ip caps frame l q is = absurd is
 -- what a host tells in answer to a frame goes between hosts
 pub told_between : (i : InnerValue) (timeout : ℕ) (assemblers : Assemblers) (slots : Slots) (frame : List ℕ) (content : Option IncomingValue) (a : Arrived)
     (packet : ArpRepr) → HasSixBytes i.hardware → IsContent i.hardware i.checksums frame content
-    → Brings i slots (whole_after i timeout assemblers (taken_in i content)) a → a.reply ≡ Some (Replies.Tells packet) → IsNode i.hardware ×
+    → Brings i slots (whole_arrived i timeout assemblers content) a → a.reply ≡ Some (Replies.Tells packet) → IsNode i.hardware ×
     IsBetweenNodes packet
 told_between i timeout assemblers slots frame content a packet long is brings reply =
-    let by = told_by i slots (whole_after i timeout assemblers (taken_in i content)) a packet brings reply in
+    let by = told_by i slots (whole_arrived i timeout assemblers content) a packet brings reply in
     let came : content ≡ Some (Arp by.link by.question) =
-    taken_arp i content by.link by.question (whole_arp i timeout assemblers (taken_in i content) by.link by.question by.whole_is) in
+    taken_arp i content by.link by.question (whole_arp i timeout (with_room i assemblers (taken_in i content)) (taken_in i content) by.link by.question by.whole_is) in
     let read : IsIncoming i.hardware i.checksums frame (Arp by.link by.question) =
     subst (λ (o : Option IncomingValue). IsContent i.hardware i.checksums frame o) came is in
     answer_between i.hardware by.question packet (Ethernet.payload_of frame) long (read_arp i.hardware i.checksums frame by.link by.question read)

@@ -19,7 +19,7 @@ use Rattle.iface_ingress.specs.Arp.{arp_arrived, arp_answer, answer_at, is_for_l
 use Rattle.iface_ingress.specs.Arrives.{Arrived, Brings, told, whole_after}
 use Rattle.iface_ingress.specs.Incoming as Incoming
 use Rattle.iface_ingress.specs.Incoming.{IncomingValue, IsContent}
-use Rattle.iface_ingress.specs.Reassembled.{passes_filter}
+use Rattle.iface_ingress.specs.Reassembled.{passes_filter, with_room}
 use Rattle.iface_ingress.specs.Sent.{AreSealed}
 use Rattle.iface_ingress.proofs.OneContent.{one-content}
 use Rattle.iface_tables.specs.Best.{at_index}
@@ -118,7 +118,8 @@ module _ {D : Type 0} (moves : D → Move → D → Type 0) (t : ℤ) (s s' : St
       let receives : Receives moves v before s' = subst (λ (x : Option IncomingValue). Receives moves x before s') same reads.2 in
       let a : Arrived = receives.0 in
       let brings : Brings i s.slots v a =
-      subst (λ (b : Bool). Brings i s.slots (whole_after i s.host.timeout (maintained t s.host).assemblers (if b then v else None)) a) heard receives.1.1 in
+      subst (λ (b : Bool). Brings i s.slots (whole_after i s.host.timeout (with_room i (maintained t s.host).assemblers (if b then v else None))
+      (if b then v else None)) a) heard receives.1.1 in
       record {
         mid = step.1;
         took = subst (λ (f : List ℕ). moves s.device (Took t f) step.1) this step.2;

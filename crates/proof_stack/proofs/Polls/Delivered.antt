@@ -8,6 +8,7 @@ use Rattle.net_base.specs.Device.{Move}
 use Rattle.net_base.specs.Packets.{contents, is_full_for}
 use Rattle.wire_address.specs.declared.ip.IpAddress.{IpAddress}
 use Rattle.wire_address.specs.declared.ip.IpAddress.TheVariants as Address
+use Rattle.ip_wire.specs.Ipv4Address.{Ipv4Address}
 use Rattle.wire_address.specs.declared.ip.IpProtocol.TheVariants as Protocol
 use Rattle.wire_address.specs.declared.hardware.HardwareAddress.{HardwareAddress}
 use Rattle.wire_address.specs.declared.hardware.HardwareAddress.TheVariants as Hardware
@@ -27,7 +28,7 @@ use Rattle.socket_datagram.specs.declared.dns.state.State.TheVariants as Dns
 use Rattle.iface_ingress.specs.Context.{ContextValue}
 use Rattle.iface_ingress.specs.Delivered.{datagram_slot, passes, passes_in}
 use Rattle.iface_ingress.specs.Packet.{PacketValue, payload_written}
-use Rattle.iface_ingress.specs.Reassembled.{is_astray, passes_filter, is_sender, is_taken_in}
+use Rattle.iface_ingress.specs.Reassembled.{is_astray, is_misframed, passes_filter, is_sender, is_taken_in}
 use Rattle.iface_ingress.specs.Sent.{ether_for, uncut}
 use Rattle.iface_ingress.specs.Socket.{Socket}
 use Rattle.iface_ingress.specs.Socket.TheVariants as Kind
@@ -45,7 +46,7 @@ use Rattle.interface.specs.QuietPoll.{HasNoFrame}
 use Rattle.interface.specs.State.{State}
 use Rattle.interface.specs.TransmittedFrame.{CanRead, HasWidths}
 use Rattle.proof_stack.specs.Progress.NeighborResolution.{IsNext}
-use Rattle.proof_stack.specs.Progress.Delivered.{Brings, ArrivesNext, IsExpected, RefusesNothing, WaitsFollowing, as_received, hears, may_be_sender, reader_of}
+use Rattle.proof_stack.specs.Progress.Delivered.{Brings, ArrivesNext, IsExpected, RefusesNothing, WaitsFollowing, as_received, hears, is_misframed_to, may_be_sender, reader_of}
 use Rattle.proof_stack.specs.Progress.Moves.{AreMoves, is_refused}
 use Rattle.proof_stack.specs.Progress.Queued.{CanGo, GoesAtOnce, GoesInTurn, HasTurn, HasWay, WentFrom, WentOut, ports_of, frame_under, with_ident}
 use Rattle.proof_stack.specs.Progress.Reached.{IsFor, udp_slot}
@@ -114,12 +115,23 @@ module _ (j : InnerValue) where
   heard_on i Hardware.Ip (Hardware.Ethernet node) carried is = refl
   heard_on i Hardware.Ip Hardware.Ip carried is = refl
 
-  pub taken_in : (i : InnerValue) (own to : HardwareAddress) (h : IpRepr) (payload : List ℕ) → hears i to ≡ true → may_be_sender i (source_of h) ≡ true
+  framed_on : (i : InnerValue) (own to : HardwareAddress) (carried : EthernetProtocol) (destination : Ipv4Address)
+      → is_misframed_to i to (Address.Ipv4 destination) ≡ false → is_misframed i (link_of own to carried) destination ≡ false
+  framed_on i (Hardware.Ethernet from) (Hardware.Ethernet node) carried destination is = is
+  framed_on i (Hardware.Ethernet from) Hardware.Ip carried destination is = refl
+  framed_on i Hardware.Ip (Hardware.Ethernet node) carried destination is = refl
+  framed_on i Hardware.Ip Hardware.Ip carried destination is = refl
+
+  pub taken_in : (i : InnerValue) (own to : HardwareAddress) (h : IpRepr) (payload : List ℕ) → hears i to ≡ true
+      → is_misframed_to i to (destination_of h) ≡ false → may_be_sender i (source_of h) ≡ true
       → is_astray i (source_of h) (destination_of h) ≡ false → is_taken_in i (uncut (link_of own to (ether_for (numbered_header j h))) (as_read h) payload) ≡ true
-  taken_in i own to (Ip.Ipv4 v) payload heard sender here =
-      and_from (passes_filter i (link_of own to (ether_for (Ip.Ipv4 v))) && is_sender i v.src_addr) _
-      (and_from _ _ (heard_on i own to (ether_for (Ip.Ipv4 v)) heard) sender) (ap not here)
-  taken_in i own to (Ip.Ipv6 v) payload heard sender here =
+  taken_in i own to (Ip.Ipv4 v) payload heard framed sender here =
+      and_from (passes_filter i (link_of own to (ether_for (Ip.Ipv4 v))) && is_sender i v.src_addr
+      && not (is_astray i (Address.Ipv4 v.src_addr) (Address.Ipv4 v.dst_addr))) _
+      (and_from (passes_filter i (link_of own to (ether_for (Ip.Ipv4 v))) && is_sender i v.src_addr) _
+      (and_from _ _ (heard_on i own to (ether_for (Ip.Ipv4 v)) heard) sender) (ap not here))
+      (ap not (framed_on i own to (ether_for (Ip.Ipv4 v)) v.dst_addr framed))
+  taken_in i own to (Ip.Ipv6 v) payload heard framed sender here =
       and_from _ _ (and_from _ _ (heard_on i own to (ether_for (Ip.Ipv6 v)) heard) (or_left _ _ sender)) (ap not here)
 
 -- THE DESTINATION OF A DATAGRAM
@@ -190,7 +202,8 @@ module _ {E : Type 0} (moves : E → Move → E → Type 0) (i : InnerValue) (u 
       m meta w
   is_for = record {
     carries = finds i ident settings d to p (reader_of r.host.inner) wide can formed reads some;
-    listens = taken_in then_host (at_instant u r.host.inner) i.hardware to p.header bytes expected.heard expected.sender expected.here;
+    listens = taken_in then_host (at_instant u r.host.inner) i.hardware to p.header bytes expected.heard expected.framed expected.sender
+        expected.here;
     ours = ap (λ (a : IpAddress). is_for_us (at_instant u r.host.inner) a) (same_destination then_host p.header) ∙ expected.ours;
     slot = same_slot then_host (context_of (at_instant u r.host.inner)) (ports_of settings d) p.header r.slots ∙ expected.slot;
     stands = expected.stands;

@@ -76,6 +76,7 @@ expected_still : (i : InnerValue) (c : CacheValue) (slots : List (SocketStorage 
     (meta : Meta) (w : UdpValue) → IsExpected i slots to h ports m meta w → IsExpected (record i { neighbors = c }) slots to h ports m meta w
 expected_still i c slots (Hardware.Ethernet node) (Ip.Ipv4 header) ports m meta w is = record {
   heard = is.heard;
+  framed = is.framed;
   sender = is.sender;
   here = is.here;
   ours = is.ours;
@@ -84,6 +85,7 @@ expected_still i c slots (Hardware.Ethernet node) (Ip.Ipv4 header) ports m meta 
 }
 expected_still i c slots (Hardware.Ethernet node) (Ip.Ipv6 header) ports m meta w is = record {
   heard = is.heard;
+  framed = is.framed;
   sender = is.sender;
   here = is.here;
   ours = is.ours;
@@ -92,6 +94,7 @@ expected_still i c slots (Hardware.Ethernet node) (Ip.Ipv6 header) ports m meta 
 }
 expected_still i c slots Hardware.Ip (Ip.Ipv4 header) ports m meta w is = record {
   heard = is.heard;
+  framed = is.framed;
   sender = is.sender;
   here = is.here;
   ours = is.ours;
@@ -100,6 +103,7 @@ expected_still i c slots Hardware.Ip (Ip.Ipv4 header) ports m meta w is = record
 }
 expected_still i c slots Hardware.Ip (Ip.Ipv6 header) ports m meta w is = record {
   heard = is.heard;
+  framed = is.framed;
   sender = is.sender;
   here = is.here;
   ours = is.ours;

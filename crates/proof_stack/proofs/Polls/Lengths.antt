@@ -27,9 +27,10 @@ use Rattle.iface_ingress.specs.Following.TheVariants as End
 use Rattle.iface_ingress.specs.Headers.{go_through, upper_bytes_of}
 use Rattle.iface_ingress.specs.Incoming.{IncomingValue, Arp, Ip4, Ip6, IsContent}
 use Rattle.iface_ingress.specs.Reassembled.{FragmentValue, Assemblers, bytes_at, given_up_at, is_fragment, is_fragment_v6, is_same_datagram, is_taken_in, is_unfit, kept}
-use Rattle.iface_ingress.specs.Reassembled.{part_of, slot_in, reassembled, reassembled_v6, released, runs_kept, taken_in, uncut, whole_of}
+use Rattle.iface_ingress.specs.Reassembled.{part_of, slot_in, reassembled, reassembled_v6, released, runs_kept, taken_in, uncut, whole_of, with_room}
 use Rattle.iface_ingress.specs.Reassembled.{with_part, with_fragment}
 use Rattle.iface_ingress.specs.Upper.{upper_payload}
+use Rattle.iface_ingress.proofs.Roomed.{roomed}
 use Rattle.iface_tables.specs.Inner.{InnerValue}
 use Rattle.iface_tables.specs.Reassembly as Reassembly
 use Rattle.iface_tables.specs.Reassembly.{AssemblerValue, completed, freed, is_complete, is_of, overwritten, assembler_index_for, placed, taken, takes_end, takes_total}
@@ -182,6 +183,9 @@ module _ (most : ℕ) where
       → AreShort (assemblers_after i timeout assemblers content)
   after_short i timeout assemblers content all = released_short (slot_in assemblers content) (kept i timeout assemblers content) (kept_short i timeout assemblers content all)
 
+  room_short : (i : InnerValue) (assemblers : Assemblers) (content : Option IncomingValue) → AreShort assemblers → AreShort (with_room i assemblers content)
+  room_short i assemblers content all = roomed AreShort i assemblers (λ at. changed_short freed (λ s short. short) at assemblers all) all content
+
   pub expired_short : (instant : ℤ) (assemblers : Assemblers) → AreShort assemblers → AreShort (without_expired assemblers instant)
   expired_short instant assemblers all =
       map_short (unless_expired instant) (λ s short. if_short (is_expired instant s) (freed s) s short short) assemblers all
@@ -192,7 +196,8 @@ module _ (most : ℕ) where
   takes_short {D} moves s s' (Some false) takes all = subst (λ (x : State D). AreShort x.host.assemblers) (sym takes.3) all
   takes_short {D} moves s s' (Some true) takes all =
       let reads = takes.4 in
-      subst AreShort (sym reads.2.1.0) (after_short s.host.inner s.host.timeout s.host.assemblers (taken_in s.host.inner reads.0) all)
+      subst AreShort (sym reads.2.1.0) (after_short s.host.inner s.host.timeout (with_room s.host.inner s.host.assemblers (taken_in s.host.inner reads.0)) (taken_in s.host.inner reads.0)
+      (room_short s.host.inner s.host.assemblers (taken_in s.host.inner reads.0) all))
 
   -- WHAT IS WHOLE
 
@@ -256,9 +261,10 @@ module _ (most : ℕ) where
       → (ip : IpRepr) (payload : List ℕ) → IsPacket (whole_in s content) ip payload → length payload ≤ most
   brought_short s frame content is short all ip payload packet =
       let taken : Option IncomingValue = taken_in s.host.inner content in
+      let room : Assemblers = with_room s.host.inner s.host.assemblers taken in
       packet_short (whole_in s content) ip payload packet
-      (whole_short (kept s.host.inner s.host.timeout s.host.assemblers taken) (slot_in s.host.assemblers taken) taken
-      (kept_short s.host.inner s.host.timeout s.host.assemblers taken all)
+      (whole_short (kept s.host.inner s.host.timeout room taken) (slot_in room taken) taken
+      (kept_short s.host.inner s.host.timeout room taken (room_short s.host.inner s.host.assemblers taken all))
       (taken_short s.host.inner content (content_short s.host.inner.hardware s.host.inner.checksums frame content is short)))
 
   -- and the bytes of a datagram in it

@@ -37,7 +37,7 @@ use Rattle.iface_ingress.specs.Following.TheVariants as End
 use Rattle.iface_ingress.specs.Headers as Headers
 use Rattle.iface_ingress.specs.Headers.{upper_of}
 use Rattle.iface_ingress.specs.Incoming.{IncomingValue, Ip6, IsContent}
-use Rattle.iface_ingress.specs.Reassembled.{Assemblers, following_headers, is_taken_in, slot_in, kept, bytes_at, reassembled_v6}
+use Rattle.iface_ingress.specs.Reassembled.{Assemblers, following_headers, is_taken_in, slot_in, kept, bytes_at, reassembled_v6, with_room}
 use Rattle.iface_ingress.specs.Sent.{uncut}
 use Rattle.iface_ingress.specs.Upper.{IsBrought, upper_header, upper_payload}
 use Rattle.iface_ingress.proofs.OneContent.{one-content, one-carried-content}
@@ -235,11 +235,12 @@ hands_over {D} moves t s s' frame link ip payload x carries only content whole l
     let receives : Receives moves (Some (uncut link ip payload)) (at_device (state s.device (maintained t s.host) s.slots) step.1) s' =
     subst (λ (v : Option IncomingValue). Receives moves v (at_device (state s.device (maintained t s.host) s.slots) step.1) s') same reads.2 in
     let a : Arrived = receives.0 in
-    let brings : Brings i s.slots (whole_after i s.host.timeout (maintained t s.host).assemblers (Some (uncut link ip payload))) a =
-    subst (λ (b : Bool). Brings i s.slots (whole_after i s.host.timeout (maintained t s.host).assemblers (if b then Some (uncut link ip payload) else None)) a)
-    listens receives.1.1 in
+    let room : Option IncomingValue → Assemblers = λ o. with_room i (maintained t s.host).assemblers o in
+    let brings : Brings i s.slots (whole_after i s.host.timeout (room (Some (uncut link ip payload))) (Some (uncut link ip payload))) a =
+    subst (λ (b : Bool). Brings i s.slots (whole_after i s.host.timeout (room (if b then Some (uncut link ip payload) else None))
+    (if b then Some (uncut link ip payload) else None)) a) listens receives.1.1 in
     subst (λ (ps : Slots). Handed i s.slots link ip payload x carries ps) (sym receives.2)
-    (brought i s.slots link ip payload x carries whole ours s.host.timeout (maintained t s.host).assemblers a brings)
+    (brought i s.slots link ip payload x carries whole ours s.host.timeout (room (Some (uncut link ip payload))) a brings)
 
 -- A DATAGRAM
 

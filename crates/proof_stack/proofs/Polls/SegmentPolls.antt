@@ -54,7 +54,7 @@ use Rattle.proof_stack.proofs.Polls.Inbox.{went_as}
 use Rattle.proof_stack.proofs.Polls.InTurn.{turn_goes}
 use Rattle.proof_stack.proofs.Polls.SegmentSteps.{step_none}
 use Rattle.proof_stack.proofs.Polls.Segments.{comes as it_comes, offers_only}
-use Rattle.proof_stack.proofs.Polls.Stays.{Stands, astray, for_us, heard, nobody, position_is, reached_same, reads_then, sender, stands_at}
+use Rattle.proof_stack.proofs.Polls.Stays.{Stands, astray, for_us, framed, heard, nobody, position_is, reached_same, reads_then, sender, stands_at}
 
 clash : {X : Type 0} → true ≡ false → X
 clash {X} e = absurd cc
@@ -383,6 +383,7 @@ module _ {E : Type 0} (moves : E → Move → E → Type 0) (gives_tx_token : E 
         value = coming.holds.value;
         awaited = record {
           heard = heard (at_instant u r.host.inner) its_host same_settings to ∙ is.awaited.heard;
+          framed = framed (at_instant u r.host.inner) its_host same_settings to (destination_of ip) ∙ is.awaited.framed;
           sender = sender (at_instant u r.host.inner) its_host same_settings (source_of ip) ∙ is.awaited.sender;
           here = astray (at_instant u r.host.inner) its_host same_settings (source_of ip) (destination_of ip) ∙ is.awaited.here;
           ours = for_us (at_instant u r.host.inner) its_host same_settings (destination_of ip) ∙ is.awaited.ours;

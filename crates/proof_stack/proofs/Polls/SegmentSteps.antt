@@ -10,13 +10,12 @@ use Rattle.ip_wire.specs.declared.ethernet.repr.EthernetRepr.{EthernetRepr}
 use Rattle.sockets.specs.Socket.{accepts_packet, accepts_segment}
 use Rattle.tcp_state.specs.Endpoints.{is_between, pair_in}
 use Rattle.tcp_refinement.specs.Endpoints.{CameBetween}
-use Rattle.iface_ingress.specs.Arrives.{Arrived, ArrivesV4, ArrivesV6, Brings, renewed, whole_after}
+use Rattle.iface_ingress.specs.Arrives.{Arrived, ArrivesV4, ArrivesV6, Brings, renewed, whole_arrived}
 use Rattle.iface_ingress.specs.UpperLayer.{IsCarriedContent}
 use Rattle.iface_ingress.specs.Delivered.{Slots, changed_at, changed_in, first_slot, packet_delivered, passes, segment_delivered}
 use Rattle.iface_ingress.specs.Delivered.{segment_slot, with_change, with_packet, with_segment}
 use Rattle.iface_ingress.specs.Processed.{HandsTo, names_no_endpoint, segment_slots}
 use Rattle.iface_ingress.specs.Incoming.{IncomingValue, Arp, Ip4, Ip6}
-use Rattle.iface_ingress.specs.Reassembled.{taken_in}
 use Rattle.iface_ingress.specs.Packet.{PayloadValue, Bytes, ControlV4, ControlV6, Datagram, Segment}
 use Rattle.iface_ingress.specs.Socket.{Socket}
 use Rattle.iface_ingress.specs.Upper.{upper_header, upper_payload}
@@ -147,4 +146,4 @@ module _ (ip : IpRepr) (header : TcpHeader) (m : ℕ) where
   step_none {E} moves u s s' (Some true) first none step =
       let receives = step.4.2 in
       subst (λ (ps : Slots). NoneBefore ip header m ps) (sym receives.2) (brings s.slots first none (at_instant u s.host.inner)
-      (whole_after (at_instant u s.host.inner) s.host.timeout (maintained u s.host).assemblers (taken_in (at_instant u s.host.inner) step.4.0)) receives.0 receives.1.1)
+      (whole_arrived (at_instant u s.host.inner) s.host.timeout (maintained u s.host).assemblers step.4.0) receives.0 receives.1.1)

@@ -320,7 +320,7 @@ module _ {E : Type 0} (moves : E → Move → E → Type 0) (i : InnerValue) (u 
           hands_over moves u r r' (frame_under i ident to p ++ padding) link read payload (Segment header bytes) carries next
           (packet_read i ident to p (reader_of r.host.inner) wide can formed reads padding)
           (no_fragment read payload Protocol.Tcp carries.protocol (λ same. cc))
-          (taken_in then_host there i.hardware to ip payload expected.heard expected.sender expected.here)
+          (taken_in then_host there i.hardware to ip payload expected.heard expected.framed expected.sender expected.here)
           (ap (λ (a : IpAddress). is_for_us there a) (same_destination then_host ip) ∙ expected.ours) step
 
 -- IT GOES

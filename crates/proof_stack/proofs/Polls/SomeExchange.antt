@@ -265,7 +265,7 @@ module _ (t : TwoSteps) (f : FourSteps) where
     both = neighbors;
     via = refl;
     short = leb-true _ _ refl;
-    expected = record { heard = refl; sender = refl; here = refl; ours = refl; slot = refl; stands = refl };
+    expected = record { heard = refl; framed = refl; sender = refl; here = refl; ours = refl; slot = refl; stands = refl };
     room = refl;
     served = served;
   }
@@ -291,7 +291,7 @@ pub expects :
     (ports_of for_b.settings (datagram_to (address B))) 0 nobody bound_b
 unfolding v4_number
 expects = record {
-  expected = record { heard = refl; sender = refl; here = refl; ours = refl; slot = refl; stands = refl };
+  expected = record { heard = refl; framed = refl; sender = refl; here = refl; ours = refl; slot = refl; stands = refl };
   no_answer = refl;
 }
 

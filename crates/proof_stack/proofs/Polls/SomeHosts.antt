@@ -151,7 +151,7 @@ pub expects :
     IsExpectedThroughout (at_instant now expecting.host.inner) expecting.slots Hardware.Ip packet.header (ports_of queued_a.settings datagram) 0 nobody bound_b
 unfolding v4_number
 expects = record {
-  expected = record { heard = refl; sender = refl; here = refl; ours = refl; slot = refl; stands = refl };
+  expected = record { heard = refl; framed = refl; sender = refl; here = refl; ours = refl; slot = refl; stands = refl };
   no_answer = refl;
 }
 

@@ -91,6 +91,7 @@ takes_in : (side : Side) (ip : IpRepr) → GoesAlong (pair side) ip → IsForHos
 unfolding v4_number
 takes_in side ip along = record {
   heard = refl;
+  framed = refl;
   sender = ap (may_be_sender (first_host (other side)).inner) (source side ip along) ∙ sent side;
   here = (λ k. is_astray (first_host (other side)).inner (source side ip along k) (destination side ip along k)) ∙ astray side;
   ours = ap (is_for_us (first_host (other side)).inner) (destination side ip along) ∙ ours side;

@@ -165,7 +165,7 @@ pub next_expected : IsExpectedThroughout (at_instant now expecting_both.host.inn
     (ports_of queued_both.settings next_datagram) 0 nobody roomy
 unfolding v4_number
 next_expected = record {
-  expected = record { heard = refl; sender = refl; here = refl; ours = refl; slot = refl; stands = refl };
+  expected = record { heard = refl; framed = refl; sender = refl; here = refl; ours = refl; slot = refl; stands = refl };
   no_answer = refl;
 }
 

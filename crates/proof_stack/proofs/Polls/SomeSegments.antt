@@ -155,7 +155,7 @@ reads = record { medium = record { from = tt; receiver = tt }; sealed = sealed }
 pub awaits : IsAwaitedThroughout reader awaiting.slots Hardware.Ip header push 0 nobody (idle B)
 unfolding v4_number
 awaits = record {
-  awaited = record { heard = refl; sender = refl; here = refl; ours = refl; named = refl; slot = refl; stands = refl };
+  awaited = record { heard = refl; framed = refl; sender = refl; here = refl; ours = refl; named = refl; slot = refl; stands = refl };
   connection = refl;
 }
 

@@ -45,7 +45,7 @@ use Rattle.interface.proofs.SameHost.{slot_same, same_where}
 use Rattle.interface.proofs.Settings.{settings_then}
 use Rattle.proof_stack.specs.PeerHost.ReceivedPackets.{Came}
 use Rattle.proof_stack.specs.PeerHost.Steps.{Reaches, Step, Steps}
-use Rattle.proof_stack.specs.Progress.Delivered.{IsExpected, hears, may_be_sender, reader_of}
+use Rattle.proof_stack.specs.Progress.Delivered.{IsExpected, hears, is_misframed_to, may_be_sender, reader_of}
 use Rattle.proof_stack.specs.Progress.Inbox.{IsReady}
 use Rattle.proof_stack.specs.Progress.Queued.{ports_of}
 use Rattle.proof_stack.specs.Progress.Reached.{udp_slot}
@@ -169,6 +169,13 @@ module _ (i i' : InnerValue) (same : HasSettingsOf i i') where
       ap (λ (h : HardwareAddress). is_same_hardware h (Hardware.Ethernet node) || (is_ethernet_broadcast node || is_ethernet_multicast node))
       same.hardware
 
+  pub framed : (to : HardwareAddress) (a : IpAddress) → is_misframed_to i' to a ≡ is_misframed_to i to a
+  framed Hardware.Ip a = refl
+  framed (Hardware.Ethernet node) (Address.Ipv4 a) = λ k.
+      (same.host_requirements k && (is_ethernet_broadcast node || is_ethernet_multicast node))
+      && (is_unicast_v4 a && not (broadcast (Address.Ipv4 a) k))
+  framed (Hardware.Ethernet node) (Address.Ipv6 a) = refl
+
   pub nobody : (ip : IpRepr) → names_no_endpoint i' ip ≡ names_no_endpoint i ip
   nobody ip k = is_unspecified (source_of ip) || (is_unspecified (destination_of ip) || (broadcast (destination_of ip) k || is_multicast (destination_of ip)))
 
@@ -177,6 +184,7 @@ module _ (i i' : InnerValue) (same : HasSettingsOf i i') where
       → slice_get slots' m ≡ Some (udp_slot meta' w') → IsExpected i' slots' to header ports m meta' w'
   still slots slots' to header ports m meta meta' w w' is slot stands = record {
     heard = heard to ∙ is.heard;
+    framed = framed to (destination_of header) ∙ is.framed;
     sender = sender (source_of header) ∙ is.sender;
     here = astray (source_of header) (destination_of header) ∙ is.here;
     ours = for_us (destination_of header) ∙ is.ours;

@@ -32,9 +32,8 @@ use Rattle.iface_egress.specs.declared.egress_path.Sent.{Sent}
 use Rattle.iface_egress.proofs.Changes.{changes, fragment_sends, same_settings}
 use Rattle.iface_egress.proofs.Short.{planned_short, fragment_short}
 use Rattle.iface_ingress.specs.Arrives as Replies
-use Rattle.iface_ingress.specs.Arrives.{ReplyValue, whole_after}
+use Rattle.iface_ingress.specs.Arrives.{ReplyValue, whole_arrived}
 use Rattle.iface_ingress.specs.FragmentStored.{HasSameSettings}
-use Rattle.iface_ingress.specs.Reassembled.{taken_in}
 use Rattle.interface.specs.Host.{Sender}
 use Rattle.interface.specs.Ingress.{Takes, Replied, is_awaited, is_read, longest_frame}
 use Rattle.interface.specs.State.{State}
@@ -183,7 +182,7 @@ module _ (first : Frames) where
       let took : So takes.1 i = so_port s.device takes.1 i (ap (λ (p : PortValue). p.link.sent) (sym takes.2.1)) so in
       so_replied (is_awaited reads.2.0) reads.2.0.reply (record { device = takes.1; inner = j; left = s.host.left })
       (record { device = s'.device; inner = s'.host.inner; left = s'.host.left })
-      (brings_so i s.slots (whole_after i s.host.timeout s.host.assemblers (taken_in i reads.0)) reads.2.0 reads.2.1.1) reads.2.3
+      (brings_so i s.slots (whole_arrived i s.host.timeout s.host.assemblers reads.0) reads.2.0 reads.2.1.1) reads.2.3
       (so_host takes.1 i j same.mtu took)
 
   -- PIECES AND TURNS

@@ -8,10 +8,9 @@ use Rattle.ip_wire.specs.IpRepr.TheVariants as Ip
 use Rattle.ip_wire.specs.TcpHeader.{TcpHeader}
 use Rattle.ip_wire.specs.UdpRepr.{UdpRepr}
 use Rattle.interface.specs.Inner.{is_for_us}
-use Rattle.iface_ingress.specs.Arrives.{whole_after}
+use Rattle.iface_ingress.specs.Arrives.{whole_arrived}
 use Rattle.iface_ingress.specs.UpperLayer.{IsDatagram, IsSegment}
 use Rattle.iface_ingress.specs.Incoming.{IncomingValue, Arp, Ip4, Ip6, IsContent}
-use Rattle.iface_ingress.specs.Reassembled.{taken_in}
 use Rattle.iface_ingress.specs.Upper.{upper_header, upper_payload}
 use Rattle.interface.specs.State.{State}
 use Rattle.proof_stack.specs.PeerHost.Steps.{Reaches}
@@ -25,7 +24,7 @@ IsPacket None ip bytes = ⊥
 
 -- what is whole after a frame's content, as the host takes it: the packet in the frame, or the datagram whose last missing fragment it is
 abbrev pub whole_in : {D : Type 0} → State D → Option IncomingValue → Option IncomingValue
-whole_in s content = whole_after s.host.inner s.host.timeout s.host.assemblers (taken_in s.host.inner content)
+whole_in s content = whole_arrived s.host.inner s.host.timeout s.host.assemblers content
 
 module _ {D : Type 0} (moves : D → Move → D → Type 0) (instant : ℤ) (from : State D) where
   -- A poll that began here took a frame from its device, and with it this packet was whole, which is for the host.

@@ -1,5 +1,5 @@
 -- A datagram that goes from one host to another, and waits there.
-use Rattle.std.specs.Prelude.{◌≡◌, ℕ, ◌^◌, ◌<◌, ℤ, Bool, true, false, ◌||◌, List, [], ◌∷◌, ◌++◌, slice_get, Some}
+use Rattle.std.specs.Prelude.{◌≡◌, ℕ, ◌^◌, ◌<◌, ℤ, Bool, true, false, ◌&&◌, ◌||◌, List, [], ◌∷◌, ◌++◌, slice_get, Some}
 use Rattle.std.specs.List.{list_any}
 use Rattle.net_base.specs.Device.{Move}
 use Rattle.net_base.specs.Packets.{contents}
@@ -15,7 +15,8 @@ use Rattle.socket_datagram.specs.Udp.{UdpValue, UdpSettings}
 use Rattle.socket_datagram.specs.declared.udp.UdpMetadata.{UdpMetadata}
 use Rattle.iface_ingress.specs.Delivered.{datagram_slot}
 use Rattle.iface_ingress.specs.Packet.{PacketValue}
-use Rattle.iface_ingress.specs.Reassembled.{is_astray, is_sender}
+use Rattle.iface_ingress.specs.Reassembled.{is_astray, is_group_frame, is_sender}
+use Rattle.iface_ingress.specs.Replies.{is_one_host}
 use Rattle.iface_ingress.specs.Socket.{Socket}
 use Rattle.iface_tables.specs.Inner.{InnerValue, context_of, is_for_us}
 use Rattle.iface_egress.specs.declared.socket_meta.Meta.{Meta}
@@ -63,6 +64,12 @@ hears i Hardware.Ip = true
 hears i (Hardware.Ethernet node) =
     is_same_hardware i.hardware (Hardware.Ethernet node) || (is_ethernet_broadcast node || is_ethernet_multicast node)
 
+-- a frame to this hardware address would bring a packet to one host to many (RFC 1122, section 3.3.6)
+abbrev pub is_misframed_to : InnerValue → HardwareAddress → IpAddress → Bool
+is_misframed_to i Hardware.Ip destination = false
+is_misframed_to i (Hardware.Ethernet node) (Address.Ipv4 a) = is_group_frame i node && is_one_host i a
+is_misframed_to i (Hardware.Ethernet node) (Address.Ipv6 a) = false
+
 -- the address is one host's, or in IPv4 that of a host which has none yet
 abbrev pub may_be_sender : InnerValue → IpAddress → Bool
 may_be_sender i (Address.Ipv4 a) = is_sender i a
@@ -73,6 +80,7 @@ may_be_sender i (Address.Ipv6 a) = is_unicast_v6 a
 pub record IsExpected (i : InnerValue) (slots : List (SocketStorage Socket)) (to : HardwareAddress) (header : IpRepr) (ports : UdpRepr) (m : ℕ)
     (meta : Meta) (w : UdpValue) : Type 0 where
   pub heard : hears i to ≡ true
+  pub framed : is_misframed_to i to (destination_of header) ≡ false
   pub sender : may_be_sender i (source_of header) ≡ true
   pub here : is_astray i (source_of header) (destination_of header) ≡ false
   pub ours : is_for_us i (destination_of header) ≡ true

@@ -34,7 +34,7 @@ use Rattle.interface.specs.Serve.{is_waiting}
 use Rattle.proof_stack.specs.PeerHost.SocketRun.{Event}
 use Rattle.proof_stack.specs.PeerHost.ReachedSocket.{after_all}
 use Rattle.proof_stack.specs.PeerHost.Streams.{AreOfPoll, IsTcpAt}
-use Rattle.proof_stack.specs.Progress.Delivered.{hears, may_be_sender, reader_of}
+use Rattle.proof_stack.specs.Progress.Delivered.{hears, is_misframed_to, may_be_sender, reader_of}
 use Rattle.proof_stack.specs.Progress.Moves.{AreMoves, is_refused}
 use Rattle.proof_stack.specs.Progress.Queued.{SendsPacket, frame_under}
 
@@ -91,6 +91,7 @@ tcp_slot meta v = record { inner = Some (record { meta = meta; socket = Kind.Tcp
 pub record IsAwaited (i : InnerValue) (slots : List (SocketStorage Socket)) (to : HardwareAddress) (ip : IpRepr) (header : TcpHeader) (m : ℕ)
     (meta : Meta) (w : TcpValue) : Type 0 where
   pub heard : hears i to ≡ true
+  pub framed : is_misframed_to i to (destination_of ip) ≡ false
   pub sender : may_be_sender i (source_of ip) ≡ true
   pub here : is_astray i (source_of ip) (destination_of ip) ≡ false
   pub ours : is_for_us i (destination_of ip) ≡ true

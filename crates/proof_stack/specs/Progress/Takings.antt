@@ -15,7 +15,7 @@ use Rattle.iface_tables.specs.Inner.{InnerValue, is_for_us}
 use Rattle.lan.specs.declared.at_link.history.event.Side.{Side}
 use Rattle.lan.specs.Worlds.AtLink.Moves.{Step}
 use Rattle.lan.specs.Worlds.AtLink.Moves.Move.{Takes}
-use Rattle.proof_stack.specs.Progress.Delivered.{hears, may_be_sender}
+use Rattle.proof_stack.specs.Progress.Delivered.{hears, is_misframed_to, may_be_sender}
 
 -- THE RECEIVER
 
@@ -23,6 +23,7 @@ use Rattle.proof_stack.specs.Progress.Delivered.{hears, may_be_sender}
 -- this host, and names two hosts.
 pub record IsForHost (i : InnerValue) (to : HardwareAddress) (ip : IpRepr) : Type 0 where
   pub heard : hears i to ≡ true
+  pub framed : is_misframed_to i to (destination_of ip) ≡ false
   pub sender : may_be_sender i (source_of ip) ≡ true
   pub here : is_astray i (source_of ip) (destination_of ip) ≡ false
   pub ours : is_for_us i (destination_of ip) ≡ true

@@ -6,6 +6,6 @@ pub returns-in-Ipv4 : goal.returns-in-Ipv4
 returns-in-Ipv4 c =
     let link = c.in-Ok.header in (
       record { format = subst (λ (b : List ℕ). Ethernet.IsEthernet b link) c.new_unchecked-frame.ensures c.in-Ok.ensures.found; carried_is = c.in-Ipv4.is },
-      sym c.if-passes_filter.ensures,
+      sym c.if-is_fast_frame.ensures,
       c.payload.ensures ∙ ap Ethernet.payload_of c.new_unchecked-frame.ensures,
     )

@@ -1,8 +1,7 @@
 use Rattle.std.proofs.Common.{◌≡◌, List, refl, sym, ap, subst}
 use Rattle.iface_tables.specs.Inner.{InnerValue}
 use Rattle.iface_egress.specs.declared.socket_set.SocketStorage.{SocketStorage}
-use Rattle.iface_ingress.specs.Arrives.{arrived, reply_of, whole_after}
-use Rattle.iface_ingress.specs.Reassembled.{taken_in}
+use Rattle.iface_ingress.specs.Arrives.{arrived, reply_of, whole_arrived}
 use Rattle.iface_ingress.specs.Socket.{Socket}
 use Rattle.interface.specs.Ingress.{Reads}
 use Rattle.interface.specs.State.{state, host, KeepsSettings}
@@ -21,7 +20,7 @@ returns-then-process_frame_fast-clause-settings g c =
     let i = c.args.inner.now in
     let a = arrived c.process_frame_fast.new.inner c.process_frame_fast.new.slots (reply_of c.process_frame_fast.new.reply) in
     let came = c.if-process_frame_fast.ensures.taken refl c.args.timeout c.args.assemblers.now in
-    let whole = whole_after i c.args.timeout c.args.assemblers.now (taken_in i came.0) in
+    let whole = whole_arrived i c.args.timeout c.args.assemblers.now came.0 in
     keeps_then i c.process_frame_fast.new.inner c.answer_if_any.new.inner
     (keeps_in i c.process_frame_fast.new.inner (c.same_settings.ensures i c.args.slots.now whole a came.2.1)) c.answer_if_any.ensures.settings
 

@@ -4,12 +4,12 @@ use Rattle.interface.specs.Ipv4Fragment.{Ipv4Fragment}
 use Rattle.interface.specs.Ipv4Repr.{Ipv4Repr}
 use Rattle.iface_ingress.specs.EthernetRepr.{EthernetRepr}
 use Rattle.iface_ingress.proofs.Kept.{brings_damaged_v4, brings_damaged_v6}
-use Rattle.iface_ingress.specs.Arrives.{Arrived, Brings, whole_after}
+use Rattle.iface_ingress.specs.Arrives.{Arrived, Brings, whole_arrived}
 use Rattle.iface_ingress.specs.Delivered.{Slots}
 use Rattle.iface_ingress.specs.Processed.{is_known_v6}
 use Rattle.iface_ingress.specs.Incoming.{IncomingValue, Arp, Ip4, Ip6, IsIncoming, IsContent}
 use Rattle.iface_ingress.specs.FragmentStored.{with_ports}
-use Rattle.iface_ingress.specs.Reassembled.{Assemblers, uncut, is_taken_in, taken_in, kept, slot_in, whole_of}
+use Rattle.iface_ingress.specs.Reassembled.{Assemblers, uncut, is_taken_in, taken_in, kept, slot_in, whole_of, with_room}
 use Rattle.iface_tables.specs.Inner.{InnerValue}
 use Rattle.lan.specs.Worlds.AtLink.History.{Entry}
 use Rattle.lan.specs.Worlds.AtLink.Kinds.{Kind, Origin, Delivered, Damaged, Noisy, kind_of}
@@ -72,11 +72,11 @@ harmless medium frame brings i timeout assemblers after slots a of sealed arrive
   same_some : (v w : IncomingValue) → Some v ≡ Some w → v ≡ w
   same_some v w is = cc
 
-  by : (content : Option IncomingValue) → IsContent i.hardware i.checksums frame content → Brings i slots (whole_after i timeout assemblers (taken_in i content)) a
+  by : (content : Option IncomingValue) → IsContent i.hardware i.checksums frame content → Brings i slots (whole_arrived i timeout assemblers content) a
       → (with_ports a.slots ≡ with_ports slots) × (a.reply ≡ None)
-  by None is brought = content_harmless i timeout assemblers slots a None (λ v none. absurd (let bad : None ≡ Some v = none in cc)) brought
+  by None is brought = content_harmless i timeout (with_room i assemblers (taken_in i None)) slots a None (λ v none. absurd (let bad : None ≡ Some v = none in cc)) brought
   by (Some v) is brought =
-      content_harmless i timeout assemblers slots a (Some v) (λ w same. subst (IsNoSegment i.checksums) (same_some v w same) (read v is)) brought
+      content_harmless i timeout (with_room i assemblers (taken_in i (Some v))) slots a (Some v) (λ w same. subst (IsNoSegment i.checksums) (same_some v w same) (read v is)) brought
 
 -- ALONG A RUN
 

@@ -30,10 +30,10 @@ use Rattle.iface_egress.specs.declared.egress_path.Sent.TheVariants as Outcome
 use Rattle.iface_egress.proofs.Planned.{MayAsk, plan_cases}
 use Rattle.iface_ingress.specs.ArpRepr.{ArpRepr}
 use Rattle.iface_ingress.specs.Arrives as Replies
-use Rattle.iface_ingress.specs.Arrives.{Arrived, Brings, ReplyValue, whole_after}
+use Rattle.iface_ingress.specs.Arrives.{Arrived, Brings, ReplyValue, whole_arrived}
 use Rattle.iface_ingress.specs.Delivered.{Slots}
 use Rattle.iface_ingress.specs.Incoming.{IncomingValue, IsContent}
-use Rattle.iface_ingress.specs.Reassembled.{Assemblers, taken_in}
+use Rattle.iface_ingress.specs.Reassembled.{Assemblers}
 use Rattle.iface_ingress.proofs.Settings.{brings_same}
 use Rattle.interface.specs.Host.{Sender}
 use Rattle.interface.specs.Ingress.{Takes, Replied, is_awaited, sender_of, sender_with}
@@ -350,7 +350,7 @@ module _ (T : List ℕ → Bool) (May : IpRepr → PayloadValue → Type 0) (W :
 
   answers_of : (i : InnerValue) (timeout : ℕ) (assemblers : Assemblers) (slots : Slots) (frame : List ℕ) (content : Option IncomingValue) (a : Arrived) →
       HasSixBytes i.hardware
-      → IsContent i.hardware i.checksums frame content → Brings i slots (whole_after i timeout assemblers (taken_in i content)) a → (o : Option ReplyValue) →
+      → IsContent i.hardware i.checksums frame content → Brings i slots (whole_arrived i timeout assemblers content) a → (o : Option ReplyValue) →
       a.reply ≡ o → IfSome o IsOfAnswer
   answers_of i timeout assemblers slots frame content a six is brings None reply = tt
   answers_of i timeout assemblers slots frame content a six is brings (Some (Replies.Tells packet)) reply =
@@ -370,7 +370,7 @@ module _ (T : List ℕ → Bool) (May : IpRepr → PayloadValue → Type 0) (W :
       let i : InnerValue = s.host.inner in
       let content : Option IncomingValue = takes.4.0 in
       let a : Arrived = takes.4.2.0 in
-      let whole : Option IncomingValue = whole_after i s.host.timeout s.host.assemblers (taken_in i content) in
+      let whole : Option IncomingValue = whole_arrived i s.host.timeout s.host.assemblers content in
       let brings : Brings i s.slots whole a = takes.4.2.1.1 in
       let same = brings_same i s.slots whole a brings in
       let taken : So mid i s.host.left = so_device s.device mid i s.host.left (sym (ap (λ (x : PortValue). x.link.sent) takes.2.1)) so in

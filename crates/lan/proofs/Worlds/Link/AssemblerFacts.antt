@@ -23,7 +23,8 @@ use Rattle.iface_tables.proofs.Apart.{placed-key, opened-key}
 use Rattle.iface_ingress.specs.Arrives.{assemblers_after}
 use Rattle.iface_ingress.specs.Incoming.{IncomingValue}
 use Rattle.iface_ingress.specs.Reassembled.{Assemblers, FragmentValue, part_of, is_unfit, is_same_datagram, runs_kept, given_up_at, slot_of}
-use Rattle.iface_ingress.specs.Reassembled.{slot_in, with_part, with_fragment as with_part_in, kept, bytes_at, released}
+use Rattle.iface_ingress.specs.Reassembled.{slot_in, with_part, with_fragment as with_part_in, kept, with_room, bytes_at, released}
+use Rattle.iface_ingress.proofs.Roomed.{roomed}
 use Rattle.lan.specs.Worlds.Link.StoredFragments.{IsForeignKey}
 use Rattle.lan.specs.Worlds.FragmentFacts.{Fact, ByteAt, EndsAt, IsOf, Says}
 use Rattle.iface_tables.proofs.Keys.{key_test}
@@ -296,6 +297,11 @@ module _ (S : FragKey → Fact → Type 0) where
       AssemblersSo S (assemblers_after i timeout assemblers content)
   assemblers_so i timeout assemblers content from are =
       released_so (slot_in assemblers content) (kept i timeout assemblers content) (kept_by i timeout assemblers are (part_of content) from)
+
+  -- and with room for it before
+  pub room_so : (i : InnerValue) (assemblers : Assemblers) (content : Option IncomingValue) → AssemblersSo S assemblers → AssemblersSo S (with_room i assemblers content)
+  room_so i assemblers content are =
+      roomed (AssemblersSo S) i assemblers (λ at. changed_keeps (AssemblerSo S) freed at assemblers (λ s so. freed_so s) are) are content
 
   -- whatever is whole once a fragment was taken in says what is so
   pub rebuilds_so : (i : InnerValue) (timeout : ℕ) (assemblers : Assemblers) (content : Option IncomingValue) (p : FragmentValue) (bytes : List ℕ) →

@@ -18,12 +18,13 @@ use Rattle.iface_tables.specs.Inner.{InnerValue}
 use Rattle.iface_tables.specs.Assemblers.{without_expired}
 use Rattle.iface_tables.specs.declared.key.FragKey.{FragKey}
 use Rattle.iface_tables.specs.declared.key.FragKey.TheVariants as Keys
-use Rattle.iface_ingress.specs.Arrives.{Arrived, ArrivesAs, assemblers_after, whole_after}
+use Rattle.iface_ingress.specs.Arrives.{Arrived, ArrivesAs, assemblers_after, whole_after, whole_arrived}
 use Rattle.iface_ingress.specs.Delivered.{Slots}
 use Rattle.iface_ingress.specs.Incoming.{IncomingValue, Arp, Ip4, Ip6, IsIncoming, IsContent}
 use Rattle.iface_ingress.specs.Reassembled.{Assemblers, FragmentValue, is_fragment, is_fragment_v6, part_v4, part_v6, part_following, part_in, part_of, following_headers}
-use Rattle.iface_ingress.specs.Reassembled.{is_taken_in, taken_in, slot_of, slot_in, with_fragment, kept, bytes_at, reassembled, reassembled_v6, uncut}
+use Rattle.iface_ingress.specs.Reassembled.{is_taken_in, taken_in, slot_of, slot_in, with_fragment, kept, with_room, bytes_at, reassembled, reassembled_v6, uncut}
 use Rattle.iface_ingress.proofs.Settings.{brings_same}
+use Rattle.iface_ingress.proofs.Roomed.{roomed}
 use Rattle.lan.specs.Worlds.Link.Made.{Makes, sealed, HandsMade, BringsMade}
 use Rattle.lan.specs.Worlds.Link.Frames.{Outgoing, IsFrom, BringsFrom}
 use Rattle.lan.specs.Worlds.Link.StoredFragments.{AreAssemblersOf}
@@ -102,6 +103,12 @@ module _ (made : Makes) (first : ℕ) (out : List Outgoing) (next : ℕ) (sent :
   assemblers_keep i timeout assemblers content from are =
       released_keeps first out next sent.numbered few (slot_in assemblers content) (kept i timeout assemblers content)
       (part_keeps first out next sent.numbered few i timeout assemblers are (part_of content) (part_of_from made out content from))
+
+  -- and with room for a fragment before it
+  room_keeps : (i : InnerValue) (assemblers : Assemblers) (content : Option IncomingValue) → AreAssemblersOf out assemblers →
+      AreAssemblersOf out (with_room i assemblers content)
+  room_keeps i assemblers content are =
+      roomed (AreAssemblersOf out) i assemblers (λ at. changed_keeps (IsAssemblerOf out) freed at assemblers (λ s so. freed_is out s) are) are content
 
   -- WHAT IS WHOLE
 
@@ -189,9 +196,9 @@ module _ (made : Makes) (first : ℕ) (out : List Outgoing) (next : ℕ) (sent :
   -- what a taken frame brings, whole or reassembled, was made
   pub taken_was_made : (i : InnerValue) (timeout : ℕ) (assemblers : Assemblers) (frame : List ℕ) (rest : List (List ℕ)) (content : Option IncomingValue)
       → IsReceiver made out i assemblers (frame ∷ rest) → IsContent i.hardware i.checksums frame content →
-      BringsMade made (whole_after i timeout assemblers (taken_in i content))
+      BringsMade made (whole_arrived i timeout assemblers content)
   taken_was_made i timeout assemblers frame rest content r is =
-      whole_made i timeout assemblers r.assemblers_are (taken_in i content)
+      whole_made i timeout (with_room i assemblers (taken_in i content)) (room_keeps i assemblers (taken_in i content) r.assemblers_are) (taken_in i content)
       (taken_from made out i content (content_from made out i.hardware i.checksums frame content r.checksums r.waits.0 is))
 
   -- and the host is a receiver still
@@ -200,11 +207,12 @@ module _ (made : Makes) (first : ℕ) (out : List Outgoing) (next : ℕ) (sent :
       → IsReceiver made out i assemblers (frame ∷ rest) → IsContent i.hardware i.checksums frame content → ArrivesAs i timeout assemblers slots content assemblers' a →
       IsReceiver made out a.inner assemblers' rest
   taken_keeps i timeout assemblers slots frame rest content assemblers' a r is arrives =
-      let same = brings_same i slots (whole_after i timeout assemblers (taken_in i content)) a arrives.1 in
+      let same = brings_same i slots (whole_arrived i timeout assemblers content) a arrives.1 in
       let from = taken_from made out i content (content_from made out i.hardware i.checksums frame content r.checksums r.waits.0 is) in
       record {
         checksums = same.checksums ∙ r.checksums;
-        assemblers_are = subst (AreAssemblersOf out) (sym arrives.0) (assemblers_keep i timeout assemblers (taken_in i content) from r.assemblers_are);
+        assemblers_are = subst (AreAssemblersOf out) (sym arrives.0) (assemblers_keep i timeout (with_room i assemblers (taken_in i content)) (taken_in i content) from
+            (room_keeps i assemblers (taken_in i content) r.assemblers_are));
         waits = same_waits i a.inner rest same.hardware r.waits.1;
       }
 

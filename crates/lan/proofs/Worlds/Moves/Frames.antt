@@ -21,10 +21,9 @@ use Rattle.iface_egress.specs.declared.plan.Plan.{Plan}
 use Rattle.iface_egress.specs.declared.plan.Plan.TheVariants as Way
 use Rattle.iface_ingress.specs.HardwareAddress.{HardwareAddress}
 use Rattle.iface_ingress.specs.IpAddress.{IpAddress}
-use Rattle.iface_ingress.specs.Arrives.{whole_after}
+use Rattle.iface_ingress.specs.Arrives.{whole_arrived}
 use Rattle.iface_ingress.specs.Delivered.{packet_by}
 use Rattle.iface_ingress.specs.Incoming.{IncomingValue, Arp, Ip4, Ip6}
-use Rattle.iface_ingress.specs.Reassembled.{taken_in}
 use Rattle.iface_tables.specs.Inner.{InnerValue}
 use Rattle.lan.specs.Worlds.AtLink.Side.{Side}
 use Rattle.lan.specs.Worlds.AtLink.Moves as Moves
@@ -140,7 +139,7 @@ module _ (side : Side) (i0 : InnerValue) (t : ℤ) (net : Net) where
     assemblers = m.assemblers;
     content = m.content;
     is = m.is;
-    brings = brings_on m.i (whole_after m.i m.timeout m.assemblers (taken_in m.i m.content)) steps more m.brings;
+    brings = brings_on m.i (whole_arrived m.i m.timeout m.assemblers m.content) steps more m.brings;
   }
 
   pub all_moved_on : (frames : List (List ℕ)) (steps more : List Step) → AreMoved side i0 t net frames steps → AreMoved side i0 t net frames (steps ++ more)

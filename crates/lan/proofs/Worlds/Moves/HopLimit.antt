@@ -45,14 +45,14 @@ use Rattle.iface_tables.specs.declared.neighbor.Answer.TheVariants as Known
 use Rattle.iface_tables.specs.declared.neighbor.Neighbor.{Neighbor}
 use Rattle.iface_tables.proofs.PathMtu.{at_first, find_last, is_found, itself, none_found, none_removed, same_address}
 use Rattle.iface_ingress.specs.Arp.{teaches, learned, arp_arrived}
-use Rattle.iface_ingress.specs.Arrives.{Arrived, ArrivesV4, ArrivesV6, Brings, Hands, is_direct, sender_of, renewed, renewed_by, whole_after}
+use Rattle.iface_ingress.specs.Arrives.{Arrived, ArrivesV4, ArrivesV6, Brings, Hands, is_direct, sender_of, renewed, renewed_by, whole_arrived}
 use Rattle.iface_ingress.specs.Delivered.{Slots, drawn_if, is_taken_raw, packet_delivered, segment_draws}
 use Rattle.iface_ingress.specs.Processed.{handed_host, handed_reply, is_unclaimed, limited_host, message_host, names_no_endpoint, segment_host}
 use Rattle.iface_ingress.specs.Ndisc as Hearing
 use Rattle.iface_ingress.specs.Ndisc.{advertised, answer, asks_host, heard, heard_at, heard_on, neighbor_learned, replaces, hardware_addr, tells}
 use Rattle.iface_ingress.specs.Incoming.{IncomingValue, IsContent, Arp, Ip4, Ip6}
 use Rattle.iface_ingress.specs.FragmentStored.{HasSameSettings}
-use Rattle.iface_ingress.specs.Reassembled.{Assemblers, bytes_at, is_control_v6, is_fragment, is_fragment_v6, is_taken_in, kept, slot_in, reassembled, reassembled_v6, taken_in, uncut, whole_of}
+use Rattle.iface_ingress.specs.Reassembled.{Assemblers, bytes_at, is_control_v6, is_fragment, is_fragment_v6, is_taken_in, kept, slot_in, reassembled, reassembled_v6, taken_in, uncut, whole_of, with_room}
 use Rattle.iface_ingress.specs.Upper.{IsBrought}
 use Rattle.iface_ingress.proofs.Limit.{counted_so}
 use Rattle.iface_ingress.proofs.PathTold.{path_v4_so, path_v6_so}
@@ -512,9 +512,9 @@ module _ (t : ℤ) (hop : IpAddress) (to : HardwareAddress) where
         elim (is_taken_in i v) as (λ (b : Bool). Says_ (if b then Some v else None)) [ true ↦ says | false ↦ tt ]
 
     brought_tells : (i : InnerValue) (timeout : ℕ) (assemblers : Assemblers) (content : Option IncomingValue) → Says_ content
-        → Says_ (whole_after i timeout assemblers (taken_in i content))
+        → Says_ (whole_arrived i timeout assemblers content)
     brought_tells i timeout assemblers content says =
-        whole_tells (kept i timeout assemblers (taken_in i content)) (slot_in assemblers (taken_in i content)) (taken_in i content) (taken_tells i content says)
+        whole_tells (kept i timeout (with_room i assemblers (taken_in i content)) (taken_in i content)) (slot_in (with_room i assemblers (taken_in i content)) (taken_in i content)) (taken_in i content) (taken_tells i content says)
 
 -- WHERE FRAMES GO
 
@@ -637,7 +637,7 @@ last_so P (y ∷ xs) x all = last_so P xs x all.1
 
 module _ (i0 i : InnerValue) (t : ℤ) (frame : List ℕ) (timeout : ℕ) (assemblers : Assemblers) (slots : Slots) (content : Option IncomingValue) (a : Arrived)
     (settings : HasSettingsOf i0 i) (instant : i.instant ≡ t) (same : HasSameSettings i a.inner) (is : IsContent i.hardware i.checksums frame content)
-    (brings : Brings i slots (whole_after i timeout assemblers (taken_in i content)) a) where
+    (brings : Brings i slots (whole_arrived i timeout assemblers content) a) where
   frame_tells : (hop : IpAddress) (to : HardwareAddress) → FrameTellsAtMost i0 hop to frame → IfSome content (TellsAtMost i.checksums hop to)
   frame_tells hop to all = by content is where
     by : (o : Option IncomingValue) → IsContent i.hardware i.checksums frame o → IfSome o (TellsAtMost i.checksums hop to)
@@ -649,7 +649,7 @@ module _ (i0 i : InnerValue) (t : ℤ) (frame : List ℕ) (timeout : ℕ) (assem
 
   keeps : (hop : IpAddress) (to : HardwareAddress) → Keeps t hop to (FrameTellsAtMost i0 hop to frame) i a.inner
   keeps hop to =
-      brings_keeps t hop to (FrameTellsAtMost i0 hop to frame) i slots (whole_after i timeout assemblers (taken_in i content)) a
+      brings_keeps t hop to (FrameTellsAtMost i0 hop to frame) i slots (whole_arrived i timeout assemblers content) a
       (λ all. brought_tells t hop to i.checksums i timeout assemblers content (frame_tells hop to all)) brings
 
   pub room_before : Roomy a.inner → Roomy i

@@ -27,14 +27,14 @@ use Rattle.iface_tables.specs.Inner.{InnerValue, at_instant, context_of, is_loca
 use Rattle.iface_tables.specs.PathMtu.{entered, entered_at, heard_of, is_news, lowered, path_room, path_index_of, victim}
 use Rattle.iface_tables.specs.declared.path_mtu.Path.{Path}
 use Rattle.iface_ingress.specs.Arp.{teaches, learned, arp_arrived}
-use Rattle.iface_ingress.specs.Arrives.{Arrived, ArrivesV4, ArrivesV6, Brings, Hands, is_direct, sender_of, renewed, renewed_by, whole_after}
+use Rattle.iface_ingress.specs.Arrives.{Arrived, ArrivesV4, ArrivesV6, Brings, Hands, is_direct, sender_of, renewed, renewed_by, whole_arrived}
 use Rattle.iface_ingress.specs.Delivered.{Slots, drawn_if, is_taken_raw, packet_delivered, segment_draws}
 use Rattle.iface_ingress.specs.Processed.{handed_host, handed_reply, is_for_many, is_unclaimed, limited_host, message_host, names_no_endpoint, segment_host}
 use Rattle.iface_ingress.specs.Ndisc.{neighbor_learned}
 use Rattle.iface_ingress.specs.Incoming.{IncomingValue, Arp, Ip4, Ip6}
 use Rattle.iface_ingress.specs.FragmentStored.{HasSameSettings}
-use Rattle.iface_ingress.specs.Reassembled.{Assemblers, bytes_at, is_astray, is_control_v6, passes_filter, is_fragment, is_fragment_v6, is_sender, is_sender_v6}
-use Rattle.iface_ingress.specs.Reassembled.{is_taken_in, kept, slot_in, reassembled, reassembled_v6, taken_in, uncut, whole_of}
+use Rattle.iface_ingress.specs.Reassembled.{Assemblers, bytes_at, is_astray, is_control_v6, passes_filter, is_fragment, is_fragment_v6, is_misframed, is_sender, is_sender_v6}
+use Rattle.iface_ingress.specs.Reassembled.{is_taken_in, kept, slot_in, reassembled, reassembled_v6, taken_in, uncut, whole_of, with_room}
 use Rattle.iface_ingress.proofs.Hearing.{entries-alone}
 use Rattle.iface_ingress.proofs.Limit.{counted_so}
 use Rattle.iface_ingress.proofs.PathTold.{path_v4_so, path_v6_so}
@@ -81,6 +81,12 @@ taken_cut true true true is = clash (sym is)
 taken_cut true false astray is = clash (sym is)
 taken_cut false sender astray is = clash (sym is)
 
+framed_cut : (heard sender astray misframed : Bool) → (heard && sender && not astray && not misframed) ≡ true → (sender ≡ true) × (astray ≡ false)
+framed_cut true true false misframed is = (refl, refl)
+framed_cut true true true misframed is = clash (sym is)
+framed_cut true false astray misframed is = clash (sym is)
+framed_cut false sender astray misframed is = clash (sym is)
+
 one_v4 : (nowhere group every here : Bool) → ((not (nowhere || group || every) && not here) || nowhere) ≡ true → nowhere ≡ false → (here || group) ≡ false
 one_v4 false false false false is named = refl
 one_v4 false true every here is named = clash (sym is)
@@ -97,7 +103,7 @@ home_taken : (i : InnerValue) (v : IncomingValue) → is_taken_in i v ≡ true �
 home_taken i (Arp link packet) is = tt
 home_taken i (Ip4 link h fragment payload) is =
     let a : Ipv4Address = h.src_addr in
-    let cut = taken_cut (passes_filter i link) (is_sender i a) (is_astray i (Address.Ipv4 a) (Address.Ipv4 h.dst_addr)) is in
+    let cut = framed_cut (passes_filter i link) (is_sender i a) (is_astray i (Address.Ipv4 a) (Address.Ipv4 h.dst_addr)) (is_misframed i link h.dst_addr) is in
     record {
       here = cut.1;
       one = one_v4 (is_unspecified_v4 a) (is_multicast_v4 a) (is_broadcast_v4 a) (is_local_broadcast i (Address.Ipv4 a)) cut.0;
@@ -148,9 +154,9 @@ whole_home i assemblers at (Some (Ip6 link h payload)) home = by (is_fragment_v6
   by false = home
 
 pub brought_home : (i : InnerValue) (timeout : ℕ) (assemblers : Assemblers) (content : Option IncomingValue) →
-    IsHome i (whole_after i timeout assemblers (taken_in i content))
+    IsHome i (whole_arrived i timeout assemblers content)
 brought_home i timeout assemblers content =
-    whole_home i (kept i timeout assemblers (taken_in i content)) (slot_in assemblers (taken_in i content)) (taken_in i content) (taken_home i content)
+    whole_home i (kept i timeout (with_room i assemblers (taken_in i content)) (taken_in i content)) (slot_in (with_room i assemblers (taken_in i content)) (taken_in i content)) (taken_in i content) (taken_home i content)
 
 -- LATER: errors are counted up to no earlier instant, and what was known of paths isn't forgotten
 abbrev pub IsLater : InnerValue → InnerValue → Type 0

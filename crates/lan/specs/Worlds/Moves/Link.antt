@@ -12,9 +12,9 @@ use Rattle.iface_egress.specs.Plan.{plan_of}
 use Rattle.iface_egress.specs.declared.socket_set.SocketStorage.{SocketStorage}
 use Rattle.iface_egress.specs.declared.egress_path.Sent.{Sent}
 use Rattle.iface_ingress.specs.Arrives as Replies
-use Rattle.iface_ingress.specs.Arrives.{Arrived, ArrivesAs, whole_after}
+use Rattle.iface_ingress.specs.Arrives.{Arrived, ArrivesAs, whole_arrived}
 use Rattle.iface_ingress.specs.Incoming.{IncomingValue, IsContent}
-use Rattle.iface_ingress.specs.Reassembled.{Assemblers, taken_in}
+use Rattle.iface_ingress.specs.Reassembled.{Assemblers}
 use Rattle.interface.specs.Ingress.{is_read}
 use Rattle.interface.specs.Polls.{begun}
 use Rattle.interface.specs.State.{State, state, at_device}
@@ -28,7 +28,7 @@ IsContentAt s frame content = IsContent s.host.inner.hardware s.host.inner.check
 
 -- what the content brings, once it is whole
 abbrev pub brought : {D : Type 0} → State D → Option IncomingValue → Option IncomingValue
-brought s content = whole_after s.host.inner s.host.timeout s.host.assemblers (taken_in s.host.inner content)
+brought s content = whole_arrived s.host.inner s.host.timeout s.host.assemblers content
 
 -- it arrives, among these sockets
 abbrev pub ArrivesAt : {D : Type 0} → State D → Option IncomingValue → Assemblers → Arrived → Type 0

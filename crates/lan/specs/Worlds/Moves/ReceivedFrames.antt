@@ -9,11 +9,11 @@ use Rattle.interface.specs.Ip.{destination_of}
 use Rattle.interface.specs.IpRepr.{IpRepr}
 use Rattle.interface.specs.IpRepr.TheVariants as Ip
 use Rattle.iface_egress.specs.Departing.{HasSettingsOf}
-use Rattle.iface_ingress.specs.Arrives.{whole_after}
+use Rattle.iface_ingress.specs.Arrives.{whole_arrived}
 use Rattle.iface_ingress.specs.Delivered.{Slots, segment_slot}
 use Rattle.iface_ingress.specs.Processed.{names_no_endpoint}
 use Rattle.iface_ingress.specs.Incoming.{IncomingValue, IsContent, Arp, Ip4, Ip6}
-use Rattle.iface_ingress.specs.Reassembled.{Assemblers, taken_in}
+use Rattle.iface_ingress.specs.Reassembled.{Assemblers}
 use Rattle.iface_ingress.specs.Upper.{IsBrought}
 use Rattle.iface_tables.specs.Inner.{InnerValue, is_for_us}
 use Rattle.lan.specs.Worlds.AtLink.Side.{Side}
@@ -65,7 +65,7 @@ module _ (side : Side) (i0 : InnerValue) (t : ℤ) (net : Net) where
     pub assemblers : Assemblers
     pub content : Option IncomingValue
     pub is : IsContent i.hardware i.checksums frame content
-    pub brings : BringsIn i (whole_after i timeout assemblers (taken_in i content)) steps
+    pub brings : BringsIn i (whole_arrived i timeout assemblers content) steps
 
   -- so each of these frames that isn't too long or empty
   abbrev pub AreMoved : List (List ℕ) → List Step → Type 0

@@ -1,6 +1,9 @@
 use Rattle.std.proofs.Common.{◌≡◌, pos, [], None, true, false, length, refl}
 use Rattle.std.specs.Prelude.{max}
+use Rattle.std.proofs.lemmas.List.{length-replicate}
+use Rattle.iface_tables.specs.Reassembly.{initial}
 use Rattle.interface.specs.Host.{HostValue}
+use Rattle.interface.specs.Made.{assembler_count}
 use Rattle.proof_stack.proofs.Begins.{made-has, refused-short, refused-long}
 use Rattle.proof_stack.proofs.interface_host.begins.Goals as goal
 
@@ -20,7 +23,8 @@ returns g c =
           record { entries = []; room = max config.neighbor_cache_count 1; silent = pos 0; searches = [] }) made refl;
       initial = made-has config device instant result (λ (h : HostValue). h.inner.initial ≡ true) made refl;
       left = made-has config device instant result (λ (h : HostValue). h.left ≡ None) made refl;
-      assemblers = made-has config device instant result (λ (h : HostValue). length h.assemblers ≡ 2) made refl;
+      assemblers = made-has config device instant result (λ (h : HostValue). length h.assemblers ≡ assembler_count config) made
+          (length-replicate (assembler_count config) (initial 4096));
       timeout = made-has config device instant result (λ (h : HostValue). h.timeout ≡ 60000000) made refl;
       short = refused-short config device instant result made;
       long = refused-long config device instant result made;
