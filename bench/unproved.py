@@ -71,6 +71,16 @@ def hints_in(room):
     return [re.compile(rf'define internal .*@"(?:{"|".join(names[which]) or "-"})(?:::<[^"]*)?"\(') for which in ("always", "never")]
 
 
+def bare(line, exporter=None):
+    """A line of a quick build's module without what such a build adds, if it is anything else; the exports of a crate under their own names."""
+    # a look at an index, an address or a sum, or the pattern that fills a local
+    if line.lstrip().startswith('call void @"rattle-llvm-checks::') or ("llvm.memset" in line and "i8 -86," in line):
+        return None
+    if line.startswith("attributes "):
+        line = line.replace("sanitize_address", "nounwind").replace('"frame-pointer"="all"', "").replace('="x86-64"', '="x86-64-v2"')
+    return exported(line, exporter) if exporter else line
+
+
 def object_of(module, room, exporter=None):
     """Compiles the module without what a quick build adds. What the crate `exporter` has for C is called by its own name, and its `main` not at all."""
     clang = f"{kit()}/toolchain/bin/clang"
@@ -78,16 +88,14 @@ def object_of(module, room, exporter=None):
     subprocess.run([clang, "-S", "-emit-llvm", "-O0", "-Xclang", "-disable-llvm-passes", "-x", "ir", module, "-o", f"{room}/text.ll"], check=True)
     with open(f"{room}/text.ll", errors="surrogateescape") as text, open(f"{room}/made.ll", "w", errors="surrogateescape") as made:
         for line in text:
-            # a look at an index, an address or a sum, or the pattern that fills a local
-            if line.lstrip().startswith('call void @"rattle-llvm-checks::') or ("llvm.memset" in line and "i8 -86," in line):
+            line = bare(line, exporter)
+            if line is None:
                 continue
-            if line.startswith("attributes "):
-                line = line.replace("sanitize_address", "nounwind").replace('"frame-pointer"="all"', "").replace('="x86-64"', '="x86-64-v2"')
-            elif re.match(r'define internal .*@"core::(slice::scan|cmp::slices)::', line) or always.match(line):
+            if re.match(r'define internal .*@"core::(slice::scan|cmp::slices)::', line) or always.match(line):
                 line = re.sub(r"\) #(\d+) \{$", r") alwaysinline #\1 {", line)
             elif never.match(line):
                 line = re.sub(r"\) #(\d+) \{$", r") noinline #\1 {", line)
-            made.write(exported(line, exporter) if exporter else line)
+            made.write(line)
     subprocess.run([clang, "-march=x86-64-v2", "-O3", "-fPIE", "-ffunction-sections", "-Wno-override-module", "-mllvm", "-trap-unreachable",
                     "-c", "-x", "ir", f"{room}/made.ll", "-o", f"{room}/made.o"], check=True)
     return f"{room}/made.o"

@@ -3,3 +3,4 @@ pub mod Older
 pub mod Relisting
 pub mod Seen
 pub mod Back
+pub mod Gives

@@ -12,6 +12,7 @@ pub mod delivery_laws;
 mod due_instant;
 mod host;
 pub mod listener;
+pub mod listener_laws;
 mod poll;
 pub mod poll_laws;
 mod remote;

@@ -3,7 +3,7 @@
 //! Each socket of the backlog is at a stage. `refresh`, to be called after each poll, sees how far each came. A socket that took a
 //! SYN is half open; one whose connection is open waits for `accept`, and is its user's from then on, until `give_back`. Where none is
 //! free to take a SYN, one gives way: the one that has been in TIME-WAIT for longest, else the one that has been half open for
-//! longest, if that is long. A SYN for which there is none falls to a keeper, which takes it and says nothing: so it is dropped, not
+//! longest. A SYN for which there is none falls to a keeper, which takes it and says nothing: so it is dropped, not
 //! reset.
 
 mod entry;

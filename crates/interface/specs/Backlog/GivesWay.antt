@@ -1,5 +1,5 @@
 -- Which socket of a backlog gives way, where none is free.
-use Rattle.std.specs.Prelude.{◌≡◌, ℕ, ◌-◌, ◌≤◌, ◌<◌, ◌⊎◌, List, length, slice_set, Option, Some, None}
+use Rattle.std.specs.Prelude.{◌≡◌, ℕ, ◌<◌, ◌⊎◌, List, length, slice_set, Option, Some, None}
 use Rattle.iface_egress.specs.declared.socket_set.Item.{Item}
 use Rattle.iface_egress.specs.declared.socket_set.SocketHandle.{SocketHandle}
 use Rattle.iface_egress.specs.declared.socket_set.SocketStorage.{SocketStorage}
@@ -14,7 +14,6 @@ use Rattle.interface.specs.declared.listener.stage.Stage.TheVariants as Is
 use Rattle.interface.specs.Backlog.Entries.{entry_at}
 use Rattle.interface.specs.Backlog.Noted.{slot_at}
 use Rattle.interface.specs.Backlog.Oldest.{IsOldest}
-use Rattle.interface.specs.declared.listener.way.TheConstants.{PATIENCE}
 
 -- what it had is dropped, without a word, and it listens: an abort whose reset never goes
 abbrev pub restarted : IpListenEndpoint → TcpValue → TcpValue
@@ -37,18 +36,14 @@ restarted_at endpoint n ps = slice_set ps n (restarted_slot endpoint (slot_at ps
 abbrev pub is_at : Stage → List Entry → ℕ → Type 0
 is_at stage es i = (i < length es) × ((entry_at es i).stage ≡ stage)
 
--- none is half open for long, or this one is, and for longest
-abbrev pub IsLongHalfOpen : ℕ → List Entry → Option ℕ → Type 0
-IsLongHalfOpen now es None = (i : ℕ) → is_at Is.HalfOpen es i → now - (entry_at es i).since < PATIENCE
-IsLongHalfOpen now es (Some i) = IsOldest Is.HalfOpen es (Some i) × (PATIENCE ≤ now - (entry_at es i).since)
-
 abbrev pub HasNone : Stage → List Entry → Type 0
 HasNone stage es = (i : ℕ) → is_at stage es i → ⊥
 
--- the entry that has been in TIME-WAIT for longest, else the one that has been half open for longest, if that is long
-abbrev pub IsNext : ℕ → List Entry → Option ℕ → Type 0
-IsNext now es None = HasNone Is.TimeWait es × IsLongHalfOpen now es None
-IsNext now es (Some i) = IsOldest Is.TimeWait es (Some i) ⊎ (HasNone Is.TimeWait es × IsLongHalfOpen now es (Some i))
+-- The entry that has been in TIME-WAIT for longest, else the one that has been half open for longest, whatever its age: of s SYNs
+-- a second and n sockets each client has n/s seconds to answer. An open connection never gives way.
+abbrev pub IsNext : List Entry → Option ℕ → Type 0
+IsNext es None = HasNone Is.TimeWait es × HasNone Is.HalfOpen es
+IsNext es (Some i) = IsOldest Is.TimeWait es (Some i) ⊎ (HasNone Is.TimeWait es × IsOldest Is.HalfOpen es (Some i))
 
 abbrev pub freed : ℕ → SocketHandle → Entry
 freed now handle = record { handle = handle; stage = Is.Free; since = now }
@@ -63,4 +58,4 @@ Freed endpoint now (Some i) ps es ps' es' =
 abbrev pub GivesWay : IpListenEndpoint → ℕ → List (SocketStorage Socket) → List Entry → List (SocketStorage Socket) → List Entry → Type 0
 GivesWay endpoint now ps es ps' es' =
     (((i : ℕ) × is_at Is.Free es i) × (ps' ≡ ps) × (es' ≡ es))
-    ⊎ (HasNone Is.Free es × ((next : Option ℕ) × IsNext now es next × Freed endpoint now next ps es ps' es'))
+    ⊎ (HasNone Is.Free es × ((next : Option ℕ) × IsNext es next × Freed endpoint now next ps es ps' es'))

@@ -1,6 +1,6 @@
 //! Which socket of a backlog gives way, where none is free.
-ghost use Rattle.std.specs.Prelude.{◌≡◌, ◌<◌, length};
-ghost use Rattle.interface.specs.Backlog.GivesWay.{restarted, restarted_slot, restarted_at, IsLongHalfOpen, IsNext, GivesWay};
+ghost use Rattle.std.specs.Prelude.{◌≡◌};
+ghost use Rattle.interface.specs.Backlog.GivesWay.{restarted, restarted_slot, restarted_at, IsNext, GivesWay};
 
 use crate::listener::entry::Entry;
 use crate::listener::longest::oldest;
@@ -39,29 +39,14 @@ fn restart_at(slots: &mut Slots<Socket>, at: usize, endpoint: IpListenEndpoint)
     }
 }
 
-/// How long a socket is half open at least, in microseconds: a client whose SYN is dropped says it again after a second.
-pub const PATIENCE: u64 = 500_000;
-
-/// Where the entry is that gives way: the one that has been in TIME-WAIT for longest, else the one that has been half open for longest,
-/// if that is long.
-fn next(entries: &[Entry], now: u64) -> Option<usize>
-    ensures { IsNext now entries.now result }
+/// Where the entry is that gives way: the one that has been in TIME-WAIT for longest, else the one that has been half open for longest.
+fn next(entries: &[Entry]) -> Option<usize>
+    ensures { IsNext entries.now result }
 {
     match oldest(entries, Stage::TimeWait) {
         Some(at) => Some(at),
-        None => long_half_open(entries, now),
+        None => oldest(entries, Stage::HalfOpen),
     }
-}
-
-/// Where the entry is that has been half open for longest, if that is long.
-fn long_half_open(entries: &[Entry], now: u64) -> Option<usize>
-    ensures { IsLongHalfOpen now entries.now result }
-{
-    let at = oldest(entries, Stage::HalfOpen)?;
-    if now.saturating_sub(entries[at].since) < PATIENCE {
-        return None;
-    }
-    Some(at)
 }
 
 /// Where no socket of the backlog is free, the next one gives way.
@@ -76,7 +61,7 @@ pub(crate) fn give_way(
     if oldest(entries.as_slice(), Stage::Free).is_some() {
         return;
     }
-    let Some(at) = next(entries.as_slice(), now) else {
+    let Some(at) = next(entries.as_slice()) else {
         return;
     };
     let handle = entries[at].handle;
