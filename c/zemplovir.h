@@ -198,8 +198,8 @@ uint32_t zv_host_set_any_ip(zv_host *host, uint8_t enabled);
 /* How long the pieces of a datagram are waited for, in microseconds. A new host waits a minute. */
 uint32_t zv_host_set_reassembly_timeout(zv_host *host, uint64_t micros);
 
-/* How many datagrams can come in pieces at a time, of up to 4096 bytes each. A new host has place for two. What came in pieces so far is dropped.
- * ZV_MEMORY: then all is as it was. */
+/* How many datagrams can come in pieces at a time, of up to 4096 bytes each. A new host has place for sixteen, and for two
+ * `without_host_requirements`. What came in pieces so far is dropped. ZV_MEMORY: then all is as it was. */
 uint32_t zv_host_set_reassembly_slots(zv_host *host, size_t count);
 
 /* FRAMES AND TIME */

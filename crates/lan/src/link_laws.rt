@@ -16,7 +16,7 @@ ghost use Rattle.lan.specs.Worlds.AtLink.Sent.{Sent};
 ghost use Rattle.lan.specs.Worlds.AtLink.Arrives.{Arrived, ArrivesAs, Brings, whole_arrived};
 ghost use Rattle.lan.specs.Worlds.AtLink.Delivered.{Slots};
 ghost use Rattle.lan.specs.Worlds.AtLink.Incoming.{IncomingValue, IsContent};
-ghost use Rattle.lan.specs.Worlds.AtLink.Reassembled.{Assemblers, taken_in};
+ghost use Rattle.lan.specs.Worlds.AtLink.Reassembled.{Assemblers};
 ghost use Rattle.sim_link.specs.PacketInFrame.{names_tcp_or_udp};
 ghost use Rattle.sim_link.specs.Cuts.{ipv4_part, first_fragment, second_fragment};
 ghost use Rattle.sim_link.specs.Parts.{tcp_part, damaged};

@@ -1,5 +1,5 @@
 //! TCP's sockets.
 pub use tcp_socket::{
-    CongestionControl, ConnectError, Due, ListenError, NotInFastPath, OfferedSegment, RecvError,
-    Reno, Reply, SendError, Socket, SocketBuffer, State,
+    CongestionControl, ConnectError, Due, EndReason, ListenError, NotInFastPath, OfferedSegment,
+    RecvError, Reno, Reply, SendError, Socket, SocketBuffer, State,
 };

@@ -158,14 +158,21 @@ impl Socket {
     pub fn close(&mut self)
         ensures { self.new ≡ close_after self.old }
     {
-        self.offered = None;
         let before = self.tcb.state;
+        self.close_unnoted();
+        self.note_end(EndEvent::Close, before);
+    }
+
+    /// The same, without a note of why the connection is over.
+    pub(crate) fn close_unnoted(&mut self)
+        ensures { self.new ≡ close_after self.old }
+    {
+        self.offered = None;
         if self.tcb.state.is_opening() {
             self.tcb.forget();
         } else {
             self.tcb.state = self.tcb.state.after_close();
         }
-        self.note_end(EndEvent::Close, before);
     }
 
     /// Ends the connection. A reset goes to the remote, if there is one, but in TIME-WAIT, where the
@@ -173,15 +180,21 @@ impl Socket {
     pub fn abort(&mut self)
         ensures { self.new ≡ abort_after self.old }
     {
-        self.offered = None;
         let before = self.tcb.state;
+        self.abort_unnoted();
+        self.note_end(EndEvent::Abort, before);
+    }
+
+    fn abort_unnoted(&mut self)
+        ensures { self.new ≡ abort_after self.old }
+    {
+        self.offered = None;
         if self.tcb.state.is_time_wait() {
             self.tcb.forget();
         } else {
             self.tcb.state = State::Closed;
             self.tcb.sender.reset_due = self.tcb.names.pair.is_some();
         }
-        self.note_end(EndEvent::Abort, before);
     }
 
     fn check_send(&self) -> Result<(), SendError>

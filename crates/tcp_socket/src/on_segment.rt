@@ -23,15 +23,15 @@ ghost use Rattle.tcp_socket.specs.Answering.{acknowledgement, reply_of, answer_o
 ghost use Rattle.tcp_socket.specs.FastPath.{taken_by, rest_by, content_by};
 
 use crate::Socket;
+use crate::ends::end_event;
 use crate::fast_path::{acknowledge_tcb, take_window, tells_no_rtt};
 use crate::payload::Payload;
 use ip_wire::{IpRepr, SeqNumber, TcpHeader, TcpRepr};
 use net_base::Instant;
 use socket_context::Context;
 use tcp_block::{
-    AddressPair, EndEvent, FourTuple, Reply, State, Verdict, has_length, is_fin, is_first_syn,
-    is_rst, is_syn, is_void_syn, isn, next_challenge_from, numbers_of, reply_to, rst_reply,
-    time_wait_from,
+    AddressPair, FourTuple, Reply, State, Verdict, has_length, is_fin, is_first_syn, is_rst,
+    is_syn, is_void_syn, isn, next_challenge_from, numbers_of, reply_to, rst_reply, time_wait_from,
 };
 
 /// A segment with what it came in.
@@ -787,15 +787,6 @@ pub enum Due {
     Ack(u16),
     /// One that tells of the run which is held with its first byte at this offset.
     AckWithSack(u16, usize),
-}
-
-/// What a segment is to the connection that it ends.
-fn end_event(header: &TcpHeader) -> EndEvent {
-    if is_rst(header.control) {
-        EndEvent::Reset
-    } else {
-        EndEvent::Segment
-    }
 }
 
 /// A reply as it is handed out.

@@ -18,7 +18,7 @@ pub struct Socket {
     pub(crate) received: ReceiveBuffer,
     pub(crate) queued: SocketBuffer,
     pub(crate) offered: Option<OpenOffer>,
-    /// Why the last connection ended. It stands beside the value, and no rule looks at it.
+    /// Why the last connection ended. The view leaves it out.
     pub(crate) end_reason: Option<EndReason>,
 }
 

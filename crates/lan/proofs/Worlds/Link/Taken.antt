@@ -16,6 +16,7 @@ use Rattle.iface_ingress.specs.EthernetRepr.{EthernetRepr}
 use Rattle.sim_link.specs.ChecksumCapabilities.{ChecksumCapabilities}
 use Rattle.iface_tables.specs.Inner.{InnerValue}
 use Rattle.iface_tables.specs.Assemblers.{without_expired}
+use Rattle.iface_tables.specs.Reassembly.{freed}
 use Rattle.iface_tables.specs.declared.key.FragKey.{FragKey}
 use Rattle.iface_tables.specs.declared.key.FragKey.TheVariants as Keys
 use Rattle.iface_ingress.specs.Arrives.{Arrived, ArrivesAs, assemblers_after, whole_after, whole_arrived}
@@ -27,12 +28,12 @@ use Rattle.iface_ingress.proofs.Settings.{brings_same}
 use Rattle.iface_ingress.proofs.Roomed.{roomed}
 use Rattle.lan.specs.Worlds.Link.Made.{Makes, sealed, HandsMade, BringsMade}
 use Rattle.lan.specs.Worlds.Link.Frames.{Outgoing, IsFrom, BringsFrom}
-use Rattle.lan.specs.Worlds.Link.StoredFragments.{AreAssemblersOf}
+use Rattle.lan.specs.Worlds.Link.StoredFragments.{AreAssemblersOf, IsAssemblerOf}
 use Rattle.lan.proofs.Worlds.Link.ReassembledDatagram.{IsReassembledOf}
 use Rattle.lan.specs.Worlds.Link.Numbers.{AreFew}
 use Rattle.lan.specs.Worlds.Link.Sides.{AreSent, IsReceiver}
 use Rattle.lan.proofs.Worlds.Link.Hands.{brings_whole, hands_none, hands_v4, hands_v6, no_part}
-use Rattle.lan.proofs.Worlds.Link.Assemblers.{IsPartOf, all_more, expired_keep, part_keeps, part_rebuilds, released_keeps}
+use Rattle.lan.proofs.Worlds.Link.Assemblers.{IsPartOf, all_more, changed_keeps, expired_keep, freed_is, part_keeps, part_rebuilds, released_keeps}
 
 -- each content is of a frame that is brought to a host
 abbrev pub AreFrom : Makes → List Outgoing → Option IncomingValue → Type 0
