@@ -1,30 +1,14 @@
-#!/usr/bin/env python3
-"""Refuses each allocation of the program app_cases in turn, at some of its cases of two TCP sockets.
-
-    tools/try-pair-without-memory [--at PROGRAM] NAME ..
-
-NAME is how the names of cases begin. It needs the proved program, which `rt run < stdin` leaves in crates/app_cases/out/, or a quick build
-(`linux/quick-build app_cases FILE`), and a C compiler, and runs that program once for each allocation, with a library loaded before it that
-refuses this one. What was written before has to be as in the whole run, and then one of these comes: status 2; a line that names
-`memory` or `buffers`, which ends the case; or a line that is `refused Memory`, after which both sides are as before it. That line is then
-played again, by standing twice: the second time it is answered as in the whole run, and so is all behind it. Of a `burst` the segments
-before the refused one stay handed over, so it is played again from there on; `ask` counts what it sends the second time. A `settle` isn't
-played again, since it loses what was sent before; nor are `rounds`, which go on from where they were refused.
+"""Cases of app_cases of two TCP sockets. What was written before the refusal has to be as in the whole run, and then one of these comes:
+status 2; a line that names `memory` or `buffers`, which ends the case; or a line that is `refused Memory`, after which both sides are as
+before it. That line is then played again, by standing twice: the second time it is answered as in the whole run, and so is all after it. Of
+a `burst` the segments before the refused one stay handed over, so it is played again from there on; `ask` counts what it sends the second
+time. A `settle` isn't played again, since it loses what was sent before; nor are `rounds`, which go on from where they were refused.
 """
-import argparse
 import itertools
-import os
-import pathlib
 import re
-import subprocess
-import sys
-import tempfile
 
-sys.dont_write_bytecode = True
 from answers import TALLY, kind_of, parts, script_lines, text_of
-
-TOP = pathlib.Path(__file__).resolve().parent.parent
-CRATE = TOP / "crates" / "app_cases"
+from refusal import TOP, count_of, library, run, words_of
 
 
 def blocks(written):
@@ -54,14 +38,12 @@ class Tried:
         self.count, self.whole = self.counted(lines)
 
     def run(self, lines, **how):
-        environment = {**os.environ, "LD_PRELOAD": self.library, **how}
-        text = "\n".join([*lines, ""]).encode()
-        return subprocess.run([self.program], input=text, stdout=subprocess.PIPE, stderr=subprocess.PIPE, env=environment)
+        return run(self.program, self.library, "\n".join([*lines, ""]).encode(), **how)
 
     def counted(self, lines):
         """How many allocations there are, and what is written."""
         ran = self.run(lines, COUNT="1")
-        return int(re.search(rb"(?m)^allocations (\d+)", ran.stderr)[1]), blocks(ran.stdout.decode())
+        return count_of(ran), blocks(ran.stdout.decode())
 
     def without(self, lines, place):
         ran = self.run(lines, REFUSE=str(place))
@@ -119,21 +101,11 @@ def refuse_each(tried, name):
     return bad
 
 
-def main():
-    words = argparse.ArgumentParser(usage=__doc__)
-    words.add_argument("--at", default=CRATE / "out" / "app_cases")
-    words.add_argument("names", nargs="+")
-    said = words.parse_args()
-    cases = parts(text_of(CRATE / "stdin"))
-    bad = 0
-    with tempfile.TemporaryDirectory() as folder:
-        library = f"{folder}/refuse.so"
-        source = TOP / "tools" / "without_memory" / "refuse.c"
-        subprocess.run([os.environ.get("CC", "cc"), "-O2", "-shared", "-fPIC", "-o", library, source, "-ldl"], check=True)
+def main(words):
+    said, bad = words_of("sockets", words, "at"), 0
+    cases = parts(text_of(TOP / "crates" / "app_cases" / "stdin"))
+    with library() as made:
         for name, lines in cases.items():
             if name.startswith(tuple(said.names)) and kind_of(lines) == "sockets":
-                bad += refuse_each(Tried(said.at, library, [f"== {name}", *script_lines(lines)]), name)
-    sys.exit(bad > 0)
-
-
-main()
+                bad += refuse_each(Tried(said.at, made, [f"== {name}", *script_lines(lines)]), name)
+    return int(bad > 0)
