@@ -1,7 +1,7 @@
 //! What is seen of the frames on the wire: `--trace` writes a line of text for each, and `--pcap FILE` a capture for Wireshark.
 use crate::host::Host;
 use crate::tap::{lines, records};
-use anyhow::{Context, Result, bail};
+use anyhow::{Result, bail};
 use std::alloc::Global;
 use std::io::Write;
 use std::rt::Files;
@@ -30,16 +30,20 @@ impl<F: Write + Drop> Watch<F> {
             capture: None,
             skipped: 0,
         };
-        let mut words = arguments.iter();
-        while let Some(word) = words.next() {
+        let mut names_file = false;
+        for word in arguments.iter() {
             match word.as_str() {
-                "--trace" => watch.traces = true,
-                "--pcap" => {
-                    let file = words.next().context("--pcap FILE")?;
-                    watch.capture = Some(fs::create(rt, file.as_str())?);
+                name if names_file => {
+                    watch.capture = Some(fs::create(rt, name)?);
+                    names_file = false;
                 }
+                "--trace" => watch.traces = true,
+                "--pcap" => names_file = true,
                 _ => bail!("app_first [--trace] [--pcap FILE]"),
             }
+        }
+        if names_file {
+            bail!("--pcap FILE");
         }
         Ok(watch)
     }

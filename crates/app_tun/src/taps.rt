@@ -7,7 +7,7 @@ ghost use Rattle.interface.specs.Set.{slots};
 ghost use Rattle.interface.specs.State.{state};
 ghost use Rattle.app_tun_services.specs.Link.Drain.{DrainMove};
 
-use anyhow::{Context, Result};
+use anyhow::{Result, bail};
 use app_tun_services::Watch;
 use app_tun_services::link::Drain;
 use base_wrappers::{PcapMode, PcapWriter, Tracer, VecSink};
@@ -77,23 +77,22 @@ impl<'a, R: Files + Eprint + AllocGlobal> Taps<'a, R> {
             capture: None,
             is_begun: false,
         };
-        let mut count = 0;
-        let mut words = arguments.iter();
-        while let Some(word) = words.next() {
+        let mut names_file = false;
+        for (at, word) in arguments.iter().enumerate() {
             match word.as_str() {
-                "--trace" => {
-                    taps.traces = true;
-                    count += 1;
+                name if names_file => {
+                    taps.capture = Some(fs::create(rt, name)?);
+                    names_file = false;
                 }
-                "--pcap" => {
-                    let file = words.next().context("--pcap FILE")?;
-                    taps.capture = Some(fs::create(rt, file.as_str())?);
-                    count += 2;
-                }
-                _ => break,
+                "--trace" => taps.traces = true,
+                "--pcap" => names_file = true,
+                _ => return Ok((taps, at)),
             }
         }
-        Ok((taps, count))
+        if names_file {
+            bail!("--pcap FILE");
+        }
+        Ok((taps, arguments.len()))
     }
 
     /// Whether anything is to be seen.

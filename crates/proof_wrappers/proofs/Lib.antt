@@ -1,1 +1,2 @@
 pub mod OneBit
+pub mod Watched

@@ -1,5 +1,5 @@
 -- What one bit makes of a sum.
-use Rattle.std.proofs.Common.{◌≡◌, ◌≢◌, ℕ, zero, suc, ◌+◌, ◌*◌, ◌%◌, ◌^◌, ◌<◌, ◌≤◌, true, List, [], ◌∷◌, length, take, refl, sym, ap, ◌∙◌, subst, arith, ◌⊎◌, inl, inr}
+use Rattle.std.proofs.Common.{◌≡◌, ◌≢◌, ℕ, zero, suc, ◌+◌, ◌*◌, ◌%◌, ◌^◌, ◌<◌, ◌≤◌, ◌==◌, if◌then◌else◌, true, List, [], ◌∷◌, length, take, refl, sym, ap, ◌∙◌, subst, arith, ◌⊎◌, inl, inr}
 use Rattle.std.specs.Prelude.{bit_and, bit_xor, slice_set, slice_index_or}
 use Rattle.std.specs.Int.{bit_at}
 use Rattle.std.specs.Int.Bits.{xor_add_and}
@@ -28,7 +28,7 @@ abbrev Differs : ℕ → ℕ → Type 0
 Differs old new = (d : ℕ) × (0 < d) × (d < 256) × ((new ≡ old + d) ⊎ (new + d ≡ old))
 
 below : (k : ℕ) → k < 8 → 2 ^ k < 256
-below 0 small = omega arith
+below zero small = omega arith
 below (suc zero) small = omega arith
 below (suc (suc zero)) small = omega arith
 below (suc (suc (suc zero))) small = omega arith
@@ -113,11 +113,21 @@ set_tells : (covered : ℕ) (bytes : List ℕ) (i k : ℕ) → k < 8 → i < len
 set_tells covered bytes i k small within one two =
     by_place covered bytes i (bit_xor (slice_index_or bytes i 0) (2 ^ k)) (parity i) within (one_other (slice_index_or bytes i 0) k small) one two
 
+if_some : (n : ℕ) (none some : List ℕ) → (if suc n == 0 then none else some) ≡ some
+if_some n none some = grind arith
+
+flipped_is : (at bit b : ℕ) (bytes : List ℕ) → flipped at bit (b ∷ bytes)
+    ≡ slice_set (b ∷ bytes) (at % length (b ∷ bytes)) (bit_xor (slice_index_or (b ∷ bytes) (at % length (b ∷ bytes)) 0) (2 ^ (bit % 8)))
+flipped_is at bit b bytes =
+    if_some (length bytes) (b ∷ bytes)
+    (slice_set (b ∷ bytes) (at % length (b ∷ bytes)) (bit_xor (slice_index_or (b ∷ bytes) (at % length (b ∷ bytes)) 0) (2 ^ (bit % 8))))
+
 pub tells : (covered at bit : ℕ) (bytes : List ℕ) → 0 < length bytes → ChecksumHolds (covered + word_sum bytes)
     → ChecksumHolds (covered + word_sum (flipped at bit bytes)) → ⊥
 tells covered at bit [] some one two = absurd (omega arith)
 tells covered at bit (b ∷ bytes) some one two =
-    set_tells covered (b ∷ bytes) (at % length (b ∷ bytes)) (bit % 8) (mod-lt bit {m = 8} (omega arith)) (mod-lt at {m = length (b ∷ bytes)} (omega arith)) one two
+    set_tells covered (b ∷ bytes) (at % length (b ∷ bytes)) (bit % 8) (mod-lt bit {m = 8} (omega arith)) (mod-lt at {m = length (b ∷ bytes)} (omega arith)) one
+    (subst (λ (xs : List ℕ). ChecksumHolds (covered + word_sum xs)) (flipped_is at bit b bytes) two)
 
 -- FRONTS
 
@@ -151,12 +161,16 @@ pub front_tells : (covered n at bit : ℕ) (bytes : List ℕ) → ChecksumHolds 
     → ChecksumHolds (covered + word_sum (take n (flipped at bit bytes))) → take n (flipped at bit bytes) ≡ take n bytes
 front_tells covered n at bit [] one two = refl
 front_tells covered n at bit (b ∷ bytes) one two =
-    front_set covered n (b ∷ bytes) (at % length (b ∷ bytes)) (bit % 8) (order n (at % length (b ∷ bytes))) (mod-lt bit {m = 8} (omega arith))
-    (mod-lt at {m = length (b ∷ bytes)} (omega arith)) one two
+    ap (λ (xs : List ℕ). take n xs) (flipped_is at bit b bytes)
+    ∙ front_set covered n (b ∷ bytes) (at % length (b ∷ bytes)) (bit % 8) (order n (at % length (b ∷ bytes))) (mod-lt bit {m = 8} (omega arith))
+    (mod-lt at {m = length (b ∷ bytes)} (omega arith)) one
+    (subst (λ (xs : List ℕ). ChecksumHolds (covered + word_sum (take n xs))) (flipped_is at bit b bytes) two)
 
 pub same_length : (at bit : ℕ) (bytes : List ℕ) → length (flipped at bit bytes) ≡ length bytes
 same_length at bit [] = refl
-same_length at bit (b ∷ bytes) = length-set (b ∷ bytes) (at % length (b ∷ bytes)) (bit_xor (slice_index_or (b ∷ bytes) (at % length (b ∷ bytes)) 0) (2 ^ (bit % 8)))
+same_length at bit (b ∷ bytes) =
+    ap (λ (xs : List ℕ). length xs) (flipped_is at bit b bytes)
+    ∙ length-set (b ∷ bytes) (at % length (b ∷ bytes)) (bit_xor (slice_index_or (b ∷ bytes) (at % length (b ∷ bytes)) 0) (2 ^ (bit % 8)))
 
 front_length : (n : ℕ) (xs ys : List ℕ) → length xs ≡ length ys → length (take n xs) ≡ length (take n ys)
 front_length zero xs ys same = refl
@@ -170,8 +184,8 @@ front_length (suc n) (x ∷ xs) (y ∷ ys) same = ap suc (front_length n xs ys (
 pub segment_tells : (source destination : IpAddress) (bytes : List ℕ) (at bit : ℕ) (v w : TcpHeader) → Tcp.IsTcp source destination true bytes v
     → Tcp.IsTcp source destination true (flipped at bit bytes) w → ⊥
 segment_tells source destination bytes at bit v w one two =
-    tells (word_sum (pseudo_of source destination 6 (length bytes))) at bit bytes (let fixed = one.whole.fixed in omega (arith, fixed)) (one.checked tt)
-    (subst (λ (n : ℕ). ChecksumHolds (word_sum (pseudo_of source destination 6 n) + word_sum (flipped at bit bytes))) (same_length at bit bytes) (two.checked tt))
+    tells (word_sum (pseudo_of source destination 6 (length bytes))) at bit bytes (let fixed = one.whole.fixed in omega (arith, fixed)) (one.checked refl)
+    (subst (λ (n : ℕ). ChecksumHolds (word_sum (pseudo_of source destination 6 n) + word_sum (flipped at bit bytes))) (same_length at bit bytes) (two.checked refl))
 
 datagram_same : (source destination : IpAddress) (bytes other : List ℕ) → length other ≡ length bytes → be16 other 4 ≡ be16 bytes 4
     → ((covered : ℕ) → ChecksumHolds (covered + word_sum (Udp.datagram_of bytes)) → ChecksumHolds (covered + word_sum (take (be16 bytes 4) other))
@@ -198,14 +212,18 @@ pub datagram_tells : (source destination : IpAddress) (bytes : List ℕ) (at bit
     → (Udp.HasNoChecksum source bytes → ⊥) → be16 (flipped at bit bytes) 4 ≡ be16 bytes 4 → Udp.IsUdp source destination true (flipped at bit bytes) w
     → (Udp.datagram_of (flipped at bit bytes) ≡ Udp.datagram_of bytes) ⊎ Udp.HasNoChecksum source (flipped at bit bytes)
 datagram_tells source destination bytes at bit v w one not field two =
-    by_checks source destination bytes (flipped at bit bytes) (one.checked tt) (two.checked tt) not
+    by_checks source destination bytes (flipped at bit bytes) (one.checked refl) (two.checked refl) not
     (datagram_same source destination bytes (flipped at bit bytes) (same_length at bit bytes) field
     (λ covered. front_tells covered (be16 bytes 4) at bit bytes))
+
+none_before : (n : ℕ) → ChecksumHolds n → ChecksumHolds (0 + n)
+none_before n holds = let is : n ≡ 65535 * holds.0 = holds.2 in (holds.0, holds.1, omega (arith, is))
 
 pub header_tells : (bytes : List ℕ) (at bit : ℕ) (v w : Ipv4Repr) → Ipv4.IsIpv4 true bytes v
     → Ipv4.header_len_of (flipped at bit bytes) ≡ Ipv4.header_len_of bytes → Ipv4.IsIpv4 true (flipped at bit bytes) w
     → Ipv4.header_of (flipped at bit bytes) ≡ Ipv4.header_of bytes
 header_tells bytes at bit v w one same two =
     let front : Ipv4.header_of (flipped at bit bytes) ≡ take (Ipv4.header_len_of bytes) (flipped at bit bytes) = ap (λ (n : ℕ). take n (flipped at bit bytes)) same in
-    front ∙ front_tells 0 (Ipv4.header_len_of bytes) at bit bytes (one.checked tt)
-    (subst (λ (xs : List ℕ). ChecksumHolds (word_sum xs)) front (two.checked tt))
+    front ∙ front_tells 0 (Ipv4.header_len_of bytes) at bit bytes (none_before (word_sum (Ipv4.header_of bytes)) (one.checked refl))
+    (none_before (word_sum (take (Ipv4.header_len_of bytes) (flipped at bit bytes)))
+    (subst (λ (xs : List ℕ). ChecksumHolds (word_sum xs)) front (two.checked refl)))

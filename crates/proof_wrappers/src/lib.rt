@@ -3,3 +3,4 @@
 #![tactic(auto)]
 
 pub mod one_bit;
+pub mod watched;
