@@ -1,2 +1,2 @@
 pub mod OneBit
-pub mod Watched
+pub mod Unwatched

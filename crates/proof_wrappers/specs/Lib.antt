@@ -1,1 +1,1 @@
-pub mod Watched
+pub mod Unwatched

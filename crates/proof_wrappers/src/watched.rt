@@ -4,7 +4,7 @@ ghost use Rattle.base_wrappers.specs.TracerValue.{TracerValue};
 ghost use Rattle.base_wrappers.specs.declared.pcap.PcapMode.{PcapMode};
 ghost use Rattle.interface.specs.Polls.{Polls};
 ghost use Rattle.interface.specs.State.{State};
-ghost use Rattle.proof_wrappers.specs.Watched.{unwatched};
+ghost use Rattle.proof_wrappers.specs.Unwatched.{unwatched};
 
 use base_wrappers::{FrameWriter, PcapWriter, Sink, Tracer};
 use net_base::Device;

@@ -1,5 +1,5 @@
 use Rattle.base_wrappers.specs.Pcap.{captures, IsRecord}
-use Rattle.proof_wrappers.proofs.Watched.{polls_within}
+use Rattle.proof_wrappers.proofs.Unwatched.{polls_within}
 use Rattle.proof_wrappers.proofs.watched.polls_of_less.Goals as goal
 
 pub returns-clause-tracer : goal.returns-clause-tracer

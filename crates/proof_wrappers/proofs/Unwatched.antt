@@ -7,7 +7,7 @@ use Rattle.base_wrappers.specs.declared.writer.Direction.{Direction}
 use Rattle.interface.specs.Polls.{Polls}
 use Rattle.interface.specs.State.{State}
 use Rattle.interface.proofs.Mapping.{IsMapped, polls_there}
-use Rattle.proof_wrappers.specs.Watched.{unwatched}
+use Rattle.proof_wrappers.specs.Unwatched.{unwatched}
 
 module _ {D S W : Type 0} (moves : D → Move → D → Type 0) (taken : S → List ℕ) (takes : W → Direction → Bool)
     (writes : W → ℤ → Direction → List ℕ → List ℕ → Type 0) where
