@@ -55,7 +55,6 @@ class World {
             if (next > end) break;
             this.now = Math.max(next, this.now + 1);
         }
-        this.now = Math.max(this.now, Math.min(end, this.now));
     }
 
     carry() {
@@ -141,13 +140,13 @@ async function stream(loses, address) {
             echo.shift();
         }
         if (server.state === 'CLOSE-WAIT') server.close();
-    }, () => ended && client.state === 'TIME-WAIT');
+    }, () => ended && client.state === 'TIME-WAIT' && server.state === 'CLOSED');
     must(joined(there).equals(Buffer.from(given)), `${address}: ${joined(there).length} bytes came`);
     must(joined(back).equals(Buffer.from(given)), `${address}: ${joined(back).length} bytes came back`);
     must(client.state === 'TIME-WAIT' && server.state === 'CLOSED', `${address}: the ends are ${client.state} and ${server?.state}`);
     must(loses === 0 || world.lost > 0, 'no frame was lost');
     const {out} = a.counters();
-    console.log(`${given.length} bytes there and back by ${address}: ${out + b.counters().out} frames, ${world.lost} lost, ${(world.now / 1e6).toFixed(1)} s of the ` +
+    console.log(`${given.length} bytes there and back by ${address}: ${out + b.counters().out} frames, ${world.lost} lost, ${(world.now / 1e3).toFixed(1)} ms of the ` +
         `hosts' time, ${(performance.now() - began).toFixed(0)} ms`);
     listener.giveBack(server);
     a.free();
