@@ -44,7 +44,8 @@ static int kind = IFF_TUN, tun = -1, other = -1, host = -1;
 static struct offload joined[2];  // of the other device, and of the device: what goes way 0, and way 1
 static uint64_t lose, repeat, hold, damage, burst, delay, jitter, rate, queue, chance = 1, seed, ahead, turns, carried[2];
 static byte key[16];
-static int seeded, singly;
+static int seeded, singly, traced;
+static const char *capture;
 static struct ether_addr station;
 static FILE *said, *answered;
 static volatile sig_atomic_t ends, skips;
@@ -208,7 +209,11 @@ static void start_host(const char *program, char **addresses, int count) {
     if (socketpair(AF_UNIX, SOCK_STREAM, 0, ends_of) < 0) stop("socketpair");
     if (!fork()) {
         dup2(ends_of[1], 0), dup2(ends_of[1], 1), close(ends_of[0]), close(ends_of[1]);
-        execl(program, program, (char *)0);
+        const char *said[5] = {program};
+        int words_said = 1;
+        if (traced) said[words_said++] = "--trace";
+        if (capture) said[words_said++] = "--pcap", said[words_said++] = capture;
+        execv(program, (char *const *)said);
         stop(program);
     }
     close(ends_of[1]);
@@ -238,7 +243,7 @@ int main(int count, char **words) {
     int option;
     char path[4096];
     if (getrandom(&seed, sizeof seed, 0) < 0 || getrandom(key, sizeof key, 0) < 0) stop("getrandom");
-    while ((option = getopt(count, words, "1l:r:h:d:b:t:j:m:q:c:s:k:e:")) != -1) {
+    while ((option = getopt(count, words, "1vl:r:h:d:b:t:j:m:q:c:s:k:e:w:")) != -1) {
         uint64_t value = optarg ? strtoull(optarg, 0, 10) : 0;
         switch (option) {
         case 'l': lose = value; break;
@@ -254,6 +259,8 @@ int main(int count, char **words) {
         case 's': seed = value, seeded = 1; break;
         case 'e': kind = IFF_TAP; if (!ether_aton_r(optarg, &station)) stop(optarg); break;
         case '1': singly = 1; break;
+        case 'v': traced = 1; break;
+        case 'w': capture = optarg; break;
         case 'k':
             snprintf(path, sizeof path, "%s/stdin", optarg), said = fopen(path, "wb");
             snprintf(path, sizeof path, "%s/stdout", optarg), answered = fopen(path, "wb");

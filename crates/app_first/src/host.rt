@@ -1,7 +1,7 @@
 //! A host: an interface at one end of a wire, and its sockets.
 ghost use Rattle.net_base.specs.Time.{IsMoment};
 
-use crate::wire::Wire;
+use crate::tap::{Tap, tap};
 use anyhow::{Context, Result, anyhow};
 use interface::{Config, Interface, SocketHandle, SocketSet, SocketsByKind};
 use ip_wire::{EthernetAddress, HardwareAddress, IpAddress, IpCidr, Ipv4Address};
@@ -18,7 +18,7 @@ pub fn address(number: u8) -> IpAddress {
 }
 
 /// An interface at the wire, without an address.
-fn bare(alloc: Global, wire: &Wire, number: u8) -> Result<Interface> {
+fn bare(alloc: Global, wire: &Tap, number: u8) -> Result<Interface> {
     let config = Config {
         random_seed: u64::from(number),
         ..Config::with_host_requirements(HardwareAddress::Ethernet(EthernetAddress([
@@ -78,14 +78,15 @@ pub fn add<K: AnySocket + Drop>(
 #[derive(Drop)]
 pub struct Host {
     pub interface: Interface,
-    pub wire: Wire,
+    pub wire: Tap,
     pub sockets: SocketSet<Socket>,
 }
 
 impl Host {
-    /// The host with this number, without an address or a socket. It is large, so it stands on the heap.
-    pub fn new(alloc: Global, number: u8) -> Result<Box<Host>> {
-        let wire = Wire::new(alloc);
+    /// The host with this number, without an address or a socket, and with so much room for what is seen of its frames. It is large, so it
+    /// stands on the heap.
+    pub fn new(alloc: Global, number: u8, room: usize) -> Result<Box<Host>> {
+        let wire = tap(alloc, room)?;
         let host = bare(alloc, &wire, number).map(|interface| Host {
             interface,
             wire,

@@ -3,6 +3,7 @@ ghost use Rattle.std.specs.Prelude.{IfSome};
 ghost use Rattle.net_base.specs.Time.{IsMoment};
 
 use crate::host::Host;
+use crate::tap::{carry, has_frame};
 use anyhow::Result;
 use interface::earlier;
 use net_base::{Duration, Instant};
@@ -52,7 +53,7 @@ fn due<E: End>(end: &mut E, now: Instant) -> Option<Instant>
     requires { IsMoment now }
 {
     let host = end.host();
-    if host.wire.has_frame() {
+    if has_frame(&host.wire) {
         return Some(now);
     }
     host.poll_at(now)
@@ -73,8 +74,8 @@ impl<C: End + Drop, S: End + Drop> Net<C, S> {
         turn(&mut self.client, self.now);
         turn(&mut self.server, self.now);
         let (client, server) = (self.client.host(), self.server.host());
-        client.wire.carry_to(&mut server.wire)?;
-        server.wire.carry_to(&mut client.wire)?;
+        carry(&mut client.wire, &mut server.wire)?;
+        carry(&mut server.wire, &mut client.wire)?;
         Ok(())
     }
 

@@ -40,9 +40,9 @@ pub struct Peer {
 }
 
 impl Peer {
-    /// The one with this number.
-    pub fn new(alloc: Global, number: u8, port: u16) -> Result<Peer> {
-        let mut host = Host::new(alloc, number)?;
+    /// The one with this number, and with so much room for what is seen of its frames.
+    pub fn new(alloc: Global, number: u8, port: u16, room: usize) -> Result<Peer> {
+        let mut host = Host::new(alloc, number, room)?;
         fill(alloc, &mut host, number, port).map(|handles| Peer { host, handles })
     }
 

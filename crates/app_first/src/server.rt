@@ -19,7 +19,7 @@ pub struct Server {
 impl Server {
     /// The one with this number.
     pub fn new(alloc: Global, number: u8) -> Result<Server> {
-        Peer::new(alloc, number, ECHO).map(|peer| Server { peer })
+        Peer::new(alloc, number, ECHO, 0).map(|peer| Server { peer })
     }
 }
 

@@ -91,13 +91,14 @@ impl Wire {
         !self.came.is_empty()
     }
 
-    /// Carries the frames that are to go to the other end.
-    pub fn carry_to(&mut self, other: &mut Wire) -> Result<(), AllocError> {
-        for _ in 0..self.leaving.len() {
-            if let Some(frame) = self.leaving.pop_front() {
-                other.came.push_back(frame)?;
-            }
-        }
+    /// The next frame that is to go.
+    pub fn leave(&mut self) -> Option<Vec<u8>> {
+        self.leaving.pop_front()
+    }
+
+    /// A frame comes from the other end.
+    pub fn come(&mut self, frame: Vec<u8>) -> Result<(), AllocError> {
+        self.came.push_back(frame)?;
         Ok(())
     }
 }

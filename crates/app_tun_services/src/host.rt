@@ -23,6 +23,7 @@ use crate::site::Session;
 use crate::slot::{Service, socket_count};
 use crate::sockets_of::{ROOM, sockets};
 use crate::tally::Tally;
+use crate::watch::Watch;
 use interface::{Interface, Listener, PollResult, SocketSet, SocketStorage};
 use net_base::Instant;
 use sockets::Socket;
@@ -60,17 +61,18 @@ fn budget() -> u16
 }
 
 /// A poll of a host's interface.
-fn poll(
+fn poll<V: Watch>(
     interface: &mut Interface,
     drain: &mut Drain,
     sockets: &mut SocketSet<Socket>,
+    watch: &mut V,
     now: Instant,
 ) -> PollResult
     requires { IsMoment now }
     ensures { Polls DrainMove now budget (state drain.old interface.old (slots sockets.old)) (is_change result)
         (state drain.new interface.new (slots sockets.new)) }
 {
-    interface.poll(now, drain, sockets, budget())
+    watch.poll(interface, drain, sockets, now, budget())
 }
 
 /// The services do what can be done now.
@@ -256,14 +258,25 @@ impl Host {
 
     /// One turn: the packet comes, is answered, and the services do what can be done now. It returns when the host wants its next
     /// turn.
-    pub fn take_turn(&mut self, packet: Vec<u8>, now: Instant) -> Option<Instant>
+    pub fn take_turn<V: Watch>(
+        &mut self,
+        watch: &mut V,
+        packet: Vec<u8>,
+        now: Instant,
+    ) -> Option<Instant>
         requires instant { IsMoment now }
         requires set_up { IsSetUp self.old }
         ensures turn { TakesTurn (state_of self.old) now packet.items result (state_of self.new) }
         ensures set_up { IsSetUp self.new }
     {
         self.drain.put(packet);
-        let _ = poll(&mut self.interface, &mut self.drain, &mut self.sockets, now);
+        let _ = poll(
+            &mut self.interface,
+            &mut self.drain,
+            &mut self.sockets,
+            watch,
+            now,
+        );
         serve(
             &mut self.sockets,
             self.echo_sessions.as_mut_slice(),
@@ -276,14 +289,21 @@ impl Host {
             self.request.as_mut_slice(),
             now,
         );
-        let _ = poll(&mut self.interface, &mut self.drain, &mut self.sockets, now);
+        let _ = poll(
+            &mut self.interface,
+            &mut self.drain,
+            &mut self.sockets,
+            watch,
+            now,
+        );
         self.interface.poll_at(now, &self.sockets)
     }
 
     /// One turn, and its answer: what was sent, and the instant of the next turn.
-    pub fn answer_turn<W: Write>(
+    pub fn answer_turn<W: Write, V: Watch>(
         &mut self,
         writer: &mut W,
+        watch: &mut V,
         packet: Vec<u8>,
         now: Instant,
     ) -> Result<(), ServeError>
@@ -294,7 +314,7 @@ impl Host {
         ensures set_up { IsSetUp self.new }
         ensures error { IfErr result (λ e. e ≡ ServeError.Writer) }
     {
-        let next = self.take_turn(packet, now);
+        let next = self.take_turn(watch, packet, now);
         match write_answer(&mut self.drain, writer, next) {
             Ok(()) => Ok(()),
             Err(_) => Err(ServeError::Writer),

@@ -24,12 +24,14 @@ mod sockets_of;
 mod stream;
 mod tally;
 mod turns;
+mod watch;
 
 pub use counts::Counts;
 pub use datagram::echo_datagram;
 pub use error::ServeError;
-pub use program::run;
+pub use program::{run, run_watched};
 pub use request::{Answer, Reply, Verdict, judge};
 pub use site::{MEGABYTE, Session, serve_site};
 pub use stream::echo_stream;
-pub use turns::serve;
+pub use turns::{serve, serve_watched};
+pub use watch::{Unwatched, Watch};

@@ -12,6 +12,7 @@ use crate::error::ServeError;
 use crate::host::Host;
 use crate::link::read_turn;
 use crate::settings::Settings;
+use crate::watch::{Unwatched, Watch};
 use net_base::Instant;
 use std::alloc::Global;
 use std::io::{Read, Write};
@@ -21,11 +22,25 @@ pub const LONGEST: usize = 65_535;
 
 /// Takes turns until the reader ends. The first one brings the settings; each other one brings a packet, or none, and is answered
 /// with the packets that the host sends and the instant at which it wants its next turn.
-#[tactic(auto, using(crate::proofs::Running::running_none, crate::proofs::Running::at_end, crate::proofs::Running::counted_out))]
 pub fn serve<R: Read, W: Write>(
     alloc: Global,
     reader: &mut R,
     writer: &mut W,
+) -> Result<(), ServeError>
+    ensures served { result ≢ Err ServeError.Writer → (output : List ℕ)
+        × IsServed (R.remaining reader.old) output result
+        × Appends (W.contents writer.old) (W.contents writer.new) output }
+{
+    serve_watched(alloc, reader, writer, &mut Unwatched {})
+}
+
+/// The same, where the link is watched.
+#[tactic(auto, using(crate::proofs::Running::running_none, crate::proofs::Running::at_end, crate::proofs::Running::counted_out))]
+pub fn serve_watched<R: Read, W: Write, V: Watch>(
+    alloc: Global,
+    reader: &mut R,
+    writer: &mut W,
+    watch: &mut V,
 ) -> Result<(), ServeError>
     ensures served { result ≢ Err ServeError.Writer → (output : List ℕ)
         × IsServed (R.remaining reader.old) output result
@@ -39,7 +54,7 @@ pub fn serve<R: Read, W: Write>(
             return Ok(());
         };
         let (mut current, packet) = arrive(alloc, host, packet, now)?;
-        current.answer_turn(writer, packet, now)?;
+        current.answer_turn(writer, watch, packet, now)?;
         host = Some(current);
         last = now;
     }

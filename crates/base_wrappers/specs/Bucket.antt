@@ -1,5 +1,5 @@
 -- How many frames go in an interval.
-use Rattle.std.specs.Prelude.{◌≡◌, refl, ℕ, ◌-◌, ◌==◌, ◌||◌, ℤ, pos, ◌+ℤ◌, int_le, nat_lt, Bool, true, Option, None, Some, if◌then◌else◌}
+use Rattle.std.specs.Prelude.{◌≡◌, refl, ℕ, ◌-◌, ◌^◌, ◌==◌, ◌||◌, ℤ, pos, ◌+ℤ◌, int_le, nat_lt, Bool, true, Option, None, Some, if◌then◌else◌}
 use Rattle.std.specs.Coded.{Coded, code_by, coded×, coded_ℕ, coded_ℤ, coded_option}
 
 -- when the interval began that runs, if one was begun, and how many frames more may go in it
@@ -34,3 +34,13 @@ one_less b = record { begun = b.begun; left = b.left - 1 }
 -- what is left behind a frame, whether it went or not
 abbrev pub spent : ℕ → ℕ → ℤ → Level → Level
 spent rate interval t b = if rate == 0 then b else one_less (refilled rate interval t b)
+
+-- the end of the interval that runs, if an instant can hold it
+abbrev pub end_of : ℕ → Option ℤ → Option ℤ
+end_of interval None = None
+end_of interval (Some begun) =
+    if int_le (begun +ℤ pos interval) (pos (2 ^ 63 - 1)) then Some (begun +ℤ pos interval) else None
+
+-- when a frame may go again, where none may go before
+abbrev pub lets_at : ℕ → ℕ → Level → Option ℤ
+lets_at rate interval b = if (rate == 0) || nat_lt 0 b.left then None else end_of interval b.begun

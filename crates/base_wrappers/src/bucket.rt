@@ -1,6 +1,6 @@
 //! How many frames go in an interval.
 ghost use Rattle.std.specs.Prelude.{◌≡◌};
-ghost use Rattle.base_wrappers.specs.Bucket.{is_over, lets, spent, refilled, unbegun};
+ghost use Rattle.base_wrappers.specs.Bucket.{end_of, is_over, lets, lets_at, spent, refilled, unbegun};
 
 use base_time::{Duration, Instant};
 use std::marker::Model;
@@ -29,6 +29,18 @@ fn is_over(begun: Option<Instant>, interval: Duration, now: Instant) -> bool
     };
     i128::from(begun.total_micros()) + i128::from(interval.total_micros())
         <= i128::from(now.total_micros())
+}
+
+/// The end of the interval that runs, if an instant can hold it.
+fn end_of(begun: Option<Instant>, interval: Duration) -> Option<Instant>
+    ensures { result ≡ end_of interval begun }
+{
+    let begun = begun?;
+    if begun.fits_add(interval) {
+        Some(begun + interval)
+    } else {
+        None
+    }
 }
 
 impl Bucket {
@@ -73,5 +85,15 @@ impl Bucket {
         ensures { result ≡ lets rate interval now self.now }
     {
         rate == 0 || self.left > 0 || is_over(self.begun, interval, now)
+    }
+
+    /// When a frame may go again, where none may go before.
+    pub(crate) fn lets_at(&self, rate: u64, interval: Duration) -> Option<Instant>
+        ensures { result ≡ lets_at rate interval self.now }
+    {
+        if rate == 0 || self.left > 0 {
+            return None;
+        }
+        end_of(self.begun, interval)
     }
 }

@@ -1,6 +1,7 @@
 //! A device that loses frames: by chance, for their length, and beyond a rate.
 ghost use Rattle.std.specs.Prelude.{◌≤◌, ◌≡◌, ◌+◌, ◌<◌, ◌^◌, IsTrue, IsFalse, OnSome, MatchOption, min, vec_len, ℕ, List, length};
 ghost use Rattle.std.specs.Fn.{FnOnceTakesAtMut, FnOnceReturnsAtMut};
+ghost use Rattle.base_wrappers.specs.Bucket.{lets_at};
 ghost use Rattle.base_wrappers.specs.Course.{drawn, rx_counted};
 ghost use Rattle.base_wrappers.specs.Drop.{is_lost, is_too_long, is_lost_out, sent, may_come, came, fresh, ruled, under, NoneComes, OneComes};
 
@@ -271,6 +272,15 @@ impl<D: Device> Dropper<D> {
         ensures { result ≡ self.now.state.rules.interval }
     {
         self.state.interval
+    }
+
+    /// When a frame may come again, where as many came as the rate lets through: until then `receive` gives none.
+    pub fn poll_at(&self) -> Option<Instant>
+        ensures { result ≡ lets_at self.now.state.rules.rx_rate self.now.state.rules.interval self.now.state.rx }
+    {
+        self.state
+            .rx
+            .lets_at(self.state.rx_rate, self.state.interval)
     }
 
     /// How many frames were lost, of those that came and of those that were sent.

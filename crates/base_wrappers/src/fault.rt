@@ -1,5 +1,6 @@
 //! A device that loses, changes and repeats frames.
 ghost use Rattle.std.specs.Prelude.{◌≡◌, min, vec_len};
+ghost use Rattle.base_wrappers.specs.Bucket.{lets_at};
 ghost use Rattle.base_wrappers.specs.Drop.{under};
 ghost use Rattle.base_wrappers.specs.Fault.{harmless, with_dropper, with_corrupter, seed_after};
 
@@ -170,6 +171,14 @@ impl<D: Device> FaultInjector<D> {
         ensures { result ≡ self.now.chance }
     {
         self.parts.duplicate_chance()
+    }
+
+    /// When a frame may come again, where as many came as the rate lets through: until then `receive` gives none that it takes from the
+    /// device. A host is polled then, too, or earlier where it wants to be.
+    pub fn poll_at(&self) -> Option<Instant>
+        ensures { result ≡ lets_at self.now.inner.inner.state.rules.rx_rate self.now.inner.inner.state.rules.interval self.now.inner.inner.state.rx }
+    {
+        self.parts.inner.inner.poll_at()
     }
 
     /// What was harmed so far.

@@ -1,8 +1,8 @@
 //! What a device that harms frames does at worst.
-ghost use Rattle.std.specs.Prelude.{ℕ, ℤ, List, length, ◌<◌, ◌≤◌, ◌*◌};
+ghost use Rattle.std.specs.Prelude.{◌≡◌, ℕ, ℤ, List, Some, length, ◌<◌, ◌≤◌, ◌*◌, int_le};
 ghost use Rattle.std.specs.List.{FoldsTo};
 ghost use Rattle.base_device.specs.Device.{Move};
-ghost use Rattle.base_wrappers.specs.Bucket.{Level};
+ghost use Rattle.base_wrappers.specs.Bucket.{Level, lets, lets_at};
 ghost use Rattle.base_wrappers.specs.Drop.{DropperValue};
 ghost use Rattle.base_wrappers.specs.Fault.{FaultValue};
 ghost use Rattle.base_wrappers.specs.Harm.{frames_in, frames_out, Harmed, HarmedOut};
@@ -32,4 +32,9 @@ pub fn rates_hold<D: Device>()
     ensures through { (rate interval : ℕ) (begin : ℤ) (instants : List ℤ) (b : Level)
         → 0 < rate → b.left ≤ rate → AllWithin begin interval instants → AllLet rate interval instants b
         → length instants ≤ 2 * rate }
+{}
+
+/// Law: the instant that a rate is waited for is the first one at which a frame may go.
+pub fn rates_are_waited_for()
+    ensures { (rate interval : ℕ) (b : Level) (at t : ℤ) → lets_at rate interval b ≡ Some at → lets rate interval t b ≡ int_le at t }
 {}

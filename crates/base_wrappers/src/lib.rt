@@ -22,7 +22,7 @@ pub use duplicator::Duplicator;
 pub use fault::{FaultCounts, FaultInjector};
 pub use fuzz::{FuzzInjector, Fuzzer};
 pub use pcap::{PcapMode, PcapWriter};
-pub use sink::{RingSink, Sink};
+pub use sink::{RingSink, Sink, VecSink};
 pub use token::FaultRxToken;
 pub use tracer::Tracer;
 pub use writer::{Direction, FrameWriter};

@@ -3,6 +3,7 @@ ghost use Rattle.std.specs.Prelude.{◌≡◌, ℕ, List, [], ◌++◌, if◌the
 ghost use Rattle.base_buffer.specs.ManagedSlice.{storage_items};
 
 use base_buffer::{ManagedSlice, RingBuffer};
+use std::alloc::Global;
 use std::marker::Model;
 
 /// What takes the bytes of frames that are watched.
@@ -63,5 +64,43 @@ impl Sink for RingSink {
         }
         self.ring.enqueue_slice(bytes);
         true
+    }
+}
+
+/// A sink that takes memory for what is put. A contract sees the bytes.
+#[derive(Debug, Drop)]
+pub struct VecSink {
+    bytes: Vec<u8>,
+}
+
+impl Model for VecSink {
+    ghost Value = { List ℕ };
+
+    ghost view = { λ s. s.bytes.items };
+}
+
+impl VecSink {
+    /// A sink with nothing in it. It allocates nothing: `alloc` serves later calls.
+    pub fn new(alloc: Global) -> VecSink
+        ensures { result ≡ [] }
+    {
+        VecSink {
+            bytes: Vec::new(alloc),
+        }
+    }
+
+    /// What was put.
+    pub fn bytes(&self) -> &[u8]
+        ensures { result.now ≡ self.now }
+    {
+        self.bytes.as_slice()
+    }
+}
+
+impl Sink for VecSink {
+    ghost taken = { λ s. s };
+
+    fn put(&mut self, bytes: &[u8]) -> bool {
+        self.bytes.extend_from_slice(bytes).is_ok()
     }
 }

@@ -1,5 +1,5 @@
 //! Frames as lines of text.
-ghost use Rattle.std.specs.Prelude.{◌≡◌, ◌≤◌, length, IfOk, IfErr};
+ghost use Rattle.std.specs.Prelude.{◌≡◌, ◌≢◌, ◌≤◌, ◌++◌, ℕ, List, length, take, drop, min, IfOk, IfErr};
 ghost use Rattle.c_calls.specs.declared.code.Code.TheVariants as Is;
 ghost use Rattle.zemplovir_c.specs.Answers.{Gives, Traces};
 
@@ -13,7 +13,8 @@ use wire_trace::trace_line;
 
 /// Copies the front of the bytes, as many as there is room for. Answers how many.
 fn copy_front(bytes: &[u8], out: &mut [u8]) -> usize
-    ensures { result ≤ length out.old }
+    ensures count { result ≡ min (length bytes.now) (length out.old) }
+    ensures front { out.new ≡ take result bytes.now ++ drop result out.old }
 {
     let count = bytes.len().min(out.len());
     out[..count].copy_from_slice(&bytes[..count]);
@@ -29,8 +30,9 @@ fn line_in(
     frame: &[u8],
     text: &mut [u8],
 ) -> Result<usize, Code>
-    ensures count { IfOk result (λ count. count ≤ length text.old) }
-    ensures memory { IfErr result (λ code. code ≡ Is.Memory) }
+    ensures line { IfOk result (λ count. (line : List ℕ) × (length line ≡ count) × (text.new ≡ line ++ drop count text.old)) }
+    ensures within { IfOk result (λ count. count ≤ length text.old) }
+    ensures memory { IfErr result (λ code. (code ≡ Is.Memory) × (text.new ≡ text.old)) }
 {
     let mut line = String::new(alloc);
     match trace_line(alloc, medium, now, direction, frame, &mut line) {
@@ -49,7 +51,7 @@ fn direction_in(sent: u8) -> Direction {
 }
 
 /// Writes what a frame is as a line of text: the instant in seconds, whether it came or was sent, and a header behind the other. Of a
-/// line that is longer than the buffer the front is written.
+/// line that is longer than the buffer the front is written. What the buffer has behind it stays.
 #[unsafe(no_mangle)]
 pub extern "C" fn zv_trace_line(
     alloc: Global,
@@ -60,7 +62,9 @@ pub extern "C" fn zv_trace_line(
     text: &mut [u8],
     count: &mut usize,
 ) -> u32
-    ensures { Gives (Traces (length text.old)) handle.old.inside result count.old count.new handle.new.inside }
+    ensures answers { Gives (Traces (length text.old)) handle.old.inside result count.old count.new handle.new.inside }
+    ensures line { result ≡ 0 → (line : List ℕ) × (length line ≡ count.new) × (text.new ≡ line ++ drop count.new text.old) }
+    ensures refused { result ≢ 0 → text.new ≡ text.old }
 {
     let Some(host) = handle.take(alloc) else {
         return NO_HOST;

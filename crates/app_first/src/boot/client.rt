@@ -40,9 +40,9 @@ impl End for Client {
 }
 
 impl Client {
-    /// A host without an address.
-    pub fn new(alloc: Global) -> Result<Client> {
-        let mut host = Host::new(alloc, 2)?;
+    /// A host without an address, and with so much room for what is seen of its frames.
+    pub fn new(alloc: Global, room: usize) -> Result<Client> {
+        let mut host = Host::new(alloc, 2, room)?;
         add_both(&mut host.sockets).map(|(dhcp, dns)| Client { host, dhcp, dns })
     }
 

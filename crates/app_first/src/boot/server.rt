@@ -32,7 +32,7 @@ pub struct Server {
 impl Server {
     /// A server with one address.
     pub fn new(alloc: Global) -> Result<Server> {
-        let mut host = Host::new(alloc, 1)?;
+        let mut host = Host::new(alloc, 1, 0)?;
         fill(alloc, &mut host).map(|(dhcp, dns)| Server { host, dhcp, dns })
     }
 }

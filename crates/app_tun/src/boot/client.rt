@@ -8,6 +8,7 @@ use crate::boot::pings::IDENT;
 use crate::boot::plan::Plan;
 use crate::boot::steps::act;
 use anyhow::{Result, anyhow};
+use app_tun_services::Watch;
 use app_tun_services::link::Drain;
 use interface::{Config, Interface, SocketHandle, SocketSet, SocketsByKind, earlier};
 use ip_wire::{EthernetAddress, HardwareAddress};
@@ -119,11 +120,17 @@ impl Host {
     }
 
     /// Takes a frame, or none, at this instant, and says what came of it.
-    pub fn turn<R: Eprint>(&mut self, rt: &R, frame: Vec<u8>, now: Instant) -> Result<()>
+    pub fn turn<R: Eprint, V: Watch>(
+        &mut self,
+        rt: &R,
+        watch: &mut V,
+        frame: Vec<u8>,
+        now: Instant,
+    ) -> Result<()>
         requires { IsMoment now }
     {
         self.drain.put(frame);
-        self.poll(now);
+        self.poll(watch, now);
         let handles = self.handles;
         let said = act(
             rt,
@@ -133,15 +140,20 @@ impl Host {
             &mut self.plan,
             now,
         );
-        self.poll(now);
+        self.poll(watch, now);
         said
     }
 
-    fn poll(&mut self, now: Instant)
+    fn poll<V: Watch>(&mut self, watch: &mut V, now: Instant)
         requires { IsMoment now }
     {
-        self.interface
-            .poll(now, &mut self.drain, &mut self.sockets, BUDGET);
+        let _ = watch.poll(
+            &mut self.interface,
+            &mut self.drain,
+            &mut self.sockets,
+            now,
+            BUDGET,
+        );
     }
 
     /// When it wants its next turn.

@@ -13,7 +13,7 @@ use Rattle.app_tun_services.specs.Turns.{budget, served_of, AreServed}
 use Rattle.app_tun_services.proofs.host.Host.take_turn.Goals as goal
 
 pub returns-clause-turn : goal.returns-clause-turn
-returns-clause-turn c =
+returns-clause-turn g c =
     let before = c.args.self.now in
     let come = state c.poll.new.drain c.poll.new.interface (slots c.poll.new.sockets) in
     let gone = state c.poll-2.new.drain c.poll-2.new.interface (slots c.poll-2.new.sockets) in

@@ -7,7 +7,7 @@ use Rattle.app_tun_services.specs.Turns.{state_of, IsServed}
 use Rattle.app_tun_services.specs.declared.error.ServeError.{ServeError}
 use Rattle.app_tun_services.specs.declared.turns.TheConstants.{LONGEST}
 use Rattle.app_tun_services.proofs.Running.{at_end, counted_out, ended, unread_at, refused_at, running_more}
-use Rattle.app_tun_services.proofs.turns.serve.Goals as goal
+use Rattle.app_tun_services.proofs.turns.serve_watched.Goals as goal
 
 -- a turn that can't be read
 pub returns-in_err-now : goal.returns-in_err-now

@@ -1,0 +1,2 @@
+pub mod OneBit
+pub mod Unwatched
