@@ -1,3 +1,4 @@
 pub mod Members
 pub mod Histories
 pub mod Queriers
+pub mod Tables

@@ -3,3 +3,4 @@ pub mod Query
 pub mod Querier
 pub mod Counts
 pub mod History
+pub mod Table

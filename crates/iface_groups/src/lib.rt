@@ -10,9 +10,12 @@ mod member;
 mod mode;
 mod querier;
 mod query;
+mod table;
+pub mod table_laws;
 
 pub use counts::{counts_v4, counts_v6, is_reported_v4, is_reported_v6};
 pub use member::Member;
 pub use mode::{CompatibilityMode, Told};
 pub use querier::Querier;
 pub use query::{answer_at, igmp_max_micros, mld_max_micros};
+pub use table::{GROUP_ROOM, GroupTable, GroupTableFull, Row};
