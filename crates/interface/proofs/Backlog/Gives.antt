@@ -21,9 +21,10 @@ next_stage es i (inl waits) = inl waits.1
 next_stage es i (inr half) = inr half.1.1
 
 is_free_at : (now i : ℕ) (es : List Entry) → i < length es → is_at Is.Free (slice_set es i (freed now (entry_at es i).handle)) i
-is_free_at now i es lies =
-    (subst (λ (n : ℕ). i < n) (sym (length-set es i (freed now (entry_at es i).handle))) lies,
-     subst (λ (e : Entry). e.stage ≡ Is.Free) (sym (get_or-set_same es i (freed now (entry_at es i).handle) no_entry lies)) refl)
+is_free_at now i es lies = (
+  subst (λ (n : ℕ). i < n) (sym (length-set es i (freed now (entry_at es i).handle))) lies,
+  subst (λ (e : Entry). e.stage ≡ Is.Free) (sym (get_or-set_same es i (freed now (entry_at es i).handle) no_entry lies)) refl,
+)
 
 module _ (endpoint : IpListenEndpoint) (now : ℕ) (ps ps' : List (SocketStorage Socket)) (es es' : List Entry) where
   none_left : (next : Option ℕ) → IsNext es next → Freed endpoint now next ps es ps' es' → HasNone Is.Free es'
