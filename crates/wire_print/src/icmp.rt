@@ -1,5 +1,6 @@
 //! Control messages.
 use crate::control::{Icmpv4Text, Icmpv6Text};
+use crate::groups::{is_mld, put_mld};
 use crate::put::{Out, all, none, tested_first};
 use control_wire::{Icmpv4Packet, Icmpv4Repr, Icmpv6Header, Icmpv6Packet, Icmpv6Repr};
 use ip_wire::Ipv6Address;
@@ -54,6 +55,10 @@ pub(crate) fn put_icmpv6(
     if bytes.len() < 4 || bytes.len() > 0xffff_ffff {
         out.put_cut_line("ICMPv6", bytes);
         out.put_some_bytes("payload", bytes);
+        return;
+    }
+    if is_mld(bytes) {
+        put_mld(out, source, destination, bytes);
         return;
     }
     let found = tested_first(

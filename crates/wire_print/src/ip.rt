@@ -2,6 +2,7 @@
 ghost use Rattle.std.specs.Prelude.{◌≡◌};
 ghost use Rattle.ip_wire.specs.Address.{version_of};
 
+use crate::groups::put_igmp;
 use crate::headers::{FragmentText, Ipv4Text, Ipv6Text, UdpText};
 use crate::icmp::{put_icmpv4, put_icmpv6};
 use crate::names::ProtocolText;
@@ -243,6 +244,7 @@ fn put_carried(
         (IpProtocol::Udp, _, _) => put_udp(out, source, destination, bytes),
         (IpProtocol::Tcp, _, _) => put_tcp(out, source, destination, bytes),
         (IpProtocol::Icmp, IpAddress::Ipv4(_), _) => put_icmpv4(out, bytes),
+        (IpProtocol::Igmp, IpAddress::Ipv4(_), _) => put_igmp(out, bytes),
         (IpProtocol::Icmpv6, IpAddress::Ipv6(source), IpAddress::Ipv6(destination)) => {
             put_icmpv6(out, source, destination, bytes)
         }

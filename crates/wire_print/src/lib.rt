@@ -3,6 +3,7 @@
 
 mod control;
 mod frame;
+mod groups;
 mod headers;
 mod icmp;
 mod ip;

@@ -1,0 +1,5 @@
+//! Tests of the messages of multicast groups and of the rules of members, with values from outside.
+#![tactic(auto)]
+
+#[cfg(test)]
+mod queries;
