@@ -116,7 +116,7 @@ set_tells covered bytes i k small within one two =
 if_some : (n : ℕ) (none some : List ℕ) → (if suc n == 0 then none else some) ≡ some
 if_some n none some = grind arith
 
-flipped_is : (at bit b : ℕ) (bytes : List ℕ) → flipped at bit (b ∷ bytes)
+pub flipped_is : (at bit b : ℕ) (bytes : List ℕ) → flipped at bit (b ∷ bytes)
     ≡ slice_set (b ∷ bytes) (at % length (b ∷ bytes)) (bit_xor (slice_index_or (b ∷ bytes) (at % length (b ∷ bytes)) 0) (2 ^ (bit % 8)))
 flipped_is at bit b bytes =
     if_some (length bytes) (b ∷ bytes)
@@ -131,7 +131,7 @@ tells covered at bit (b ∷ bytes) some one two =
 
 -- FRONTS
 
-in_front : (n : ℕ) (bytes : List ℕ) (i : ℕ) → i < n → i < length bytes → i < length (take n bytes)
+pub in_front : (n : ℕ) (bytes : List ℕ) (i : ℕ) → i < n → i < length bytes → i < length (take n bytes)
 in_front zero bytes i within there = absurd (omega (arith, within))
 in_front (suc n) [] i within there = absurd (omega (arith, there))
 in_front (suc n) (b ∷ bytes) zero within there = omega arith
@@ -152,7 +152,7 @@ both_more : (n i : ℕ) → (n ≤ i) ⊎ (i < n) → (suc n ≤ suc i) ⊎ (suc
 both_more n i (inl less) = inl (omega (arith, less))
 both_more n i (inr more) = inr (omega (arith, more))
 
-order : (n i : ℕ) → (n ≤ i) ⊎ (i < n)
+pub order : (n i : ℕ) → (n ≤ i) ⊎ (i < n)
 order zero i = inl (omega arith)
 order (suc n) zero = inr (omega arith)
 order (suc n) (suc i) = both_more n i (order n i)

@@ -1,10 +1,10 @@
 //! What becomes of a packet with one bit other, as a device that changes frames sends it.
-ghost use Rattle.std.specs.Prelude.{◌≡◌, ◌+◌, ◌<◌, ◌⊎◌, ℕ, true, List, length};
+ghost use Rattle.std.specs.Prelude.{◌≡◌, ◌+◌, ◌%◌, ◌<◌, ◌≤◌, ◌⊎◌, ℕ, true, List, length};
 ghost use Rattle.base_wrappers.specs.Corrupt.{flipped};
 ghost use Rattle.wire_address.specs.Fields.{be16};
 ghost use Rattle.wire_address.specs.Sum.{word_sum, ChecksumHolds};
 ghost use Rattle.wire_address.specs.declared.ip.IpAddress.{IpAddress};
-ghost use Rattle.wire_ip.specs.Ipv4.{header_len_of, header_of, IsIpv4};
+ghost use Rattle.wire_ip.specs.Ipv4.{header_len_of, header_of, payload_of, IsIpv4, IsWhole};
 ghost use Rattle.wire_ip.specs.Udp.{datagram_of, HasNoChecksum, IsUdp};
 ghost use Rattle.wire_ip.specs.declared.ipv4.repr.Ipv4Repr.{Ipv4Repr};
 ghost use Rattle.wire_ip.specs.declared.udp.repr.UdpRepr.{UdpRepr};
@@ -37,4 +37,14 @@ pub fn one_bit_is_told()
         → header_len_of (flipped at bit bytes) ≡ header_len_of bytes
         → IsIpv4 true (flipped at bit bytes) w
         → header_of (flipped at bit bytes) ≡ header_of bytes }
+{}
+
+/// Law: a bit that is other behind the header of an IPv4 packet leaves the header as it was, and the payload, or it is one of the payload.
+pub fn one_bit_is_behind_a_header()
+    ensures { (bytes : List ℕ) (at bit : ℕ)
+        → IsWhole bytes
+        → header_len_of bytes ≤ at % length bytes
+        → at % length bytes < length bytes
+        → (header_of (flipped at bit bytes) ≡ header_of bytes)
+        × ((payload_of (flipped at bit bytes) ≡ payload_of bytes) ⊎ ((n : ℕ) × (payload_of (flipped at bit bytes) ≡ flipped n bit (payload_of bytes)))) }
 {}
