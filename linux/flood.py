@@ -5,7 +5,7 @@
 
 A station sends RATE SYNs a second (100, 130, 500, 10000), each from another address of a network behind it that nobody has, to the port of the
 site; another fetches PAGES pages (30), three a second: prints how many came within five seconds, and the middle and the longest of their
-times; the same beside the first rate with nothing else on the link. PUMP is linux/pump.c, built.
+times. It fetched a page before, so the host knows its hardware address. With a rate of 0 nothing else is on the link. PUMP is linux/pump.c, built.
 """
 import random, socket, statistics, struct, sys, threading, time
 
@@ -67,7 +67,8 @@ def tried(pump, program, rate, most):
     ends, sent = threading.Event(), [0]
     sender = threading.Thread(target=flood, args=(both[0], rate, ends, sent))
     try:
-        sh("sysctl", "-q", "-w", "net.ipv4.ip_forward=0")
+        # (the host knows its neighbor: linux/starve.py asks what becomes of those that it has to search for)
+        pages(both[1], 1)
         if rate:
             sender.start()
             time.sleep(2)
