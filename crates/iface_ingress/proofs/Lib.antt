@@ -27,3 +27,4 @@ pub mod LocalSources
 pub mod Sought
 pub mod OnePass
 pub mod Roomed
+pub mod PlainSegments

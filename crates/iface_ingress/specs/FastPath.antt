@@ -1,20 +1,29 @@
 -- What goes the short ingress path.
-use Rattle.std.specs.Prelude.{◌≡◌, ℕ, ◌&&◌, ◌||◌, not, Bool, true, List, Option, None, Some}
+use Rattle.std.specs.Prelude.{◌≡◌, ℕ, ◌-◌, ◌==◌, ◌&&◌, ◌||◌, not, Bool, true, false, if◌then◌else◌, List, [], ◌∷◌, length, take, drop, slice_index}
+use Rattle.std.specs.Prelude.{Option, None, Some}
 use Rattle.ip_wire.specs.AddressTests.{is_loopback_v4}
 use Rattle.ip_wire.specs.Ethernet as Ethernet
 use Rattle.ip_wire.specs.EthernetProtocol.TheVariants as Ether
 use Rattle.ip_wire.specs.declared.ethernet.repr.EthernetRepr.{EthernetRepr}
+use Rattle.ip_wire.specs.Fields.{be16, be32}
 use Rattle.ip_wire.specs.HardwareAddress.{HardwareAddress}
 use Rattle.ip_wire.specs.HardwareAddress.TheVariants as Hardware
 use Rattle.ip_wire.specs.IpAddress.TheVariants as Address
+use Rattle.ip_wire.specs.IpProtocol.TheVariants as Protocol
 use Rattle.ip_wire.specs.IpRepr.TheVariants as Ip
 use Rattle.ip_wire.specs.Ipv4Fragment.{Ipv4Fragment}
 use Rattle.ip_wire.specs.Ipv4Repr.{Ipv4Repr}
-use Rattle.iface_tables.specs.Inner.{InnerValue, is_local, never_comes}
-use Rattle.iface_ingress.specs.Delivered.{Slots, is_taken_raw, packet_delivered}
+use Rattle.ip_wire.specs.Options.{no_options}
+use Rattle.ip_wire.specs.Pseudo.{covered}
+use Rattle.ip_wire.specs.Sum.{word_sum, folded}
+use Rattle.ip_wire.specs.TcpControl.TheVariants as Control
+use Rattle.ip_wire.specs.TcpHeader.{TcpHeader}
+use Rattle.iface_tables.specs.Inner.{InnerValue, context_of, is_local, never_comes}
+use Rattle.iface_ingress.specs.Delivered.{Slots, answer_at, answer_of, changed_at, draws_of, first_slot, is_connected, is_taken_raw, packet_delivered}
+use Rattle.iface_ingress.specs.Delivered.{passes_at, with_segment}
 use Rattle.iface_ingress.specs.Incoming.{IsFramed, IsPacketV4}
 use Rattle.iface_ingress.specs.Reassembled.{passes_filter, is_group_frame, is_sender, is_fragment}
-use Rattle.iface_ingress.specs.Arrives.{Arrived, Hands, renewed}
+use Rattle.iface_ingress.specs.Arrives.{Arrived, Hands, ReplyValue, answered, renewed}
 
 -- WHERE A PACKET STANDS
 
@@ -52,3 +61,55 @@ TakesPacket i slots link bytes a =
     × (is_fast i header fragment ≡ true)
     × Hands (renewed i link (Ip.Ipv4 header)) (packet_delivered (Ip.Ipv4 header) payload slots) (Ip.Ipv4 header) payload
     (is_taken_raw (Ip.Ipv4 header) slots) a
+
+-- PLAIN SEGMENTS
+
+-- a whole IPv4 packet that carries a segment: no options, no padding, and no fragment
+abbrev pub has_plain_words : List ℕ → Bool
+has_plain_words bytes =
+    (slice_index bytes 0 == 0x45) && ((be16 bytes 2 == length bytes)
+    && (((be16 bytes 6 == 0) || (be16 bytes 6 == 0x4000)) && (slice_index bytes 9 == 6)))
+
+-- the checksum of its header holds, too
+abbrev pub is_plain_header : List ℕ → Bool
+is_plain_header bytes = has_plain_words bytes && (folded (word_sum (take 20 bytes)) == 65535)
+
+-- its header
+abbrev pub plain_header : List ℕ → Ipv4Repr
+plain_header bytes = record {
+  src_addr = record { 0 = slice_index bytes 12 ∷ slice_index bytes 13 ∷ slice_index bytes 14 ∷ slice_index bytes 15 ∷ [] };
+  dst_addr = record { 0 = slice_index bytes 16 ∷ slice_index bytes 17 ∷ slice_index bytes 18 ∷ slice_index bytes 19 ∷ [] };
+  next_header = Protocol.Tcp;
+  payload_len = length bytes - 20;
+  hop_limit = slice_index bytes 8;
+  ident = be16 bytes 4;
+  dont_frag = be16 bytes 6 == 0x4000;
+}
+
+-- a segment without options, of whose flags ACK is set, and none else but PSH, between ports that aren't 0
+abbrev pub is_plain_segment : List ℕ → Bool
+is_plain_segment packet =
+    ((be16 packet 12 == 0x5010) || (be16 packet 12 == 0x5018)) && (not (be16 packet 0 == 0) && not (be16 packet 2 == 0))
+
+-- its header
+abbrev pub plain_segment : List ℕ → TcpHeader
+plain_segment packet = record {
+  src_port = be16 packet 0;
+  dst_port = be16 packet 2;
+  control = if be16 packet 12 == 0x5018 then Control.Psh else Control.None;
+  seq_number = record { 0 = be32 packet 4 };
+  ack_number = Some (record { 0 = be32 packet 8 });
+  window_len = be16 packet 14;
+  options = no_options;
+}
+
+-- The socket of its connection took such a segment, whose checksum holds, and answered so. No raw socket asks for the packet.
+pub record IsTakenFast (i : InnerValue) (slots : Slots) (ip : Ipv4Repr) (packet : List ℕ) (slots' : Slots) (reply : Option ReplyValue) : Type 0 where
+  pub raw : is_taken_raw (Ip.Ipv4 ip) slots ≡ false
+  pub at : ℕ
+  pub found : first_slot (λ s. is_connected s (Ip.Ipv4 ip) (plain_segment packet)) slots ≡ Some at
+  pub checked : folded (covered (Address.Ipv4 ip.src_addr) (Address.Ipv4 ip.dst_addr) 6 packet) ≡ 65535
+  pub answer : reply ≡
+      answered (answer_at (answer_of (context_of i) (Ip.Ipv4 ip) (plain_segment packet) (drop 20 packet)) (Some at) slots)
+  pub slots_are : slots' ≡ changed_at (with_segment (context_of i) (Ip.Ipv4 ip) (plain_segment packet) (drop 20 packet)) (Some at) slots
+  pub quiet : passes_at (draws_of (context_of i) (Ip.Ipv4 ip) (plain_segment packet) (drop 20 packet)) (Some at) slots ≡ false

@@ -59,6 +59,7 @@ fn sum_before_text(header: &IpRepr, segment: &[u8]) -> u16
 }
 
 /// Gives a segment to a TCP socket in one pass, if it goes so, and writes the packet that answers it.
+#[inline(always)]
 fn take_by_stream<'a>(
     inner: &InterfaceInner,
     socket: &mut tcp::Socket,
@@ -89,6 +90,7 @@ fn take_by_stream<'a>(
 }
 
 /// Gives a segment to a socket so.
+#[inline(always)]
 fn take_by_socket<'a>(
     inner: &InterfaceInner,
     socket: &mut Socket,
@@ -114,6 +116,7 @@ fn take_by_socket<'a>(
 }
 
 /// Gives a segment so to the socket, if there is one at this slot.
+#[inline(always)]
 fn take_in<'a>(
     inner: &InterfaceInner,
     slot: &mut SocketStorage<Socket>,
@@ -140,8 +143,9 @@ fn take_in<'a>(
 }
 
 /// Gives a segment so to the socket at this slot.
+#[inline(always)]
 #[tactic(auto, using(crate::proofs::AtSlot::same_here))]
-fn take_at<'a>(
+pub(crate) fn take_at<'a>(
     inner: &InterfaceInner,
     slots: &mut Slots<Socket>,
     at: usize,

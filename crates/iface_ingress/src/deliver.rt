@@ -65,6 +65,17 @@ pub fn deliver_packet(slots: &mut Slots<Socket>, header: &IpRepr, payload: &[u8]
     is_taken
 }
 
+/// Whether a raw socket asks for a packet.
+pub(crate) fn is_taken_raw(slots: &Slots<Socket>, header: &IpRepr) -> bool
+    ensures { result ≡ is_taken_raw header.now slots.now }
+{
+    let packet = RawPacket {
+        header,
+        payload: &[],
+    };
+    is_for_any(slots, keys::of_raw(), &packet)
+}
+
 /// An ICMPv4 message with the header of its packet.
 #[derive(Drop)]
 struct Icmpv4Arrival<'a> {

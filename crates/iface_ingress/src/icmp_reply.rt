@@ -29,6 +29,7 @@ const QUOTED_IPV4: usize = IPV4_MIN_MTU - 2 * IPV4_HEADER_LEN - 8;
 const QUOTED_IPV6: usize = IPV6_MIN_MTU - 2 * IPV6_HEADER_LEN - 8;
 
 /// Whether this is one host's address: neither a group's nor that of all hosts of a local network.
+#[inline(always)]
 pub fn is_one_host(inner: &InterfaceInner, address: &Ipv4Address) -> bool
     ensures { result ≡ is_one_host inner.now address.now }
 {

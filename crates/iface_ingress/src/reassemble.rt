@@ -144,6 +144,7 @@ fn is_unicast_hardware(local: &HardwareAddress, address: &EthernetAddress) -> bo
 }
 
 /// Whether an IPv4 packet comes from one host, or from one that has no address yet.
+#[inline(always)]
 pub(crate) fn is_sender(inner: &InterfaceInner, address: &Ipv4Address) -> bool
     ensures { result ≡ is_sender inner.now address.now }
 {

@@ -16,6 +16,9 @@ pub(crate) const TESTED: usize = 0;
 /// The ingress path one pass.
 pub(crate) const IN_ONE_PASS: usize = 1;
 
+/// That of a plain segment.
+pub(crate) const PLAIN: usize = 2;
+
 /// Whom a datagram is for: a UDP socket, or a client of DHCP or DNS.
 #[derive(Drop)]
 struct Readers<'a, const WAY: usize> {
@@ -87,7 +90,7 @@ impl<'a, const WAY: usize> Wanted for Connected<'a, WAY> {
 
 /// The first slot whose socket has a segment's connection.
 #[tactic(auto, using(crate::proofs::Sought::of_connected))]
-fn connection_slot<const WAY: usize>(
+pub(crate) fn connection_slot<const WAY: usize>(
     slots: &Slots<Socket>,
     header: &IpRepr,
     segment: &TcpHeader,

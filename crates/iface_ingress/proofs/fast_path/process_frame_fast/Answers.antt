@@ -10,4 +10,4 @@ returns-in-Some-clause-taken c =
     let stands : StandsIn i.hardware i c.args.frame.now c.packet_in.new.link c.in-Some.bytes.now = search rules in
     λ is timeout assemblers.
     packet_arrives i.hardware i timeout assemblers c.args.slots.now c.args.frame.now c.packet_in.new.link c.in-Some.bytes.now
-    (arrived c.process_packet_fast.new.inner c.process_packet_fast.new.slots (reply_of c.process_packet_fast.new.reply)) refl stands (c.process_packet_fast.ensures.taken is)
+    (arrived c.process_bytes_fast.new.inner c.process_bytes_fast.new.slots (reply_of c.process_bytes_fast.new.reply)) refl stands (c.process_bytes_fast.ensures.taken is)
