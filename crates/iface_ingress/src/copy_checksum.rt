@@ -143,8 +143,8 @@ fn take_in<'a>(
 }
 
 /// Gives a segment so to the socket at this slot.
-#[inline(always)]
 #[tactic(auto, using(crate::proofs::AtSlot::same_here))]
+#[inline(always)]
 pub(crate) fn take_at<'a>(
     inner: &InterfaceInner,
     slots: &mut Slots<Socket>,

@@ -14,7 +14,7 @@ ghost use Rattle.iface_ingress.specs.Processed.{if_it_may, counted_in, let_go, c
 
 use crate::receivers::{Arrival, give_all, is_for_any};
 use crate::reply::Reply;
-use crate::search::{TESTED, datagram_slot, segment_slot};
+use crate::search::{PLAIN, TESTED, datagram_slot, segment_slot};
 use crate::stream::process_segment;
 use iface_egress::{InterfaceInner, Slots, SocketStorage};
 use ip_wire::{IpRepr, Ipv4Repr, Ipv6Repr, TcpControl, TcpHeader, TcpRepr, UdpRepr};
@@ -23,14 +23,14 @@ use sockets::{IpPayload, Packet, Socket, keys, tcp};
 use wire_icmpv4::Icmpv4Repr;
 use wire_icmpv6::Icmpv6Repr;
 
-/// A packet, as raw sockets get it.
+/// A packet, as raw sockets get it. Each ingress path has its own search for them, as it has for others (`search`).
 #[derive(Drop)]
-struct RawPacket<'a> {
+struct RawPacket<'a, const WAY: usize> {
     header: &'a IpRepr,
     payload: &'a [u8],
 }
 
-impl<'a> Arrival for RawPacket<'a> {
+impl<'a, const WAY: usize> Arrival for RawPacket<'a, WAY> {
     ghost use Rattle.sockets.specs.Socket.{accepts_packet};
     ghost use Rattle.iface_ingress.specs.Delivered.{with_packet};
 
@@ -53,11 +53,15 @@ impl<'a> Arrival for RawPacket<'a> {
 }
 
 /// Gives a packet to every raw socket that asks for it, and says whether there is one.
-pub fn deliver_packet(slots: &mut Slots<Socket>, header: &IpRepr, payload: &[u8]) -> bool
+pub fn deliver_packet<const WAY: usize>(
+    slots: &mut Slots<Socket>,
+    header: &IpRepr,
+    payload: &[u8],
+) -> bool
     ensures taken { result ≡ is_taken_raw header.now slots.old }
     ensures slots { slots.new ≡ packet_delivered header.now payload.now slots.old }
 {
-    let packet = RawPacket { header, payload };
+    let packet: RawPacket<'_, WAY> = RawPacket { header, payload };
     let is_taken = is_for_any(slots, keys::of_raw(), &packet);
     if is_taken {
         give_all(slots.all_mut(), &packet);
@@ -69,7 +73,7 @@ pub fn deliver_packet(slots: &mut Slots<Socket>, header: &IpRepr, payload: &[u8]
 pub(crate) fn is_taken_raw(slots: &Slots<Socket>, header: &IpRepr) -> bool
     ensures { result ≡ is_taken_raw header.now slots.now }
 {
-    let packet = RawPacket {
+    let packet: RawPacket<'_, PLAIN> = RawPacket {
         header,
         payload: &[],
     };

@@ -21,7 +21,7 @@ use crate::ip::refresh_at;
 use crate::process::process_ipv4_payload;
 use crate::reassemble::{is_fragment, is_group_frame, is_sender, passes_filter};
 use crate::reply::Reply;
-use crate::search::{PLAIN, connection_slot};
+use crate::search::{PLAIN, SHORT, connection_slot};
 use iface_egress::{InterfaceInner, Slots};
 use ip_wire::network_order::{read_u16, read_u32};
 use ip_wire::{
@@ -160,7 +160,7 @@ fn process_ipv4_fast<'a>(
     ensures sendable { IfCanGo (reply_of reply.new) }
 {
     let ip = IpRepr::Ipv4(*header);
-    let is_taken = deliver_packet(slots, &ip, payload);
+    let is_taken = deliver_packet::<SHORT>(slots, &ip, payload);
     refresh_sender_fast(inner, link, &ip);
     process_ipv4_payload(
         inner,
@@ -290,8 +290,8 @@ fn process_segment_fast<'a>(
 }
 
 /// Whether a packet is plain, and both its addresses are those of one host.
-#[inline(always)]
 #[tactic(auto, using(crate::proofs::PlainSegments::between_hosts))]
+#[inline(always)]
 fn joins_hosts(inner: &InterfaceInner, header: &Ipv4Repr) -> bool
     ensures plain { result ≡ true → is_plain inner.now header.now ≡ true }
     ensures ends { result ≡ true → names_no_endpoint inner.now (Ip.Ipv4 header.now) ≡ false }

@@ -18,6 +18,7 @@ use crate::incoming::Incoming;
 use crate::process::process_payload;
 use crate::reassemble::{bytes_at, is_fragment, is_fragment_v6, reassembled, reassembled_v6};
 use crate::reply::{Reply, arp_reply};
+use crate::search::TESTED;
 use iface_egress::{InterfaceInner, PacketAssemblerSet, Slots};
 use ip_wire::{AddressExt, EthernetRepr, HardwareAddress, IpAddress, IpRepr, Ipv4Repr, Ipv6Repr};
 use sockets::Socket;
@@ -96,7 +97,7 @@ fn process_ipv4<'a>(
     ensures sendable { IfCanGo (reply_of reply.new) }
 {
     let ip = IpRepr::Ipv4(*header);
-    let is_taken = deliver_packet(slots, &ip, payload);
+    let is_taken = deliver_packet::<TESTED>(slots, &ip, payload);
     if inner.is_for_us(&IpAddress::Ipv4(header.dst_addr)) {
         accept(inner, slots, link, &ip, payload, is_taken, reply);
     }
@@ -122,7 +123,7 @@ fn process_ipv6<'a>(
         return;
     }
     let ip = IpRepr::Ipv6(*header);
-    let is_taken = deliver_packet(slots, &ip, payload);
+    let is_taken = deliver_packet::<TESTED>(slots, &ip, payload);
     accept(inner, slots, link, &ip, payload, is_taken, reply);
 }
 

@@ -19,6 +19,9 @@ pub(crate) const IN_ONE_PASS: usize = 1;
 /// That of a plain segment.
 pub(crate) const PLAIN: usize = 2;
 
+/// The short one of any other packet.
+pub(crate) const SHORT: usize = 3;
+
 /// Whom a datagram is for: a UDP socket, or a client of DHCP or DNS.
 #[derive(Drop)]
 struct Readers<'a, const WAY: usize> {
