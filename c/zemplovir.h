@@ -297,9 +297,9 @@ uint32_t zv_tcp_new(zv_host *host, size_t received, size_t queued, size_t *socke
 uint32_t zv_tcp_listen(zv_host *host, size_t socket, const zv_address *address, uint16_t port);
 
 /* Opens a connection from a port, of an own address or, with zv_any, of the one that the host chooses. It is open once zv_tcp_state says
- * ZV_ESTABLISHED, and has failed where that says ZV_CLOSED: zv_tcp_end_reason says why. No port is chosen by the host: name one from 49152 on, another each time.
- * ZV_BAD_ARGUMENT, ZV_UNADDRESSABLE (a port is 0, the remote's address unspecified, or no own address of its family), ZV_INVALID_STATE (the
- * socket is open). */
+ * ZV_ESTABLISHED, and has failed where that says ZV_CLOSED: zv_tcp_end_reason says why. No port is chosen by the host: name one from 49152
+ * on, another each time. ZV_BAD_ARGUMENT, ZV_UNADDRESSABLE (a port is 0, the remote's address unspecified, or no own address of its family),
+ * ZV_INVALID_STATE (the socket is open). */
 uint32_t zv_tcp_connect(zv_host *host, size_t socket, const zv_endpoint *remote, const zv_address *address, uint16_t port);
 
 /* Queues as many of the bytes as there is room for, perhaps none, and says how many. ZV_INVALID_STATE (the connection isn't open yet, or its
