@@ -1,5 +1,7 @@
 -- Which socket of a backlog gives way, where none is free.
 use Rattle.std.specs.Prelude.{◌≡◌, ℕ, ◌<◌, ◌⊎◌, List, length, slice_set, Option, Some, None}
+use Rattle.iface_egress.specs.Meta.{unmarked}
+use Rattle.iface_egress.specs.declared.socket_meta.Meta.{Meta}
 use Rattle.iface_egress.specs.declared.socket_set.Item.{Item}
 use Rattle.iface_egress.specs.declared.socket_set.SocketHandle.{SocketHandle}
 use Rattle.iface_egress.specs.declared.socket_set.SocketStorage.{SocketStorage}
@@ -23,9 +25,15 @@ abbrev pub restarted_socket : IpListenEndpoint → Socket → Socket
 restarted_socket endpoint (Kind.Tcp v) = Kind.Tcp (restarted endpoint v)
 restarted_socket endpoint s = s
 
+-- it waits for no neighbour any more: that was on the way to the remote
+abbrev pub restarted_mark : Socket → Meta → Meta
+restarted_mark (Kind.Tcp v) m = unmarked
+restarted_mark s m = m
+
 abbrev pub restarted_item : IpListenEndpoint → Option (Item Socket) → Option (Item Socket)
 restarted_item endpoint None = None
-restarted_item endpoint (Some item) = Some (record item { socket = restarted_socket endpoint item.socket })
+restarted_item endpoint (Some item) =
+    Some (record { meta = restarted_mark item.socket item.meta; socket = restarted_socket endpoint item.socket })
 
 abbrev pub restarted_slot : IpListenEndpoint → SocketStorage Socket → SocketStorage Socket
 restarted_slot endpoint slot = record { inner = restarted_item endpoint slot.inner }

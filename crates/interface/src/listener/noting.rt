@@ -1,20 +1,23 @@
 //! How far each socket of a backlog came.
 ghost use Rattle.std.specs.Prelude.{◌≡◌};
-ghost use Rattle.interface.specs.Backlog.Noted.{relisted, state_at, relisted_slot, IsNoted, NotesOne, AreNoted};
+ghost use Rattle.iface_ingress.specs.TcpStates.{is_closed};
+ghost use Rattle.interface.specs.Backlog.Noted.{relisted, unmarked_if, state_at, relisted_slot, IsNoted, NotesOne, AreNoted};
 
 use crate::listener::entry::Entry;
 use crate::listener::stage::Stage;
-use iface_egress::{Item, Slots, SocketStorage};
+use iface_egress::{Item, Meta, Slots, SocketStorage};
 use iface_ingress::tcp::State;
 use iface_ingress::{Socket, tcp};
 use ip_wire::IpListenEndpoint;
 
-/// Listens on this endpoint, where the socket is closed.
-fn relist(socket: &mut tcp::Socket, endpoint: IpListenEndpoint)
-    ensures { socket.new ≡ relisted endpoint socket.old }
+/// Listens on this endpoint, where the socket is closed. Then it waits for no neighbour any more.
+fn relist(socket: &mut tcp::Socket, meta: &mut Meta, endpoint: IpListenEndpoint)
+    ensures socket { socket.new ≡ relisted endpoint socket.old }
+    ensures mark { meta.new ≡ unmarked_if (is_closed socket.old.tcb.state) meta.old }
 {
     if socket.state() == State::Closed {
         let _ = socket.listen(endpoint);
+        meta.unmark();
     }
 }
 
@@ -26,12 +29,12 @@ fn relist_slot(slot: &mut SocketStorage<Socket>, endpoint: IpListenEndpoint) -> 
     match &mut slot.inner {
         Some(
             Item {
+                meta,
                 socket: Socket::Tcp(socket),
-                ..
             },
         ) => {
             let state = socket.state();
-            relist(socket, endpoint);
+            relist(socket, meta, endpoint);
             Some(state)
         }
         _ => None,

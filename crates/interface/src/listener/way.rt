@@ -17,17 +17,19 @@ pub(crate) fn restart(socket: &mut tcp::Socket, endpoint: IpListenEndpoint)
     let _ = socket.listen(endpoint);
 }
 
+/// The same of a slot. It waits for no neighbour any more: that was on the way to the remote.
 fn restart_slot(slot: &mut SocketStorage<Socket>, endpoint: IpListenEndpoint)
     ensures { slot.new ≡ restarted_slot endpoint slot.old }
 {
     if let Some(
         Item {
+            meta,
             socket: Socket::Tcp(socket),
-            ..
         },
     ) = &mut slot.inner
     {
         restart(socket, endpoint);
+        meta.unmark();
     }
 }
 
