@@ -9,9 +9,8 @@ ghost use Rattle.interface.specs.declared.listener.entry.Entry.{Entry};
 ghost use Rattle.interface.specs.declared.listener.stage.Stage.TheVariants as Is;
 ghost use Rattle.ip_wire.specs.IpListenEndpoint.{IpListenEndpoint};
 
-/// Law: behind a refresh a socket of the backlog is free, or none is in TIME-WAIT, and none is half open but one alone that was so for less than
-/// `PATIENCE`. So the next SYN finds a socket, however many SYNs came that nobody answers, unless each other socket has an open connection; and
-/// where one socket is left, its handshake has time to end.
+/// Law: behind a refresh a socket of the backlog is free, or none is in TIME-WAIT and at most one half open, for less than `PATIENCE`. So a SYN
+/// finds a socket, whatever nobody answers, unless each other one has an open connection.
 pub fn the_next_syn_finds_a_socket()
     ensures { (endpoint : IpListenEndpoint) (now : ℕ) (ps ps' : List (SocketStorage Socket)) (es es' : List Entry)
         → GivesWay endpoint now ps es ps' es'

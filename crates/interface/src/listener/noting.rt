@@ -5,7 +5,7 @@ ghost use Rattle.interface.specs.Backlog.Noted.{relisted, unmarked_if, state_at,
 
 use crate::listener::entry::Entry;
 use crate::listener::stage::Stage;
-use iface_egress::{Item, Meta, Slots, SocketStorage};
+use iface_egress::{Meta, Slots, SocketStorage};
 use iface_ingress::tcp::State;
 use iface_ingress::{Socket, tcp};
 use ip_wire::IpListenEndpoint;
@@ -27,17 +27,15 @@ fn relist_slot(slot: &mut SocketStorage<Socket>, endpoint: IpListenEndpoint) -> 
     ensures slot { slot.new ≡ relisted_slot endpoint slot.old }
 {
     match &mut slot.inner {
-        Some(
-            Item {
-                meta,
-                socket: Socket::Tcp(socket),
-            },
-        ) => {
-            let state = socket.state();
-            relist(socket, meta, endpoint);
-            Some(state)
-        }
-        _ => None,
+        Some(item) => match &mut item.socket {
+            Socket::Tcp(socket) => {
+                let state = socket.state();
+                relist(socket, &mut item.meta, endpoint);
+                Some(state)
+            }
+            _ => None,
+        },
+        None => None,
     }
 }
 

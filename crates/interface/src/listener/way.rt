@@ -6,7 +6,7 @@ ghost use Rattle.interface.specs.Backlog.GivesWay.{restarted, restarted_slot, re
 use crate::listener::entry::Entry;
 use crate::listener::longest::oldest;
 use crate::listener::stage::Stage;
-use iface_egress::{Item, Slots, SocketStorage};
+use iface_egress::{Slots, SocketStorage};
 use iface_ingress::{Socket, tcp};
 use ip_wire::IpListenEndpoint;
 
@@ -22,15 +22,11 @@ pub(crate) fn restart(socket: &mut tcp::Socket, endpoint: IpListenEndpoint)
 fn restart_slot(slot: &mut SocketStorage<Socket>, endpoint: IpListenEndpoint)
     ensures { slot.new ≡ restarted_slot endpoint slot.old }
 {
-    if let Some(
-        Item {
-            meta,
-            socket: Socket::Tcp(socket),
-        },
-    ) = &mut slot.inner
-    {
-        restart(socket, endpoint);
-        meta.unmark();
+    if let Some(item) = &mut slot.inner {
+        if let Socket::Tcp(socket) = &mut item.socket {
+            restart(socket, endpoint);
+            item.meta.unmark();
+        }
     }
 }
 
