@@ -54,7 +54,7 @@ abbrev pub is_other_half_open : ℕ → Entry → Bool
 is_other_half_open slot e = is_half_open e.stage && not (e.handle.0 == slot)
 
 -- Another socket is half open, or this one is so for long. The only one that is half open has half a second to come further: else no
--- handshake ended where one socket is left.
+-- handshake would end where one socket is left.
 abbrev pub may_give_way : ℕ → List Entry → ℕ → Bool
 may_give_way now es i =
     list_any (is_other_half_open (entry_at es i).handle.0) es || nat_le PATIENCE (now - (entry_at es i).since)

@@ -1,7 +1,7 @@
 //! Which socket of a backlog gives way, where none is free.
-ghost use Rattle.std.specs.Prelude.{◌≡◌};
+ghost use Rattle.std.specs.Prelude.{◌≡◌, ◌<◌, length};
 ghost use Rattle.std.specs.List.{list_any};
-ghost use Rattle.interface.specs.Backlog.GivesWay.{restarted, restarted_slot, restarted_at, is_other_half_open, IsHalfOpenNext, IsNext, GivesWay};
+ghost use Rattle.interface.specs.Backlog.GivesWay.{restarted, restarted_slot, restarted_at, is_other_half_open, may_give_way, IsHalfOpenNext, IsNext, GivesWay};
 
 use crate::listener::entry::Entry;
 use crate::listener::longest::oldest;
@@ -54,23 +54,29 @@ fn is_other_half_open(entry: &Entry, slot: usize) -> bool
     entry.stage.is_half_open() && entry.handle.slot() != slot
 }
 
-/// Where the entry is that has been half open for longest, if another one is half open, or it is so for long.
+/// Whether the half open socket of this entry may give way: another one is half open, or it is so for long.
+fn may_give_way(entries: &[Entry], at: usize, now: u64) -> bool
+    requires { at < length entries.now }
+    ensures { result ≡ may_give_way now entries.now at }
+{
+    let entry = entries[at];
+    has_other_half_open(entries, entry.handle.slot()) || PATIENCE <= now.saturating_sub(entry.since)
+}
+
+/// Where the entry is that has been half open for longest, if it may give way.
 fn half_open(entries: &[Entry], now: u64) -> Option<usize>
     ensures { IsHalfOpenNext now entries.now result }
 {
     let at = oldest(entries, Stage::HalfOpen)?;
-    let entry = entries[at];
-    if has_other_half_open(entries, entry.handle.slot())
-        || PATIENCE <= now.saturating_sub(entry.since)
-    {
+    if may_give_way(entries, at, now) {
         Some(at)
     } else {
         None
     }
 }
 
-/// Where the entry is that gives way: the one that has been in TIME-WAIT for longest, else the one that has been half open for longest,
-/// if another one is half open, or it is so for long.
+/// Where the entry is that gives way: the one that has been in TIME-WAIT for longest, else the one that has been half open for longest, if it
+/// may.
 fn next(entries: &[Entry], now: u64) -> Option<usize>
     ensures { IsNext now entries.now result }
 {
