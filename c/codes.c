@@ -154,6 +154,7 @@ static void streams_refuse(zv_host *host, size_t socket, uint32_t code)
     WANT(zv_tcp_close(host, socket), code);
     WANT(zv_tcp_abort(host, socket), code);
     WANT(zv_tcp_state(host, socket, &out.byte), code);
+    WANT(zv_tcp_end_reason(host, socket, &out.byte), code);
     WANT(zv_tcp_peer(host, socket, &out.local, &out.remote), code);
     WANT(zv_tcp_queues(host, socket, &out.count, &out.other), code);
     WANT(zv_tcp_set_timeout(host, socket, 1), code);
@@ -421,8 +422,16 @@ static void streams(size_t tcp, size_t far)
     HOLDS(out.count == 0);
 }
 
+/* Why the connection of a socket ended. */
+static void ended(zv_host *host, size_t socket, uint8_t reason)
+{
+    WANT(zv_tcp_end_reason(host, socket, &out.byte), ZV_OK);
+    HOLDS(out.byte == reason);
+}
+
 static void closed(size_t tcp, size_t far)
 {
+    const zv_endpoint unserved = at(second, 9);
     WANT(zv_tcp_close(&one, tcp), ZV_OK);
     WANT(zv_tcp_send(&one, tcp, bytes, 9, &out.count), ZV_INVALID_STATE);
     turns();
@@ -433,9 +442,16 @@ static void closed(size_t tcp, size_t far)
     WANT(zv_tcp_peek(&two, far, &out.lent, &out.count), ZV_FINISHED);
     WANT(zv_tcp_done(&two, far, 9, &out.count), ZV_FINISHED);
     HOLDS(is_filled());
+    ended(&two, far, ZV_END_NONE);
     WANT(zv_tcp_abort(&two, far), ZV_OK);
+    ended(&two, far, ZV_END_ABORTED);
     turns();
     WANT(zv_tcp_recv(&one, tcp, out.bytes, 9, &out.count), ZV_INVALID_STATE);
+    ended(&one, tcp, ZV_END_RESET);
+    WANT(zv_tcp_connect(&one, tcp, &unserved, &any, 4002), ZV_OK);
+    ended(&one, tcp, ZV_END_NONE);
+    turns();
+    ended(&one, tcp, ZV_END_REFUSED);
 }
 
 /* Makes listeners, and gives all but the first up. */

@@ -215,6 +215,10 @@ static void call(zv_host *host, int which)
         code = zv_tcp_state(host, socket, &byte);
         if (code == ZV_OK && byte > ZV_TIME_WAIT)
             fail("no such state", byte);
+        other = byte;
+        code = zv_tcp_end_reason(host, socket, &byte);
+        if (code == ZV_OK && (byte > ZV_END_ABORTED || (byte != ZV_END_NONE && other != ZV_CLOSED)))
+            fail("no such end", byte);
         break;
     case 29: code = zv_tcp_peer(host, socket, &local, &remote); break;
     case 30: code = zv_tcp_queues(host, socket, &count, &other); break;

@@ -185,6 +185,7 @@ static void set_sockets(zv_host *host, size_t udp, size_t tcp, size_t icmp)
     DO(zv_tcp_set_timestamps(host, tcp, 1, 7));
     DO(zv_tcp_pause_synack(host, tcp, 0));
     DO(zv_tcp_state(host, tcp, &state));
+    DO(zv_tcp_end_reason(host, tcp, &state));
     DO(zv_tcp_queues(host, tcp, &count, &queued));
 }
 

@@ -278,6 +278,17 @@ enum {
     ZV_TIME_WAIT = 10
 };
 
+/* Why a connection ended, or an attempt to open one. */
+enum {
+    ZV_END_NONE = 0,        /* none has ended since the socket was opened last, or it was never open */
+    ZV_END_CLOSED = 1,      /* both sides closed it, or this one before there was a connection */
+    ZV_END_RESET = 2,       /* the remote reset it */
+    ZV_END_REFUSED = 3,     /* the remote answered the SYN by a reset */
+    ZV_END_TIMED_OUT = 4,   /* the remote was silent for too long */
+    ZV_END_UNREACHABLE = 5, /* the remote can't be reached */
+    ZV_END_ABORTED = 6      /* it was aborted here */
+};
+
 /* Makes a closed socket with room for so many bytes each way, and says its place. ZV_MEMORY, ZV_TOO_LONG. */
 uint32_t zv_tcp_new(zv_host *host, size_t received, size_t queued, size_t *socket);
 
@@ -286,9 +297,9 @@ uint32_t zv_tcp_new(zv_host *host, size_t received, size_t queued, size_t *socke
 uint32_t zv_tcp_listen(zv_host *host, size_t socket, const zv_address *address, uint16_t port);
 
 /* Opens a connection from a port, of an own address or, with zv_any, of the one that the host chooses. It is open once zv_tcp_state says
- * ZV_ESTABLISHED, and has failed where that says ZV_CLOSED. No port is chosen by the host: name one from 49152 on, another each time.
- * ZV_BAD_ARGUMENT, ZV_UNADDRESSABLE (a port is 0, the remote's address unspecified, or no own address of its family), ZV_INVALID_STATE (the
- * socket is open). */
+ * ZV_ESTABLISHED, and has failed where that says ZV_CLOSED: zv_tcp_end_reason says why. No port is chosen by the host: name one from 49152
+ * on, another each time. ZV_BAD_ARGUMENT, ZV_UNADDRESSABLE (a port is 0, the remote's address unspecified, or no own address of its family),
+ * ZV_INVALID_STATE (the socket is open). */
 uint32_t zv_tcp_connect(zv_host *host, size_t socket, const zv_endpoint *remote, const zv_address *address, uint16_t port);
 
 /* Queues as many of the bytes as there is room for, perhaps none, and says how many. ZV_INVALID_STATE (the connection isn't open yet, or its
@@ -317,6 +328,9 @@ uint32_t zv_tcp_abort(zv_host *host, size_t socket);
 
 /* The state of the connection. */
 uint32_t zv_tcp_state(zv_host *host, size_t socket, uint8_t *state);
+
+/* Why the last connection ended, once the state is ZV_CLOSED: ZV_END_NONE before. */
+uint32_t zv_tcp_end_reason(zv_host *host, size_t socket, uint8_t *reason);
 
 /* The own endpoint of the connection and the remote's. ZV_INVALID_STATE (there is no connection). */
 uint32_t zv_tcp_peer(zv_host *host, size_t socket, zv_endpoint *local, zv_endpoint *remote);
@@ -575,6 +589,7 @@ ZV_MUST_LOOK(zv_tcp_send);
 ZV_MUST_LOOK(zv_tcp_recv);
 ZV_MUST_LOOK(zv_tcp_peek);
 ZV_MUST_LOOK(zv_tcp_state);
+ZV_MUST_LOOK(zv_tcp_end_reason);
 ZV_MUST_LOOK(zv_tcp_peer);
 ZV_MUST_LOOK(zv_tcp_queues);
 ZV_MUST_LOOK(zv_listener_new);

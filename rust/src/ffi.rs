@@ -134,6 +134,7 @@ extern "C" {
     pub fn zv_tcp_close(host: *mut Host, socket: usize) -> u32;
     pub fn zv_tcp_abort(host: *mut Host, socket: usize) -> u32;
     pub fn zv_tcp_state(host: *mut Host, socket: usize, state: *mut u8) -> u32;
+    pub fn zv_tcp_end_reason(host: *mut Host, socket: usize, reason: *mut u8) -> u32;
     pub fn zv_tcp_peer(host: *mut Host, socket: usize, local: *mut Endpoint, remote: *mut Endpoint) -> u32;
     pub fn zv_tcp_queues(host: *mut Host, socket: usize, received: *mut usize, queued: *mut usize) -> u32;
     pub fn zv_tcp_set_timeout(host: *mut Host, socket: usize, micros: u64) -> u32;

@@ -47,6 +47,33 @@ const STATES: [State; 11] = [
     State::TimeWait,
 ];
 
+/// Why a connection ended, or an attempt to open one.
+#[derive(Clone, Copy, Debug, PartialEq, Eq)]
+pub enum EndReason {
+    /// Both sides closed it, or this one before there was a connection.
+    Closed,
+    /// The remote reset it.
+    Reset,
+    /// The remote answered the SYN by a reset.
+    Refused,
+    /// The remote was silent for too long.
+    TimedOut,
+    /// The remote can't be reached.
+    Unreachable,
+    /// It was aborted here.
+    Aborted,
+}
+
+/// The reasons, each at its number less one.
+const REASONS: [EndReason; 6] = [
+    EndReason::Closed,
+    EndReason::Reset,
+    EndReason::Refused,
+    EndReason::TimedOut,
+    EndReason::Unreachable,
+    EndReason::Aborted,
+];
+
 /// How what is sent is held back where congestion may be.
 #[derive(Clone, Copy, Debug, PartialEq, Eq)]
 pub enum CongestionControl {
@@ -154,6 +181,16 @@ impl Socket<'_> {
         let mut state = 0;
         done(unsafe { ffi::zv_tcp_state(&mut self.interface.host, self.handle.0, &mut state) })?;
         STATES.get(state as usize).copied().ok_or(Error::Unknown(0))
+    }
+
+    /// Why the last connection ended, once the state is `State::Closed`.
+    pub fn end_reason(&mut self) -> Result<Option<EndReason>> {
+        let mut reason = 0;
+        done(unsafe { ffi::zv_tcp_end_reason(&mut self.interface.host, self.handle.0, &mut reason) })?;
+        match (reason as usize).checked_sub(1) {
+            None => Ok(None),
+            Some(place) => REASONS.get(place).copied().map(Some).ok_or(Error::Unknown(0)),
+        }
     }
 
     /// The own endpoint of the connection, and the remote's.

@@ -1,6 +1,6 @@
 //! Two interfaces whose frames go from one to the other.
 use std::net::{IpAddr, Ipv4Addr, SocketAddr};
-use zemplovir::{Config, Error, Instant, Interface, Medium, dhcp::Event, dns::DnsQueryType, tcp::State};
+use zemplovir::{Config, Error, Instant, Interface, Medium, dhcp::Event, dns::DnsQueryType, tcp::{EndReason, State}};
 
 const FIRST: IpAddr = IpAddr::V4(Ipv4Addr::new(192, 168, 1, 1));
 const SECOND: IpAddr = IpAddr::V4(Ipv4Addr::new(192, 168, 1, 2));
@@ -98,6 +98,20 @@ fn a_stream_arrives_whole() {
 }
 
 #[test]
+fn an_attempt_tells_why_it_failed() {
+    let mut pair = Pair::new(false);
+    let asks = pair.first.add_tcp(256, 256).unwrap();
+    assert_eq!(pair.first.tcp(asks).end_reason(), Ok(None));
+    pair.first.tcp(asks).connect(SocketAddr::new(SECOND, 7), 4000).unwrap();
+    assert_eq!(pair.first.tcp(asks).end_reason(), Ok(None));
+    pair.run(2);
+    assert_eq!(pair.first.tcp(asks).end_reason(), Ok(Some(EndReason::Refused)));
+    pair.first.tcp(asks).connect(SocketAddr::new(SECOND, 7), 4001).unwrap();
+    pair.first.tcp(asks).abort().unwrap();
+    assert_eq!(pair.first.tcp(asks).end_reason(), Ok(Some(EndReason::Aborted)));
+}
+
+#[test]
 fn a_frame_that_does_not_fit_stays() {
     let mut pair = Pair::new(false);
     let one = pair.first.add_udp(4, 4096).unwrap();
@@ -182,6 +196,7 @@ fn a_listener_serves_more_than_it_has_sockets() {
         pair.second.give_back(listener, served).unwrap();
         pair.run(2);
         assert_eq!(pair.first.tcp(asks).state(), Ok(State::Closed));
+        assert_eq!(pair.first.tcp(asks).end_reason(), Ok(Some(EndReason::Reset)));
         pair.first.remove(asks).unwrap();
     }
     pair.second.remove_listener(listener).unwrap();

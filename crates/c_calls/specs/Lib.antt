@@ -3,6 +3,7 @@ pub mod Codes
 pub mod Slots
 pub mod BorrowEnds
 pub mod Streams
+pub mod Ends
 pub mod Datagrams
 pub mod Controls
 pub mod Carrying
@@ -15,3 +16,4 @@ pub mod Tables
 pub mod Added
 pub mod Backlogs
 pub mod Configuring
+pub use Rattle.tcp_state.specs.declared.end_reason.EndReason

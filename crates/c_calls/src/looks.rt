@@ -1,14 +1,15 @@
 //! What a TCP socket tells of itself.
 ghost use Rattle.std.specs.Prelude.{◌≡◌, MatchResult, Ok, Err};
 ghost use Rattle.sockets.specs.AnySocket.{as_tcp};
-ghost use Rattle.c_calls.specs.Slots.{answer_at};
+ghost use Rattle.c_calls.specs.Ends.{TellsEnd};
+ghost use Rattle.c_calls.specs.Slots.{answer_at, found_at};
 ghost use Rattle.c_calls.specs.Streams.{peeked, state_in, ends_in, queues_in};
 
 use crate::code::{Code, of_stream_recv};
 use crate::kinds::seen;
 use crate::slots::Slots;
 use ip_wire::IpEndpoint;
-use sockets::tcp::{self, State};
+use sockets::tcp::{self, EndReason, State};
 
 /// The state of the connection.
 pub fn state(sockets: &Slots, slot: usize) -> Result<State, Code>
@@ -16,6 +17,16 @@ pub fn state(sockets: &Slots, slot: usize) -> Result<State, Code>
 {
     match seen::<tcp::Socket>(sockets, slot) {
         Ok(socket) => Ok(socket.state()),
+        Err(code) => Err(code),
+    }
+}
+
+/// Why the last connection ended, if one did and the socket is closed.
+pub fn end_reason(sockets: &Slots, slot: usize) -> Result<Option<EndReason>, Code>
+    ensures { TellsEnd (found_at as_tcp sockets.now slot) result }
+{
+    match seen::<tcp::Socket>(sockets, slot) {
+        Ok(socket) => Ok(socket.end_reason()),
         Err(code) => Err(code),
     }
 }

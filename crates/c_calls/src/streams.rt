@@ -2,7 +2,8 @@
 ghost use Rattle.std.specs.Prelude.{◌≡◌, length, min, if◌then◌else◌, IfOk, Ok, Err, MatchResult};
 ghost use Rattle.sockets.specs.AnySocket.{as_tcp};
 ghost use Rattle.sockets.specs.declared.socket.Socket.TheVariants as Kind;
-ghost use Rattle.c_calls.specs.Slots.{answer_at, after_at, written_at, draws_at};
+ghost use Rattle.c_calls.specs.Ends.{TellsEnd};
+ghost use Rattle.c_calls.specs.Slots.{answer_at, found_at, after_at, written_at, draws_at};
 ghost use Rattle.sockets.specs.Context.{ContextValue};
 ghost use Rattle.sockets.specs.TcpCalls.{connect_answer, connect_after, connect_draws, send_answer, send_after, recv_answer};
 ghost use Rattle.c_calls.specs.Codes.{coded, of_connect, of_stream_send, of_stream_recv};
@@ -284,6 +285,13 @@ impl Host {
         ensures { result ≡ answer_at as_tcp state_in self.now.slots slot }
     {
         looks::state(self.seen_sockets(), slot)
+    }
+
+    /// Why the last connection ended, if one did and the socket is closed.
+    pub fn tcp_end_reason(&self, slot: usize) -> Result<Option<tcp::EndReason>, Code>
+        ensures { TellsEnd (found_at as_tcp self.now.slots slot) result }
+    {
+        looks::end_reason(self.seen_sockets(), slot)
     }
 
     /// The own endpoint of the connection and the remote's.

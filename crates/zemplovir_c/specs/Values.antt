@@ -17,6 +17,8 @@ use Rattle.sockets.specs.CongestionControl.TheVariants as Control
 use Rattle.socket_datagram.specs.declared.udp.UdpMetadata.{UdpMetadata}
 use Rattle.sockets.specs.State.{State}
 use Rattle.sockets.specs.State.TheVariants as At
+use Rattle.c_calls.specs.EndReason.{EndReason}
+use Rattle.c_calls.specs.EndReason.TheVariants as Why
 use Rattle.c_calls.specs.declared.code.Code.{Code}
 use Rattle.c_calls.specs.declared.code.Code.TheVariants as Is
 use Rattle.c_calls.specs.declared.host.Counters as Host_counters
@@ -132,6 +134,16 @@ state_number At.CloseWait = 7
 state_number At.Closing = 8
 state_number At.LastAck = 9
 state_number At.TimeWait = 10
+
+-- 0 for none
+abbrev pub reason_number : Option EndReason → ℕ
+reason_number None = 0
+reason_number (Some Why.Closed) = 1
+reason_number (Some Why.Reset) = 2
+reason_number (Some Why.Refused) = 3
+reason_number (Some Why.TimedOut) = 4
+reason_number (Some Why.Unreachable) = 5
+reason_number (Some Why.Aborted) = 6
 
 -- family 4 or 6, or 0 for both
 abbrev pub version_in : ℕ → Result (Option IpVersion) Code

@@ -6,12 +6,13 @@ ghost use Rattle.sockets.specs.AnySocket.{as_tcp};
 ghost use Rattle.sockets.specs.TcpCalls.{connect_answer, connect_after, connect_draws, send_answer, send_after, recv_answer};
 ghost use Rattle.sockets.specs.declared.socket.Socket.TheVariants as Kind;
 ghost use Rattle.c_calls.specs.Codes.{coded, of_connect, of_stream_send, of_stream_recv};
-ghost use Rattle.c_calls.specs.Slots.{answer_at, after_at, written_at, draws_at};
+ghost use Rattle.c_calls.specs.Ends.{TellsEnd};
+ghost use Rattle.c_calls.specs.Slots.{answer_at, found_at, after_at, written_at, draws_at};
 ghost use Rattle.c_calls.specs.Streams.{act_answer, act_after, read_after, read_written, done_answer, done_after, peeked, state_in, ends_in, queues_in};
 ghost use Rattle.c_calls.specs.declared.streams.Act.TheVariants as To;
 ghost use Rattle.c_calls.specs.Added.{MakesStream};
-ghost use Rattle.zemplovir_c.specs.Answers.{answer_by, after_by, given_by, written_by, mapped, checked_answer, checked, Gives};
-ghost use Rattle.zemplovir_c.specs.Values.{optional_in, endpoint_in, listens_at, endpoint_out, state_number};
+ghost use Rattle.zemplovir_c.specs.Answers.{answer_by, after_by, given_by, written_by, mapped, checked_answer, checked, Gives, As};
+ghost use Rattle.zemplovir_c.specs.Values.{optional_in, endpoint_in, listens_at, endpoint_out, state_number, reason_number};
 
 use crate::acts::tcp_act;
 use crate::answers::{NO_HOST, OK, done, given};
@@ -20,7 +21,7 @@ use crate::types::{Address, Endpoint, listens_at, optional, required_endpoint, s
 use c_calls::Code;
 use c_calls::streams::Act;
 use ip_wire::{IpEndpoint, IpListenEndpoint};
-use sockets::tcp::State;
+use sockets::tcp::{EndReason, State};
 use std::alloc::Global;
 use std::ptr;
 
@@ -299,6 +300,48 @@ pub extern "C" fn zv_tcp_state(
     let answer = numbered(host.tcp_state(socket));
     handle.put(host);
     given(answer, state)
+}
+
+fn reason_of(reason: Option<EndReason>) -> u8
+    ensures { result ≡ reason_number reason }
+{
+    match reason {
+        None => 0,
+        Some(EndReason::Closed) => 1,
+        Some(EndReason::Reset) => 2,
+        Some(EndReason::Refused) => 3,
+        Some(EndReason::TimedOut) => 4,
+        Some(EndReason::Unreachable) => 5,
+        Some(EndReason::Aborted) => 6,
+    }
+}
+
+fn reason_in(answer: Result<Option<EndReason>, Code>) -> Result<u8, Code>
+    ensures { result ≡ mapped reason_number answer }
+{
+    match answer {
+        Ok(reason) => Ok(reason_of(reason)),
+        Err(code) => Err(code),
+    }
+}
+
+/// Why the last connection ended, or the last attempt to open one: 0 for none, and while the socket isn't closed.
+#[unsafe(no_mangle)]
+pub extern "C" fn zv_tcp_end_reason(
+    alloc: Global,
+    handle: &mut Handle,
+    socket: usize,
+    reason: &mut u8,
+) -> u32
+    ensures { Gives (As reason_number (λ host answer left. (left ≡ host) × TellsEnd (found_at as_tcp host.slots socket) answer))
+        handle.old.inside result reason.old reason.new handle.new.inside }
+{
+    let Some(host) = handle.take(alloc) else {
+        return NO_HOST;
+    };
+    let answer = reason_in(host.tcp_end_reason(socket));
+    handle.put(host);
+    given(answer, reason)
 }
 
 /// The own endpoint of the connection and the remote's.

@@ -1,6 +1,8 @@
 -- A socket that listens again does so once.
-use Rattle.std.proofs.Common.{◌≡◌, ℕ, ◌==◌, Bool, true, false, arith, refl, subst, ap}
-use Rattle.std.specs.Prelude.{Option, Some, None}
+use Rattle.std.proofs.Common.{◌≡◌, ℕ, ◌==◌, Bool, true, false, arith, refl, sym, ap, ◌∙◌, subst}
+use Rattle.std.specs.Prelude.{if◌then◌else◌, Option, Some, None}
+use Rattle.iface_egress.specs.Meta.{unmarked}
+use Rattle.iface_egress.specs.declared.socket_meta.Meta.{Meta}
 use Rattle.iface_egress.specs.declared.socket_set.Item.{Item}
 use Rattle.iface_egress.specs.declared.socket_set.SocketStorage.{SocketStorage}
 use Rattle.ip_wire.specs.IpListenEndpoint.{IpListenEndpoint}
@@ -8,10 +10,11 @@ use Rattle.iface_ingress.specs.Socket.{Socket}
 use Rattle.iface_ingress.specs.Socket.TheVariants as Kind
 use Rattle.iface_ingress.specs.State.{State}
 use Rattle.iface_ingress.specs.State.TheVariants as In
+use Rattle.iface_ingress.specs.TcpCalls.{listen_after}
 use Rattle.iface_ingress.specs.TcpStates.{is_closed}
 use Rattle.iface_ingress.specs.TcpValue.{TcpValue}
 use Rattle.interface.specs.declared.listener.entry.Entry.{Entry}
-use Rattle.interface.specs.Backlog.Noted.{socket_state, item_state, state_at, relisted, relisted_socket, relisted_item, relisted_slot, ComesTo, IsNoted}
+use Rattle.interface.specs.Backlog.Noted.{socket_state, item_state, state_at, relisted, relisted_socket, unmarked_if, relisted_mark, relisted_item, relisted_slot, ComesTo, IsNoted}
 use Rattle.interface.specs.Backlog.Stages.{stage_after}
 use Rattle.interface.specs.declared.listener.stage.Stage.{Stage}
 
@@ -35,9 +38,34 @@ module _ (endpoint : IpListenEndpoint) where
   again_socket (Kind.Dhcpv4 v) = refl
   again_socket (Kind.Dns v) = refl
 
+  again_mark : (v : TcpValue) → (m : Meta) → relisted_mark (Kind.Tcp (relisted endpoint v)) (relisted_mark (Kind.Tcp v) m) ≡ relisted_mark (Kind.Tcp v) m
+  again_mark v m = marked_by (is_closed v.tcb.state) refl where
+    unmarked_stays : (b : Bool) → unmarked_if b unmarked ≡ unmarked
+    unmarked_stays true = refl
+    unmarked_stays false = refl
+
+    marked_by : (closed : Bool) → is_closed v.tcb.state ≡ closed
+        → unmarked_if (is_closed (relisted endpoint v).tcb.state) (unmarked_if (is_closed v.tcb.state) m) ≡ unmarked_if (is_closed v.tcb.state) m
+    marked_by true closed =
+        subst (λ (b : Bool). unmarked_if (is_closed (relisted endpoint v).tcb.state) (unmarked_if b m) ≡ unmarked_if b m) (sym closed)
+        (unmarked_stays (is_closed (relisted endpoint v).tcb.state))
+    marked_by false isnt =
+        let same : relisted endpoint v ≡ v = ap (λ (b : Bool). if b then listen_after v endpoint else v) isnt in
+        let still : is_closed (relisted endpoint v).tcb.state ≡ false = ap (λ (w : TcpValue). is_closed w.tcb.state) same ∙ isnt in
+        subst (λ (b : Bool). unmarked_if (is_closed (relisted endpoint v).tcb.state) (unmarked_if b m) ≡ unmarked_if b m) (sym isnt)
+        (ap (λ (b : Bool). unmarked_if b m) still)
+
+  again_mark_of : (s : Socket) → (m : Meta) → relisted_mark (relisted_socket endpoint s) (relisted_mark s m) ≡ relisted_mark s m
+  again_mark_of (Kind.Tcp v) m = again_mark v m
+  again_mark_of (Kind.Udp v) m = refl
+  again_mark_of (Kind.Icmp v) m = refl
+  again_mark_of (Kind.Raw v) m = refl
+  again_mark_of (Kind.Dhcpv4 v) m = refl
+  again_mark_of (Kind.Dns v) m = refl
+
   again_item : (item : Option (Item Socket)) → relisted_item endpoint (relisted_item endpoint item) ≡ relisted_item endpoint item
   again_item None = refl
-  again_item (Some item) = ap (λ (s : Socket). Some (record item { socket = s })) (again_socket item.socket)
+  again_item (Some item) = cc (again_socket item.socket, again_mark_of item.socket item.meta)
 
   -- a slot whose socket listens again does so once
   pub relisted_once : (slot : SocketStorage Socket) → relisted_slot endpoint (relisted_slot endpoint slot) ≡ relisted_slot endpoint slot

@@ -1,6 +1,8 @@
 -- How far each socket of a backlog came, and which of them listen again.
 use Rattle.std.specs.Prelude.{◌≡◌, ◌≢◌, ℕ, ◌<◌, Bool, true, false, if◌then◌else◌, List, length, slice_index_or, slice_set, Option, Some, None}
+use Rattle.iface_egress.specs.Meta.{unmarked}
 use Rattle.iface_egress.specs.Set.{free}
+use Rattle.iface_egress.specs.declared.socket_meta.Meta.{Meta}
 use Rattle.iface_egress.specs.declared.socket_set.Item.{Item}
 use Rattle.iface_egress.specs.declared.socket_set.SocketStorage.{SocketStorage}
 use Rattle.ip_wire.specs.IpListenEndpoint.{IpListenEndpoint}
@@ -39,9 +41,19 @@ abbrev pub relisted_socket : IpListenEndpoint → Socket → Socket
 relisted_socket endpoint (Kind.Tcp v) = Kind.Tcp (relisted endpoint v)
 relisted_socket endpoint s = s
 
+-- it waits for no neighbour any more: that was on the way to the remote
+abbrev pub unmarked_if : Bool → Meta → Meta
+unmarked_if true m = unmarked
+unmarked_if false m = m
+
+abbrev pub relisted_mark : Socket → Meta → Meta
+relisted_mark (Kind.Tcp v) m = unmarked_if (is_closed v.tcb.state) m
+relisted_mark s m = m
+
 abbrev pub relisted_item : IpListenEndpoint → Option (Item Socket) → Option (Item Socket)
 relisted_item endpoint None = None
-relisted_item endpoint (Some item) = Some (record item { socket = relisted_socket endpoint item.socket })
+relisted_item endpoint (Some item) =
+    Some (record { meta = relisted_mark item.socket item.meta; socket = relisted_socket endpoint item.socket })
 
 abbrev pub relisted_slot : IpListenEndpoint → SocketStorage Socket → SocketStorage Socket
 relisted_slot endpoint slot = record { inner = relisted_item endpoint slot.inner }

@@ -10,6 +10,11 @@ abbrev pub is_accepted : Stage → Bool
 is_accepted Is.Accepted = true
 is_accepted other = false
 
+-- it took a SYN, and nothing acknowledged its own
+abbrev pub is_half_open : Stage → Bool
+is_half_open Is.HalfOpen = true
+is_half_open other = false
+
 -- it has a connection that wasn't accepted
 abbrev pub is_open : Stage → Bool
 is_open Is.Open = true

@@ -1,20 +1,23 @@
 //! How far each socket of a backlog came.
 ghost use Rattle.std.specs.Prelude.{◌≡◌};
-ghost use Rattle.interface.specs.Backlog.Noted.{relisted, state_at, relisted_slot, IsNoted, NotesOne, AreNoted};
+ghost use Rattle.iface_ingress.specs.TcpStates.{is_closed};
+ghost use Rattle.interface.specs.Backlog.Noted.{relisted, unmarked_if, state_at, relisted_slot, IsNoted, NotesOne, AreNoted};
 
 use crate::listener::entry::Entry;
 use crate::listener::stage::Stage;
-use iface_egress::{Item, Slots, SocketStorage};
+use iface_egress::{Meta, Slots, SocketStorage};
 use iface_ingress::tcp::State;
 use iface_ingress::{Socket, tcp};
 use ip_wire::IpListenEndpoint;
 
-/// Listens on this endpoint, where the socket is closed.
-fn relist(socket: &mut tcp::Socket, endpoint: IpListenEndpoint)
-    ensures { socket.new ≡ relisted endpoint socket.old }
+/// Listens on this endpoint, where the socket is closed. Then it waits for no neighbour any more.
+fn relist(socket: &mut tcp::Socket, meta: &mut Meta, endpoint: IpListenEndpoint)
+    ensures socket { socket.new ≡ relisted endpoint socket.old }
+    ensures mark { meta.new ≡ unmarked_if (is_closed socket.old.tcb.state) meta.old }
 {
     if socket.state() == State::Closed {
         let _ = socket.listen(endpoint);
+        meta.unmark();
     }
 }
 
@@ -24,17 +27,15 @@ fn relist_slot(slot: &mut SocketStorage<Socket>, endpoint: IpListenEndpoint) -> 
     ensures slot { slot.new ≡ relisted_slot endpoint slot.old }
 {
     match &mut slot.inner {
-        Some(
-            Item {
-                socket: Socket::Tcp(socket),
-                ..
-            },
-        ) => {
-            let state = socket.state();
-            relist(socket, endpoint);
-            Some(state)
-        }
-        _ => None,
+        Some(item) => match &mut item.socket {
+            Socket::Tcp(socket) => {
+                let state = socket.state();
+                relist(socket, &mut item.meta, endpoint);
+                Some(state)
+            }
+            _ => None,
+        },
+        None => None,
     }
 }
 

@@ -1,6 +1,6 @@
 //! How far a socket of a backlog came.
 ghost use Rattle.std.specs.Prelude.{◌≡◌};
-ghost use Rattle.interface.specs.Backlog.Stages.{is_accepted, is_open, stage_after};
+ghost use Rattle.interface.specs.Backlog.Stages.{is_accepted, is_half_open, is_open, stage_after};
 
 use iface_ingress::tcp::State;
 
@@ -27,6 +27,13 @@ impl Stage {
         ensures { result ≡ is_accepted self }
     {
         matches!(self, Stage::Accepted)
+    }
+
+    /// Whether it took a SYN, and nothing acknowledged its own.
+    pub fn is_half_open(self) -> bool
+        ensures { result ≡ is_half_open self }
+    {
+        matches!(self, Stage::HalfOpen)
     }
 
     /// Whether it has a connection that waits to be accepted.
