@@ -89,6 +89,9 @@ def remarks(history, rows, only=None):
     for title, found in groups:
         if found:
             yield title, "; ".join(found[:12]) + (f"; and {len(found) - 12} more" if len(found) > 12 else "")
+    for name, host in rows.hosts.items():
+        if host.silent:
+            yield "Neighbors that never answered" if len(host.silent) > 1 else "A neighbor that never answered", f"{name} gave up on " + ", ".join(host.silent)
     for host in "A" if history.run.kind == "one" else "AB":
         yield f"At the end {host}", rows.at_end(host)
     yield from (("Stream", words) for words in streams(history, rows, only))

@@ -35,6 +35,10 @@ export function remarks(history, rows) {
                     ['Damaged', history.handings.filter((it) => it.kind === 'damage').map((it) => `${it.frame.host} ${it.frame.name}`)]];
     const said = groups.filter(([, found]) => found.length).map(([title, found]) =>
         [title, found.slice(0, 12).join('; ') + (found.length > 12 ? `; and ${found.length - 12} more` : '')]);
+    for (const [name, {silent}] of Object.entries(rows.hosts)) {
+        const title = silent.size > 1 ? 'Neighbors that never answered' : 'A neighbor that never answered';
+        if (silent.size) said.push([title, `${name} gave up on ${[...silent.keys()].join(', ')}`]);
+    }
     for (const host of 'AB') said.push([`At the end ${host}`, rows.atEnd(host)]);
     for (const words of streams(history, rows)) said.push(['Stream', words]);
     return said;
