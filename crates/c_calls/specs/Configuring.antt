@@ -4,8 +4,8 @@ use Rattle.sockets.specs.DhcpValue.{DhcpValue}
 use Rattle.sockets.specs.DnsValue.{DnsValue}
 use Rattle.wire_dns.specs.declared.codes.DnsQueryType.{DnsQueryType}
 use Rattle.interface.specs.Host.{HostValue}
-use Rattle.interface.specs.Inner.{context_of, drawn}
-use Rattle.interface.specs.Made.{with_inner}
+pub use Rattle.interface.specs.Inner.{context_of, drawn}
+pub use Rattle.interface.specs.Made.{with_inner}
 use Rattle.ip_wire.specs.IpAddress.{IpAddress}
 use Rattle.ip_wire.specs.IpEndpoint.{IpEndpoint}
 use Rattle.c_calls.specs.Leases.{TakesLease, SendsLease}

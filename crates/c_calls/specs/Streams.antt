@@ -6,7 +6,7 @@ use Rattle.sockets.specs.TcpSettings.{set_retries, set_congestion_control, set_m
 use Rattle.sockets.specs.TcpReceive.{unbroken, lent}
 use Rattle.sockets.specs.TcpValue.{TcpValue, unoffered, queued_in}
 use Rattle.ip_wire.specs.IpEndpoint.{IpEndpoint}
-use Rattle.tcp_socket.specs.Socket.{local_in, remote_in}
+use Rattle.sockets.specs.TcpSocket.{local_in, remote_in}
 use Rattle.tcp_state.specs.declared.error.RecvError.{RecvError}
 use Rattle.tcp_state.specs.declared.state.State.{State}
 use Rattle.c_calls.specs.Codes.{coded, of_listen, of_stream_recv}

@@ -2,6 +2,7 @@
 use Rattle.std.proofs.Common.{◌≡◌, ℕ, ◌-◌, ◌≤◌, ◌==◌, ◌&&◌, ◌||◌, nat_lt, min, Bool, true, false, if◌then◌else◌, List, [], ◌∷◌, refl, ap, ◌∙◌, arith}
 use Rattle.std.proofs.lemmas.Bool.{cond_both}
 use Rattle.tcp_state.specs.Scoreboard.{is_run, gap_end}
+pub use Rattle.tcp_state.proofs.NothingHeld.{first_of_none, none_lost}
 use Rattle.tcp_state.specs.declared.scoreboard.Run.{Run}
 use Rattle.tcp_block.specs.LossRecovery.{retransmit_offset, hole_offset, hole_len}
 use Rattle.tcp_block.specs.declared.tcb.Tcb.{Tcb}

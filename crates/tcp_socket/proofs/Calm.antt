@@ -21,7 +21,7 @@ use Rattle.tcp_block.specs.Undo.{undo_begun}
 use Rattle.tcp_block.specs.Value.{TcpValue, Received}
 use Rattle.tcp_block.specs.declared.tcb.Loss.{Loss}
 use Rattle.tcp_block.specs.declared.tcb.Tcb.{Tcb}
-use Rattle.tcp_state.proofs.NothingHeld.{first_of_none, none_lost}
+use Rattle.tcp_block.proofs.Holes.{first_of_none, none_lost}
 use Rattle.tcp_socket.proofs.Steps.{value_of}
 use Rattle.tcp_socket.specs.FastPath.{IsStoredAs, is_calm, names_no_range, window_taken}
 

@@ -1,7 +1,6 @@
 use Rattle.std.proofs.Common.{◌≡◌, Some, sym, ap, ◌∙◌}
 use Rattle.std.specs.Prelude.{if◌then◌else◌}
-use Rattle.interface.specs.Inner.{context_of, drawn}
-use Rattle.interface.specs.Made.{with_inner}
+use Rattle.c_calls.specs.Configuring.{context_of, drawn, with_inner}
 use Rattle.sockets.specs.AnySocket.{as_tcp}
 use Rattle.sockets.specs.TcpCalls.{connect_after, connect_draws}
 use Rattle.sockets.specs.declared.socket.Socket.TheVariants as Kind
