@@ -28,6 +28,7 @@ class Host:
         self.local, self.remote, self.queued, self.read, self.finished = {}, {}, {}, {}, set()
         self.asked, self.requests, self.datagrams, self.router, self.silent, self.fragments = {}, {}, [], None, {}, {}
         self.wake, self.told = None, (None, None)
+        self.waiting, self.longest = None, None
         self.shown = {}
 
     def connection(self, local, remote):
@@ -107,6 +108,16 @@ class Host:
             hop = remote if remote in silent else self.router
             if self.states.get(socket) == "SYN-SENT" and self.local[socket] not in ports and hop in silent:
                 yield None, "retransmission timer", f"the SYN was dropped, as {hop} did not answer {MOST_REQUESTS} requests"
+
+    def on_wake(self, wake, now, why):
+        """Keeps the longest wait for a moment, as where it began, where it ended, and why."""
+        if self.waiting and self.waiting[1] != wake:
+            began, _, old = self.waiting
+            if now > began and (self.longest is None or now - began > self.longest[1] - self.longest[0]):
+                self.longest = began, now, old
+            self.waiting = None
+        if wake is not None and wake > now:
+            self.waiting = (self.waiting[0] if self.waiting else now), wake, why
 
     def reason(self, wake, now, peer_frames, row):
         """Why the host wants to be polled then, as a name and more words."""

@@ -184,6 +184,7 @@ class Rows:
         host, asked = self.hosts[owner], row.step.words[0] == "pollat"
         host.wake = wake
         name, more = (None, None) if wake is None else host.reason(wake, row.moment, self.history.frames[OTHER[owner]], row.at)
+        host.on_wake(wake, row.moment, f"{name}: {more}" if more else name)
         changed, host.told = host.told != (wake, name), (wake, name)
         if wake is None:
             if changed or asked:

@@ -16,7 +16,7 @@ function addressOf(endpoint) {
 export class Host {
     constructor(name) {
         Object.assign(this, {name, connections: new Map(), states: new Map(), local: new Map(), queued: new Map(), read: new Map(), finished: new Set(),
-                             asked: new Map(), requests: new Map(), remote: new Map(), datagrams: [], router: null, silent: new Map(), wake: null, told: null, shown: new Map()});
+                             asked: new Map(), requests: new Map(), remote: new Map(), datagrams: [], router: null, silent: new Map(), wake: null, waiting: null, longest: null, told: null, shown: new Map()});
     }
 
     connection(ends) {
@@ -102,6 +102,16 @@ export class Host {
             }
         }
         return found;
+    }
+
+    // Keeps the longest wait for a moment, as where it began, where it ended, and why.
+    onWake(wake, now, why) {
+        if (this.waiting && this.waiting[1] !== wake) {
+            const [began, , old] = this.waiting;
+            if (now > began && (!this.longest || now - began > this.longest[1] - this.longest[0])) this.longest = [began, now, old];
+            this.waiting = null;
+        }
+        if (wake !== null && wake > now) this.waiting = [this.waiting?.[0] ?? now, wake, why];
     }
 
     // Why the host wants to be polled then, as a name and more words.

@@ -166,6 +166,7 @@ export class Rows {
         const host = this.hosts[owner], asked = row.step.words[0] === 'pollat';
         host.wake = wake;
         const [name, more] = wake === null ? [null, null] : host.reason(wake, row.moment, this.history.frames[OTHER[owner]], row.at);
+        host.onWake(wake, row.moment, more ? `${name}: ${more}` : name);
         const told = wake === null ? null : `${wake} ${name}`, changed = host.told !== told;
         host.told = told;
         if (wake === null) {
