@@ -131,7 +131,7 @@ static void fill(uint16_t many)
         }
     }
     must("an identifier", zv_icmp_bind(&hosts[0], icmp, 9));
-    /* One socket of a backlog is kept free, so a listener with one alone never has a connection. */
+    /* Where no socket is free, a half-open one gives way to the next SYN: with two a client has the time. */
     must("a second", zv_tcp_new(&hosts[1], 4096, 4096, &second));
     must("a keeper", zv_tcp_new(&hosts[1], 0, 0, &keeper));
     must("a listener", zv_listener_new(&hosts[1], &any, 80, &listener));
