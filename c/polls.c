@@ -120,7 +120,7 @@ static int64_t warm(int64_t now)
 /* Sockets of all kinds, and `many` of UDP beside them. */
 static void fill(uint16_t many)
 {
-    size_t keeper, socket;
+    size_t second, keeper, socket;
     for (int i = 0; i < 2; i++) {
         must("TCP", zv_tcp_new(&hosts[i], 4096, 4096, &tcp[i]));
         must("ICMP", zv_icmp_new(&hosts[i], 4, 1024, i == 0 ? &icmp : &socket));
@@ -131,9 +131,12 @@ static void fill(uint16_t many)
         }
     }
     must("an identifier", zv_icmp_bind(&hosts[0], icmp, 9));
+    /* Where no socket is free, a half-open one gives way to the next SYN: with two a client has the time. */
+    must("a second", zv_tcp_new(&hosts[1], 4096, 4096, &second));
     must("a keeper", zv_tcp_new(&hosts[1], 0, 0, &keeper));
     must("a listener", zv_listener_new(&hosts[1], &any, 80, &listener));
     must("its socket", zv_listener_add(&hosts[1], listener, tcp[1]));
+    must("its second", zv_listener_add(&hosts[1], listener, second));
     must("its keeper", zv_listener_add_keeper(&hosts[1], listener, keeper));
 }
 

@@ -386,8 +386,9 @@ uint32_t zv_tcp_pause_synack(zv_host *host, size_t socket, uint8_t paused);
 
 /* LISTENERS with a backlog: sockets that listen at one port in turn. A socket comes from zv_tcp_new and stays the listener's until the
  * listener is removed; a connection that is open waits to be accepted, is the caller's then, and is given back once it was closed or
- * aborted. Where no socket is free for a SYN, one in TIME-WAIT gives way, or one that is half open for long; else a keeper takes the SYN
- * and says nothing, so that the remote tries again. Each call but the first may answer ZV_NO_LISTENER. */
+ * aborted. Where no socket is free for a SYN, one in TIME-WAIT gives way, or the one that is half open for longest, the only one after half
+ * a second. A SYN for which there is none falls to a keeper, which says nothing, so that the remote tries again. Each call but the first may
+ * answer ZV_NO_LISTENER. */
 
 /* Makes a listener at a port, of one own address or, with zv_any, of any, and says its number. A number is used again once its listener
  * is removed. ZV_BAD_ARGUMENT, ZV_UNADDRESSABLE (port 0), ZV_TABLE_FULL (sixteen), ZV_MEMORY. */

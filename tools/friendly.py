@@ -1,4 +1,5 @@
-"""Scripts that a person writes: each line is played by the program `lan` as one or several lines of its own language (docs/guide/simulator.md).
+"""Scripts that a person writes: each line is played by the program `lan` as one or several lines of its own language (docs/guide/simulator.md),
+or by `app_host`, which is host A alone: then what it sends goes nowhere, and `frame` brings what comes.
 
 `run` and `expect` need what came before, so the program is asked line by line. Behind each line stands a `pollat` at a moment that was asked for
 already: it changes nothing, and says that no more frames of the line follow. What is written is what the program writes without them.
@@ -142,10 +143,10 @@ class Program:
 
 
 class Script:
-    """A script as far as it was played."""
+    """A script as far as it was played, by two hosts or by one."""
 
-    def __init__(self, program):
-        self.program, self.link, self.now = program, Link(), 0
+    def __init__(self, program, hosts="AB"):
+        self.program, self.hosts, self.link, self.now = program, hosts, Link(), 0
         self.on_link, self.order = [], 0
         self.named, self.expected, self.answer = set(), {"A": [], "B": []}, None
         self.decoder = None
@@ -158,6 +159,8 @@ class Script:
         if words[0] == "world" and len(words) > 1:
             self.decoder = Decoder(words[1])
         own = {"run": self.run_for, "link": self.set_link, "expect": self.expect, "lose": self.lose}.get(words[0])
+        if words[0] in ("link", "lose") and len(self.hosts) == 1:
+            raise Bad(f"`{words[0]}` is expected where there are two hosts: here `frame A HEX` brings a frame")
         if own and words[0] != "link" and not self.program.runs:
             raise Bad(f"`{words[0]}` is expected behind `start`")
         if own:
@@ -167,6 +170,8 @@ class Script:
 
     def with_moment(self, words):
         """A line of `lan`: behind `poll` and `pollat` a moment may have a unit, and what is left out is the clock's and a budget of 64."""
+        if len(self.hosts) == 1:
+            words = [str(time_of(it)) if k and re.fullmatch("[0-9]+(us|ms|s)", it, re.ASCII) else it for k, it in enumerate(words)]
         if words[0] in ("poll", "pollat") and len(words) > 1:
             if len(words) > 2 and not words[2].isdecimal():
                 words[2] = str(time_of(words[2]))
@@ -180,11 +185,13 @@ class Script:
         """Plays a line of `lan`; frames that are sent then go onto the link."""
         if words[0] in ("deliver", "damage", "cut") and len(words) > 2 and words[2].isdecimal():
             self.named.add((words[1], int(words[2])))
+        if words[0] in ("frame", "noise") and len(words) > 2 and self.decoder and re.fullmatch("([0-9A-Fa-f]{2})+", words[2]):
+            self.decoder.see(bytes.fromhex(words[2]), OTHER.get(words[1], "B"), words[0] == "frame")
         self.answer, sent = self.program.ask(" ".join(words))
         for host, number, data in sent:
             self.expected[host].append((number, self.decoder.see(data, host)))
             arrival = self.link.arrival(self.now)
-            if arrival is not None:
+            if arrival is not None and len(self.hosts) == 2:
                 self.order += 1
                 heapq.heappush(self.on_link, (arrival, self.order, host, number))
         return self.answer
@@ -214,11 +221,11 @@ class Script:
         self.named.add((words[0], number_of(words[1], "the number of a frame")))
 
     def run_for(self, words):
-        """Polls both hosts when they want to be and hands over what is on the link, until so much time has passed."""
+        """Polls each host when it wants to be and hands over what is on the link, until so much time has passed."""
         if len(words) != 1:
             raise Bad(f"{A_TIME}, behind `run`")
         end, left = self.now + time_of(words[0]), MOST_POLLS
-        due, changed = set(OTHER), set()
+        due, changed = set(self.hosts), set()
         while True:
             while due:
                 for host in sorted(due):
@@ -227,7 +234,7 @@ class Script:
                         raise Bad(f"more than {MOST_POLLS} polls: the hosts don't come to rest")
                     (changed.add if self.play(["poll", host, str(self.now), str(BUDGET)]) == "changed" else changed.discard)(host)
                 due = self.hand_over()
-            wakes = {host: self.wake(host) for host in OTHER}
+            wakes = {host: self.wake(host) for host in self.hosts}
             due = {host for host in changed if wakes[host] is not None and wakes[host] <= self.now}
             if due:
                 continue
@@ -236,7 +243,7 @@ class Script:
             if not later or min(later) > end:
                 break
             self.now = min(later)
-            due = {host for host in OTHER if wakes[host] is not None and wakes[host] <= self.now} | self.hand_over()
+            due = {host for host in self.hosts if wakes[host] is not None and wakes[host] <= self.now} | self.hand_over()
         self.now = end
 
     def hand_over(self):
@@ -259,7 +266,7 @@ class Script:
             if " ".join(words[1:]) != self.answer:
                 raise Bad(f"expected the answer {' '.join(words[1:])}; it was {self.answer}")
             return
-        if len(words) < 2 or words[0] not in OTHER or words[1] not in (*NAMES, "nothing"):
+        if len(words) < 2 or words[0] not in self.hosts or words[1] not in (*NAMES, "nothing"):
             raise Bad(f"`expect` is expected with a host and {', '.join(NAMES)} or nothing behind it, or with answer")
         host, kind = words[:2]
         left = self.expected[host]
@@ -303,10 +310,10 @@ def wanted(words, kind):
     return check
 
 
-def play(path, text, expand, write, say, why):
-    """Plays a text. `write` gets what the program writes, or the expanded script; `say` the line at which it ended, and why. The status."""
+def play(path, text, expand, write, say, why, hosts="AB"):
+    """Plays a text by the program of two hosts, or of host A alone. `write` gets what the program writes, or the expanded script; `say` the line at which it ended, and why. The status."""
     program = Program(path)
-    script, status, shown = Script(program), 0, 0
+    script, status, shown = Script(program, hosts), 0, 0
     try:
         for place, line in enumerate(text.split("\n"), 1):
             try:

@@ -127,6 +127,10 @@ CLASSES = {
 }
 
 
+# What is said where a word is empty.
+BLANK = "two blanks side by side, or one at the line's end"
+
+
 def shown(word):
     """A word as it is printed: its first characters, those that can't be printed as `?`."""
     text = re.sub(r"[^ -~]", "?", word[:40]) or '""'
@@ -136,8 +140,10 @@ def shown(word):
 def reading(words):
     """Why the words of a line are none, if so, and the form of the line."""
     verb, rest = words[0], list(words[1:])
+    if not verb:
+        return "it is empty, or begins with a blank (--comments leaves out empty lines)", None
     if verb not in FORMS:
-        return f"no such line: {shown(verb)}", None
+        return f"no such line: {shown(verb)}" + (" (--comments leaves out comments)" if verb.startswith("#") else ""), None
     form = FORMS[verb].split()
     if verb == "socket" and len(rest) > 1 and rest[1] in KINDS:
         form[1:] = [rest[1], *KINDS[rest[1]].split()]
@@ -149,8 +155,10 @@ def reading(words):
         if place >= len(rest):
             return f"no {said}: the line ends", text
         if not is_one(rest[place]):
-            return f"no {said}: {shown(rest[place])}", text
+            return f"no {said}: {shown(rest[place]) if rest[place] else BLANK}", text
     if len(rest) > len(form):
+        if not rest[len(form)]:
+            return BLANK, text
         return f"a word too many: {shown(rest[len(form)])}", text
     return None, text
 

@@ -3,8 +3,19 @@
 The states and the moments of waits are the simulator's own answers. The reason of a wait is concluded from frames: it is the reason whose
 moment is the one answered, or else the one that the frames leave.
 """
+import re
+
 from play import number
 from tcp import NEIGHBOR, Connection, timers
+
+# A neighbor that doesn't answer so many requests is given up, and what is for it is dropped.
+MOST_REQUESTS = 3
+
+
+def address_of(endpoint):
+    """The address of an endpoint in a script, as frames name it."""
+    words = endpoint.rpartition(":")[0]
+    return ".".join(str(int(part)) for part in words.split(".")) if re.fullmatch(r"\d+(\.\d+){3}", words, re.ASCII) else words.strip("[]")
 
 
 class Host:
@@ -14,9 +25,10 @@ class Host:
         self.name = name
         self.connections = {}
         self.states = {}
-        self.local, self.queued, self.read, self.finished = {}, {}, {}, set()
-        self.asked, self.fragments = {}, {}
+        self.local, self.remote, self.queued, self.read, self.finished = {}, {}, {}, {}, set()
+        self.asked, self.requests, self.datagrams, self.router, self.silent, self.fragments = {}, {}, [], None, {}, {}
         self.wake, self.told = None, (None, None)
+        self.waiting, self.longest = None, None
         self.shown = {}
 
     def connection(self, local, remote):
@@ -28,8 +40,11 @@ class Host:
             if seen.tcp.flags & 2 and not seen.tcp.flags & 16 and frame.repeats is None:
                 self.connections.pop(seen.ends, None)
             self.connection(*seen.ends).on_sent(frame)
+        elif seen.ends and seen.ends[1][0] in self.datagrams:
+            self.datagrams.remove(seen.ends[1][0])
         if seen.resolves and seen.resolves[0] == "asks":
             self.asked[seen.resolves[1]] = frame.moment
+            self.requests[seen.resolves[1]] = self.requests.get(seen.resolves[1], 0) % MOST_REQUESTS + 1
 
     def on_taken(self, handing, moment):
         seen = handing.seen
@@ -39,6 +54,7 @@ class Host:
             self.connection(*seen.ends[::-1]).on_taken(handing, moment)
         if seen.resolves and seen.resolves[0] == "answers":
             self.asked.pop(seen.resolves[1], None)
+            self.requests.pop(seen.resolves[1], None)
         if seen.fragment:
             self.fragments.setdefault(seen.fragment[0], moment)
 
@@ -46,7 +62,11 @@ class Host:
         """Keeps ports, bytes accepted and bytes read of a call."""
         socket = number(words[2]) if len(words) > 2 else None
         if words[0] == "connect" and said in ("ok", "done"):
-            self.local[socket] = number(words[4])
+            self.local[socket], self.remote[socket] = number(words[4]), address_of(words[3])
+        elif words[0] == "sendto" and said == "ok":
+            self.datagrams.append(address_of(words[3]))
+        elif words[0] == "route" and said == "ok":
+            self.router = words[2]
         elif words[0] in ("listen", "bind") and said in ("ok", "done"):
             self.local[socket] = number(words[3].rpartition(":")[2])
         elif words[0] in ("send", "fill") and said.startswith(("ok ", "count ")):
@@ -62,9 +82,46 @@ class Host:
     def queued_of(self, connection):
         return self.queued.get(self.socket_of(connection.local[1]), 0)
 
+    def given_up(self, now):
+        """The neighbors that didn't answer, and aren't asked any more."""
+        return [address for address, count in self.requests.items() if count == MOST_REQUESTS and now >= self.asked[address] + NEIGHBOR]
+
+    def newly_given_up(self, now):
+        """Those that are told of for the first time since they were asked."""
+        found = [address for address in self.given_up(now) if self.silent.get(address) != self.asked[address]]
+        self.silent.update((address, self.asked[address]) for address in found)
+        return found
+
+    def resolving(self, now):
+        """Which neighbors the host may wait for: each asked one, or where nothing is for that one, one that it may ask next."""
+        silent = self.given_up(now)
+        waiting = [address for address in self.datagrams if address not in silent]
+        for address, at in self.asked.items():
+            is_next = waiting and address not in [*waiting, *self.remote.values(), self.router]
+            yield (at + NEIGHBOR, f"resolves {waiting[0]}", f"requests go a second apart, and {address} was asked last") if is_next else (
+                at + NEIGHBOR, f"resolves {address}", "no answer yet")
+
+    def unsent(self, now):
+        """Of a SYN that never was on the link, when it goes again: as with `timers`."""
+        ports, silent = {local[1] for local, _ in self.connections}, self.given_up(now)
+        for socket, remote in self.remote.items():
+            hop = remote if remote in silent else self.router
+            if self.states.get(socket) == "SYN-SENT" and self.local[socket] not in ports and hop in silent:
+                yield None, "retransmission timer", f"the SYN was dropped, as {hop} did not answer {MOST_REQUESTS} requests"
+
+    def on_wake(self, wake, now, why):
+        """Keeps the longest wait for a moment, as where it began, where it ended, and why."""
+        if self.waiting and self.waiting[1] != wake:
+            began, _, old = self.waiting
+            if now > began and (self.longest is None or now - began > self.longest[1] - self.longest[0]):
+                self.longest = began, now, old
+            self.waiting = None
+        if wake is not None and wake > now:
+            self.waiting = (self.waiting[0] if self.waiting else now), wake, why
+
     def reason(self, wake, now, peer_frames, row):
         """Why the host wants to be polled then, as a name and more words."""
-        found = [(at + NEIGHBOR, f"resolves {address}", "no answer yet") for address, at in self.asked.items()]
+        found = [*self.resolving(now), *self.unsent(now)]
         for connection in self.connections.values():
             state = self.states.get(self.socket_of(connection.local[1]))
             found += timers(connection, state, self.queued_of(connection), peer_frames, row)

@@ -2,7 +2,7 @@
 from dataclasses import dataclass, field
 
 from history import OTHER
-from hosts import Host
+from hosts import MOST_REQUESTS, Host
 from play import CALLS, POLLS, number
 from svg import cut
 
@@ -125,6 +125,8 @@ class Rows:
             unsure = " or an earlier poll did" if any(handing.is_unsure for handing in row.taken) else ""
             past = f" at {seconds(row.moment)}" if row.moment != row.now else ""
             beside.append(("poll", words[0] + past + (f" takes {took}{unsure}" if took else "") + f" → {said}", row.step.line))
+            beside += [("refused", f"gives up on {address}: {MOST_REQUESTS} requests, no answer", None)
+                       for address in self.hosts[name].newly_given_up(row.moment)]
             room = self.history.room[name]
             if room == 0 and words[0] == "poll":
                 beside.append(("refused", "its device has no room", None))
@@ -182,6 +184,7 @@ class Rows:
         host, asked = self.hosts[owner], row.step.words[0] == "pollat"
         host.wake = wake
         name, more = (None, None) if wake is None else host.reason(wake, row.moment, self.history.frames[OTHER[owner]], row.at)
+        host.on_wake(wake, row.moment, f"{name}: {more}" if more else name)
         changed, host.told = host.told != (wake, name), (wake, name)
         if wake is None:
             if changed or asked:

@@ -2,6 +2,8 @@
 from rows import seconds
 
 SIDE, MIDDLE = 46, 74
+# A wait of so many microseconds is told of.
+WORTH_TELLING = 200_000
 
 
 def fate(frame):
@@ -89,6 +91,13 @@ def remarks(history, rows, only=None):
     for title, found in groups:
         if found:
             yield title, "; ".join(found[:12]) + (f"; and {len(found) - 12} more" if len(found) > 12 else "")
+    for name, host in rows.hosts.items():
+        if host.silent:
+            yield "Neighbors that never answered" if len(host.silent) > 1 else "A neighbor that never answered", f"{name} gave up on " + ", ".join(host.silent)
+    for name, host in rows.hosts.items():
+        began, ended, why = host.longest or (0, 0, "")
+        if ended - began >= WORTH_TELLING:
+            yield f"Longest wait of {name}", f"{seconds(began)} to {seconds(ended)}: {why}"
     for host in "A" if history.run.kind == "one" else "AB":
         yield f"At the end {host}", rows.at_end(host)
     yield from (("Stream", words) for words in streams(history, rows, only))

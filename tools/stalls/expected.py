@@ -17,9 +17,8 @@ def played(check, sends=None):
     """A check of a course that is played to its end. Up to so many of its last lines `send` the link is good."""
 
     def whole(lan, script):
-        bad = [k for k, line in enumerate(script) if line.startswith("send ")][-sends] if sends else None
         try:
-            course = Course(lan, script, bad=bad)
+            course = begun(lan, script, sends)
         except Ended as fault:
             return str(fault), "not played to its end"
         try:
@@ -29,7 +28,14 @@ def played(check, sends=None):
         finally:
             course.close()
 
+    whole.sends = sends
     return whole
+
+
+def begun(lan, script, sends):
+    """The course, in which the link is good up to so many of its last lines `send`."""
+    bad = [k for k, line in enumerate(script) if line.startswith("send ")][-sends] if sends else None
+    return Course(lan, script, bad=bad)
 
 
 def texts(course, host):

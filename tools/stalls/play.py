@@ -77,7 +77,7 @@ class Lan:
 
 
 class Course:
-    """What a script did so far: `sent` by host, `answers` by line, `written` and `read` by (host, socket)."""
+    """What a script did so far: `sent` by host, `answers` by line, `written` and `read` by (host, socket), and the `lines` that were played."""
 
     def __init__(self, program, script, cut=None, bad=None):
         """Plays a script up to line `cut`. Up to line `bad`, where one is named, the link is good, and numbers count from there."""
@@ -85,6 +85,7 @@ class Course:
         self.medium = script[0].split(" ")[1]
         self.kinds = {host: [line.split(" ")[2] for line in script[:start] if line.startswith(f"socket {host} ")] for host in HOSTS}
         self.lan = Lan(program, script[: start + 1])
+        self.lines = script[: start + 1]
         self.sent = {host: [] for host in HOSTS}
         self.handed = {host: set() for host in HOSTS}
         self.owed = {host: [] for host in HOSTS}
@@ -113,6 +114,7 @@ class Course:
         return max(self.last.values())
 
     def ask(self, line):
+        self.lines.append(line)
         answer, sent = self.lan.ask(line)
         for host, number, frame in sent:
             assert number == len(self.sent[host])

@@ -4,10 +4,19 @@ import {keyOf, turned} from './frames.mjs';
 import {number} from './play.mjs';
 import {Connection, NEIGHBOR, timers} from './tcp.mjs';
 
+// A neighbor that doesn't answer so many requests is given up, and what is for it is dropped.
+export const MOST_REQUESTS = 3;
+
+// The address of an endpoint in a script, as frames name it.
+function addressOf(endpoint) {
+    const words = endpoint.slice(0, Math.max(endpoint.lastIndexOf(':'), 0));
+    return /^\d+(\.\d+){3}$/.test(words) ? words.split('.').map(Number).join('.') : words.replace(/^[[\]]+|[[\]]+$/g, '');
+}
+
 export class Host {
     constructor(name) {
         Object.assign(this, {name, connections: new Map(), states: new Map(), local: new Map(), queued: new Map(), read: new Map(), finished: new Set(),
-                             asked: new Map(), wake: null, told: null, shown: new Map()});
+                             asked: new Map(), requests: new Map(), remote: new Map(), datagrams: [], router: null, silent: new Map(), wake: null, waiting: null, longest: null, told: null, shown: new Map()});
     }
 
     connection(ends) {
@@ -22,21 +31,30 @@ export class Host {
             if (seen.tcp.flags & 2 && !(seen.tcp.flags & 16) && frame.repeats === null) this.connections.delete(keyOf(seen.ends));
             this.connection(seen.ends).onSent(frame);
         }
-        if (seen.resolves?.[0] === 'asks') this.asked.set(seen.resolves[1], frame.moment);
+        else if (seen.ends && this.datagrams.includes(seen.ends[1].address)) this.datagrams.splice(this.datagrams.indexOf(seen.ends[1].address), 1);
+        if (seen.resolves?.[0] === 'asks') {
+            const address = seen.resolves[1];
+            this.asked.set(address, frame.moment);
+            this.requests.set(address, (this.requests.get(address) ?? 0) % MOST_REQUESTS + 1);
+        }
     }
 
     onTaken(handing, moment) {
         const seen = handing.seen;
         if (handing.kind === 'damage' || handing.isUnsure) return;
         if (seen.tcp && handing.kind !== 'noise') this.connection(turned(seen.ends)).onTaken(handing, moment);
-        if (seen.resolves?.[0] === 'answers') this.asked.delete(seen.resolves[1]);
+        if (seen.resolves?.[0] === 'answers') for (const map of [this.asked, this.requests]) map.delete(seen.resolves[1]);
     }
 
     // Keeps ports, bytes accepted and bytes read of a call.
     onCall(words, said) {
         const socket = words.length > 2 ? number(words[2]) : null;
         const add = (map, count) => map.set(socket, (map.get(socket) ?? 0) + count);
-        if (words[0] === 'connect' && said === 'ok') this.local.set(socket, number(words[4]));
+        if (words[0] === 'connect' && said === 'ok') {
+            this.local.set(socket, number(words[4]));
+            this.remote.set(socket, addressOf(words[3]));
+        } else if (words[0] === 'sendto' && said === 'ok') this.datagrams.push(addressOf(words[3]));
+        else if (words[0] === 'route' && said === 'ok') this.router = words[2];
         else if (['listen', 'bind'].includes(words[0]) && said === 'ok') this.local.set(socket, number(words[3].split(':').at(-1)));
         else if (words[0] === 'send' && said.startsWith('ok ')) add(this.queued, Number(said.split(' ')[1]));
         else if (words[0] === 'recv' && said.startsWith('data ')) add(this.read, said.split(' ')[1].replaceAll('-', '').length / 2);
@@ -52,9 +70,53 @@ export class Host {
         return this.queued.get(this.socketOf(connection.ends[0].port)) ?? 0;
     }
 
+    // The neighbors that didn't answer, and aren't asked any more.
+    givenUp(now) {
+        return [...this.requests].filter(([address, count]) => count === MOST_REQUESTS && now >= this.asked.get(address) + NEIGHBOR).map(([it]) => it);
+    }
+
+    // Those that are told of for the first time since they were asked.
+    newlyGivenUp(now) {
+        const found = this.givenUp(now).filter((address) => this.silent.get(address) !== this.asked.get(address));
+        for (const address of found) this.silent.set(address, this.asked.get(address));
+        return found;
+    }
+
+    // Which neighbors the host may wait for: each asked one, or where nothing is for that one, one that it may ask next.
+    resolving(now) {
+        const silent = this.givenUp(now), waiting = this.datagrams.filter((address) => !silent.includes(address));
+        return [...this.asked].map(([address, at]) => {
+            const isNext = waiting.length && ![...waiting, ...this.remote.values(), this.router].includes(address);
+            return isNext ? [at + NEIGHBOR, `resolves ${waiting[0]}`, `requests go a second apart, and ${address} was asked last`]
+                : [at + NEIGHBOR, `resolves ${address}`, 'no answer yet'];
+        });
+    }
+
+    // Of a SYN that never was on the link, when it goes again: as with `timers`.
+    unsent(now) {
+        const ports = [...this.connections.values()].map((it) => it.ends[0].port), silent = this.givenUp(now), found = [];
+        for (const [socket, remote] of this.remote) {
+            const hop = silent.includes(remote) ? remote : this.router;
+            if (this.states.get(socket) === 'SYN-SENT' && !ports.includes(this.local.get(socket)) && silent.includes(hop)) {
+                found.push([null, 'retransmission timer', `the SYN was dropped, as ${hop} did not answer ${MOST_REQUESTS} requests`]);
+            }
+        }
+        return found;
+    }
+
+    // Keeps the longest wait for a moment, as where it began, where it ended, and why.
+    onWake(wake, now, why) {
+        if (this.waiting && this.waiting[1] !== wake) {
+            const [began, , old] = this.waiting;
+            if (now > began && (!this.longest || now - began > this.longest[1] - this.longest[0])) this.longest = [began, now, old];
+            this.waiting = null;
+        }
+        if (wake !== null && wake > now) this.waiting = [this.waiting?.[0] ?? now, wake, why];
+    }
+
     // Why the host wants to be polled then, as a name and more words.
     reason(wake, now, peerFrames, row) {
-        const found = [...this.asked].map(([address, at]) => [at + NEIGHBOR, `resolves ${address}`, 'no answer yet']);
+        const found = [...this.resolving(now), ...this.unsent(now)];
         for (const connection of this.connections.values()) {
             const state = this.states.get(this.socketOf(connection.ends[0].port));
             found.push(...timers(connection, state, this.queuedOf(connection), peerFrames, row));

@@ -1,6 +1,6 @@
 // A row for each event: what stands beside each host's lane, and which frames leave there. As tools/flow/rows.py.
 import {bytesOfHex, hexOf} from './frames.mjs';
-import {Host} from './hosts.mjs';
+import {Host, MOST_REQUESTS} from './hosts.mjs';
 import {CALLS, OTHER, POLLS} from './play.mjs';
 import {cut} from './svg.mjs';
 
@@ -104,6 +104,9 @@ export class Rows {
             const unsure = row.taken.some((handing) => handing.isUnsure) ? ' or an earlier poll did' : '';
             const past = row.moment !== row.now ? ` at ${seconds(row.moment)}` : '';
             beside.push(['poll', `${words[0]}${past}${took ? ` takes ${took}${unsure}` : ''} → ${said}`, row.step.line]);
+            for (const address of this.hosts[name].newlyGivenUp(row.moment)) {
+                beside.push(['refused', `gives up on ${address}: ${MOST_REQUESTS} requests, no answer`, null]);
+            }
             if (this.history.room[name] === 0 && words[0] === 'poll') beside.push(['refused', 'its device has no room', null]);
         } else if (CALLS.includes(words[0]) || refused && !['deliver', 'damage', 'cut', 'noise', 'state', 'pollat'].includes(words[0])) {
             const socket = this.many[name] && words[2] && /^\d+$/.test(words[2]) ? `socket ${words[2]}: ` : '';
@@ -163,6 +166,7 @@ export class Rows {
         const host = this.hosts[owner], asked = row.step.words[0] === 'pollat';
         host.wake = wake;
         const [name, more] = wake === null ? [null, null] : host.reason(wake, row.moment, this.history.frames[OTHER[owner]], row.at);
+        host.onWake(wake, row.moment, more ? `${name}: ${more}` : name);
         const told = wake === null ? null : `${wake} ${name}`, changed = host.told !== told;
         host.told = told;
         if (wake === null) {

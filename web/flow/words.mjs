@@ -1,5 +1,9 @@
 // The counts, and what a reader looks for first. As tools/flow/words.py.
 import {connections} from './graph.mjs';
+import {seconds} from './rows.mjs';
+
+// A wait of so many microseconds is told of.
+const WORTH_TELLING = 200_000n;
 
 export function counts(history) {
     const frames = history.allFrames(), handings = history.handings, many = (things, test) => things.filter(test).length;
@@ -35,6 +39,13 @@ export function remarks(history, rows) {
                     ['Damaged', history.handings.filter((it) => it.kind === 'damage').map((it) => `${it.frame.host} ${it.frame.name}`)]];
     const said = groups.filter(([, found]) => found.length).map(([title, found]) =>
         [title, found.slice(0, 12).join('; ') + (found.length > 12 ? `; and ${found.length - 12} more` : '')]);
+    for (const [name, {silent}] of Object.entries(rows.hosts)) {
+        const title = silent.size > 1 ? 'Neighbors that never answered' : 'A neighbor that never answered';
+        if (silent.size) said.push([title, `${name} gave up on ${[...silent.keys()].join(', ')}`]);
+    }
+    for (const [name, {longest}] of Object.entries(rows.hosts)) {
+        if (longest && longest[1] - longest[0] >= WORTH_TELLING) said.push([`Longest wait of ${name}`, `${seconds(longest[0])} to ${seconds(longest[1])}: ${longest[2]}`]);
+    }
     for (const host of 'AB') said.push([`At the end ${host}`, rows.atEnd(host)]);
     for (const words of streams(history, rows)) said.push(['Stream', words]);
     return said;
