@@ -20,10 +20,13 @@ use Rattle.ip_wire.specs.Ipv4Address.{Ipv4Address}
 use Rattle.ip_wire.specs.Ipv6Address.{Ipv6Address}
 use Rattle.socket_context.specs.Context.{ContextValue}
 use Rattle.iface_tables.specs.ErrorLimit.{may_answer, answered_at}
+pub use Rattle.iface_tables.specs.Groups.{is_all_systems, is_all_nodes}
+use Rattle.iface_tables.specs.Groups.{is_joined}
 use Rattle.iface_tables.specs.Neighbor.{CacheValue, lookup, is_found, filled, renewed, requested, search_room, silent_time, entry_lifetime}
 use Rattle.iface_tables.specs.PathMtu.{mtu_towards, end_towards, lowered}
 use Rattle.iface_tables.specs.Route.{best_route, router_of}
 use Rattle.iface_tables.specs.Source.{source_for}
+use Rattle.iface_tables.specs.declared.groups.Group.{Group}
 use Rattle.iface_tables.specs.declared.link.LinkAddress.{LinkAddress}
 use Rattle.iface_tables.specs.declared.link.LinkAddress.TheVariants as Link
 use Rattle.iface_tables.specs.declared.neighbor.Answer.{Answer}
@@ -33,8 +36,8 @@ use Rattle.iface_tables.specs.declared.route.Route.{Route}
 
 -- The instant of the call that runs, or of the last one; the state of the random words; the hardware address, `Ip` on a medium
 -- that has none; the longest IP packet of a frame; the checksums that the stack handles itself; the key of 16 bytes by which first
--- numbers of connections are told, if there is one; the local addresses, and whether every address is one; the routes, how many there can
--- be, and the neighbours;
+-- numbers of connections are told, if there is one; the local addresses, and whether every address is one; the multicast groups that were
+-- joined; the routes, how many there can be, and the neighbours;
 -- the identification of the next IPv4 datagram; the instant up to which errors that went are counted; what was told of paths;
 -- whether nothing ran yet; and whether it does what RFC 1122 and the standards after it ask of a host on a network of many, where smoltcp
 -- does otherwise.
@@ -47,6 +50,7 @@ pub record InnerValue : Type 0 where
   pub isn_key : Option (List ℕ)
   pub addresses : List IpCidr
   pub any_ip : Bool
+  pub groups : List Group
   pub routes : List Route
   pub route_room : ℕ
   pub neighbors : CacheValue
@@ -83,14 +87,6 @@ is_local_broadcast i (Ip.Ipv6 address) = false
 
 -- GROUPS
 
--- 224.0.0.1
-abbrev pub is_all_systems : Ipv4Address → Bool
-is_all_systems a = bytes_eq a.0 (224 ∷ 0 ∷ 0 ∷ 1 ∷ [])
-
--- ff02::1
-abbrev pub is_all_nodes : Ipv6Address → Bool
-is_all_nodes a = bytes_eq a.0 (0xff ∷ 2 ∷ replicate 13 0 ++ 1 ∷ [])
-
 -- the group's last 24 bits are the address's, after the solicited-node prefix (RFC 4291, section 2.7.1)
 abbrev pub solicits : Ipv6Address → Ipv6Address → Bool
 solicits group address = is_solicited_node group && bytes_eq (drop 13 group.0) (drop 13 address.0)
@@ -104,8 +100,9 @@ abbrev pub is_local_solicited_node : InnerValue → Ipv6Address → Bool
 is_local_solicited_node i group = list_any (solicits_cidr group) i.addresses
 
 abbrev pub is_member_of : InnerValue → IpAddress → Bool
-is_member_of i (Ip.Ipv4 group) = is_all_systems group
-is_member_of i (Ip.Ipv6 group) = is_all_nodes group || is_local_solicited_node i group
+is_member_of i (Ip.Ipv4 group) = is_all_systems group || is_joined i.groups (Ip.Ipv4 group)
+is_member_of i (Ip.Ipv6 group) =
+    is_all_nodes group || is_local_solicited_node i group || is_joined i.groups (Ip.Ipv6 group)
 
 -- Who looks for an address in use asks by this group for this address, which is an own one (RFC 4862, section 5.4.3). What is
 -- own by `any_ip` alone is nobody's.

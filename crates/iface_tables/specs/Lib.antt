@@ -1,6 +1,7 @@
 pub mod Best
 pub mod ErrorLimit
 pub mod Indexed
+pub mod Groups
 pub mod Inner
 pub mod Looks
 pub mod Neighbor

@@ -11,7 +11,9 @@ use Rattle.ip_wire.specs.AddressTests.{is_ethernet_unicast, is_unicast, is_unspe
 use Rattle.ip_wire.specs.Cidr.{cidr_address}
 use Rattle.ip_wire.specs.HardwareAddress.{HardwareAddress}
 use Rattle.ip_wire.specs.HardwareAddress.TheVariants as Hardware
+use Rattle.ip_wire.specs.IpAddress.{IpAddress}
 use Rattle.ip_wire.specs.IpCidr.{IpCidr}
+use Rattle.iface_tables.specs.Groups.{join_refusal, joined, leave_refusal, left}
 use Rattle.iface_tables.specs.Inner.{InnerValue}
 use Rattle.iface_tables.specs.Neighbor.{flushed}
 use Rattle.iface_tables.specs.Neighbor as Neighbors
@@ -87,6 +89,7 @@ made config device instant = record {
   isn_key = config.isn_key;
   addresses = [];
   any_ip = false;
+  groups = [];
   routes = [];
   route_room = config.max_route_count;
   neighbors = Neighbors.initial (Neighbors.cache_room config.neighbor_cache_count);
@@ -132,6 +135,13 @@ with_addresses i blocks =
 
 abbrev pub with_any_ip : InnerValue → Bool → InnerValue
 with_any_ip i any_ip = record i { any_ip = any_ip; initial = false }
+
+-- a host that listens to one group more, or to one less
+abbrev pub with_group : InnerValue → IpAddress → InnerValue
+with_group i address = if_none (join_refusal i.groups address) (record i { groups = joined i.groups address; initial = false }) i
+
+abbrev pub without_group : InnerValue → IpAddress → InnerValue
+without_group i address = if_none (leave_refusal address) (record i { groups = left i.groups address }) i
 
 abbrev pub with_routes : InnerValue → List Route → InnerValue
 with_routes i routes = record i { routes = routes }

@@ -18,9 +18,11 @@ ghost use Rattle.iface_tables.specs.Inner.{is_known_hop, has_neighbor, is_in_lin
 ghost use Rattle.iface_tables.specs.Inner.{with_next_ident, with_neighbor, with_renewal, with_request, awaited_hop};
 ghost use Rattle.iface_tables.specs.Inner.{is_crowded, next_request, may_tell, with_error, mtu_to, path_end, with_path};
 ghost use Rattle.iface_tables.specs.Settings.{refusal, made, unless, first_ident, hardware_refusal, with_hardware, is_stranger, with_addresses};
-ghost use Rattle.iface_tables.specs.Settings.{with_any_ip, routes_of, with_route_table, used, MadeUnless};
+ghost use Rattle.iface_tables.specs.Groups.{join_refusal, leave_refusal};
+ghost use Rattle.iface_tables.specs.Settings.{with_group, without_group, with_any_ip, routes_of, with_route_table, used, MadeUnless};
 
 use crate::config::{Config, HardwareAddrError, NewError, NotUnicast, TABLE_ROOM, refusal};
+use crate::groups::{Groups, MulticastError, leave_refusal};
 use crate::link::LinkAddress;
 use crate::neighbor::{Answer, Cache, SILENT_MILLIS};
 use crate::path_mtu::Paths;
@@ -54,6 +56,7 @@ pub struct InterfaceInner {
     isn_key: Option<[u8; 16]>,
     ip_addrs: ArrayVec<IpCidr, TABLE_ROOM>,
     any_ip: bool,
+    groups: Groups,
     routes: Routes,
     neighbor_cache: Cache,
     ipv4_id: u16,
@@ -80,6 +83,7 @@ impl Model for InterfaceInner {
       addresses =
           i.ip_addrs.items;
       any_ip = i.any_ip;
+      groups = i.groups;
       routes = i.routes.entries;
       route_room = i.routes.room;
       neighbors = i.neighbor_cache;
@@ -123,6 +127,7 @@ impl InterfaceInner {
             isn_key: config.isn_key,
             ip_addrs: ArrayVec::new(),
             any_ip: false,
+            groups: Groups::new(),
             routes,
             neighbor_cache,
             ipv4_id: if word == 0 { 1 } else { word },
@@ -239,14 +244,18 @@ impl InterfaceInner {
             && is_in_list(self.ip_addrs.as_slice(), &IpAddress::Ipv6(*address))
     }
 
-    /// Whether the host listens to this group: all systems, all nodes, or an own solicited-node address.
+    /// Whether the host listens to this group: all systems, all nodes, an own solicited-node address, or one that was joined.
     pub fn has_multicast_group(&self, addr: &IpAddress) -> bool
         ensures { result ≡ is_member_of self.now addr.now }
     {
         match addr {
-            IpAddress::Ipv4(group) => *group == IPV4_MULTICAST_ALL_SYSTEMS,
+            IpAddress::Ipv4(group) => {
+                *group == IPV4_MULTICAST_ALL_SYSTEMS || self.groups.has(addr)
+            }
             IpAddress::Ipv6(group) => {
-                *group == IPV6_LINK_LOCAL_ALL_NODES || self.has_solicited_node(group)
+                *group == IPV6_LINK_LOCAL_ALL_NODES
+                    || self.has_solicited_node(group)
+                    || self.groups.has(addr)
             }
         }
     }
@@ -553,6 +562,35 @@ impl InterfaceInner {
     {
         self.any_ip = any_ip;
         self.is_fresh = false;
+    }
+
+    /// Listens to this group from now on.
+    pub fn join_multicast_group(&mut self, addr: IpAddress) -> Result<(), MulticastError>
+        ensures answer { result ≡ unless (join_refusal self.old.groups addr) tt }
+        ensures after { self.new ≡ with_group self.old addr }
+    {
+        match self.groups.join_refusal(&addr) {
+            Some(error) => Err(error),
+            None => {
+                self.groups.join(addr);
+                self.is_fresh = false;
+                Ok(())
+            }
+        }
+    }
+
+    /// Listens to this group no longer.
+    pub fn leave_multicast_group(&mut self, addr: &IpAddress) -> Result<(), MulticastError>
+        ensures answer { result ≡ unless (leave_refusal addr.now) tt }
+        ensures after { self.new ≡ without_group self.old addr.now }
+    {
+        match leave_refusal(addr) {
+            Some(error) => Err(error),
+            None => {
+                self.groups.leave(addr);
+                Ok(())
+            }
+        }
     }
 
     /// Sets the local addresses and forgets every neighbour, if each is one host's or unspecified.

@@ -1,0 +1,159 @@
+//! The multicast groups that a host listens to because its user joined them (RFC 1112, section 7.1).
+ghost use Rattle.std.specs.Prelude.{◌≡◌, ◌<◌, [], length, None};
+ghost use Rattle.std.specs.List.{list_any};
+ghost use Rattle.std.specs.Option.{ForSome};
+ghost use Rattle.std.specs.Prelude.{position};
+ghost use Rattle.iface_tables.specs.Groups.{group_room, is_all_systems, is_all_nodes, is_heard_by_all, is_of, is_joined, join_refusal, joined, leave_refusal, left};
+
+use arrayvec::ArrayVec;
+use ip_wire::{IPV4_MULTICAST_ALL_SYSTEMS, IPV6_LINK_LOCAL_ALL_NODES, IpAddress, Ipv4Address};
+use socket_context::addresses::{is_multicast, is_same_address};
+use std::marker::Model;
+use thiserror::Error;
+
+/// How many groups a host can join.
+pub const GROUP_ROOM: usize = 8;
+
+/// Why a multicast group isn't joined or left.
+#[derive(Clone, Copy, Debug, PartialEq, Eq, Error)]
+pub enum MulticastError {
+    /// As many groups are joined as there is room for.
+    #[error("group table full")]
+    GroupTableFull,
+    /// The address isn't a group's.
+    #[error("unaddressable")]
+    Unaddressable,
+}
+
+/// A group that was joined.
+#[derive(Clone, Copy, Debug)]
+pub struct Group {
+    pub addr: IpAddress,
+}
+
+/// What stands in an unused place of a table.
+impl Default for Group {
+    ghost use Rattle.iface_tables.specs.Groups.{no_group};
+
+    ghost is_default = { λ g. g ≡ no_group };
+
+    fn default() -> Group {
+        Group {
+            addr: IpAddress::Ipv4(Ipv4Address::UNSPECIFIED),
+        }
+    }
+}
+
+/// The groups that were joined.
+#[derive(Debug, Drop)]
+pub struct Groups {
+    entries: ArrayVec<Group, GROUP_ROOM>,
+}
+
+impl Model for Groups {
+    ghost use Rattle.std.specs.Prelude.{List};
+    ghost use Rattle.iface_tables.specs.declared.groups.Group.{Group};
+
+    ghost Value = { List Group };
+
+    ghost view = { λ g. g.entries.items };
+}
+
+impl Groups {
+    /// No group was joined.
+    pub fn new() -> Groups
+        ensures { result ≡ [] }
+    {
+        Groups {
+            entries: ArrayVec::new(),
+        }
+    }
+
+    /// The groups, in the order in which they were joined.
+    pub fn as_slice(&self) -> &[Group]
+        ensures { result.now ≡ self.now }
+    {
+        self.entries.as_slice()
+    }
+
+    /// Whether this group was joined. No address that is no group's was.
+    pub fn has(&self, addr: &IpAddress) -> bool
+        ensures { result ≡ is_joined self.now addr.now }
+    {
+        is_multicast(addr) && self.names(addr)
+    }
+
+    fn names(&self, addr: &IpAddress) -> bool
+        ensures { result ≡ list_any (is_of addr.now) self.now }
+    {
+        self.entries
+            .as_slice()
+            .iter()
+            .any(|group| is_same_address(&group.addr, addr))
+    }
+
+    /// Why this group can't be joined.
+    pub fn join_refusal(&self, addr: &IpAddress) -> Option<MulticastError>
+        ensures { result ≡ join_refusal self.now addr.now }
+    {
+        if !is_multicast(addr) {
+            Some(MulticastError::Unaddressable)
+        } else if is_heard_by_all(addr) || self.names(addr) {
+            None
+        } else if self.entries.is_full() {
+            Some(MulticastError::GroupTableFull)
+        } else {
+            None
+        }
+    }
+
+    /// Joins this group, if it isn't there already and isn't one that every host listens to.
+    pub fn join(&mut self, addr: IpAddress)
+        requires { join_refusal self.old addr ≡ None }
+        ensures { self.new ≡ joined self.old addr }
+    {
+        if !is_heard_by_all(&addr) && !self.names(&addr) && !self.entries.is_full() {
+            self.entries.push(Group { addr });
+        }
+    }
+
+    /// Leaves this group, if it is there.
+    pub fn leave(&mut self, addr: &IpAddress)
+        ensures { self.new ≡ left self.old addr.now }
+    {
+        if let Some(at) = index_of(self.entries.as_slice(), addr) {
+            self.entries.remove(at);
+        }
+    }
+}
+
+/// Where this group is.
+fn index_of(groups: &[Group], addr: &IpAddress) -> Option<usize>
+    ensures index { result ≡ position (is_of addr.now) groups.now }
+    ensures in_range { ForSome result (λ at. at < length groups.now) }
+{
+    groups
+        .iter()
+        .position(|group| is_same_address(&group.addr, addr))
+}
+
+/// Whether every host listens to this group: all systems, or all nodes.
+pub fn is_heard_by_all(addr: &IpAddress) -> bool
+    ensures { result ≡ is_heard_by_all addr.now }
+{
+    match addr {
+        IpAddress::Ipv4(group) => *group == IPV4_MULTICAST_ALL_SYSTEMS,
+        IpAddress::Ipv6(group) => *group == IPV6_LINK_LOCAL_ALL_NODES,
+    }
+}
+
+/// Why this group isn't left: it is no group.
+pub fn leave_refusal(addr: &IpAddress) -> Option<MulticastError>
+    ensures { result ≡ leave_refusal addr.now }
+{
+    if is_multicast(addr) {
+        None
+    } else {
+        Some(MulticastError::Unaddressable)
+    }
+}
