@@ -5,7 +5,7 @@ use crate::host::Host;
 use crate::refusal_text::{Refusal, Said};
 use crate::stop::Class;
 use crate::words::Words;
-use interface::{HardwareAddrError, Interface, Route, Routes};
+use interface::{HardwareAddrError, Interface, MulticastError, Route, Routes};
 use ip_wire::IpAddress;
 use net_base::{Duration, Instant};
 use std::alloc::Global;
@@ -17,6 +17,8 @@ pub enum Verb {
     Hw,
     Announce,
     AnyIp,
+    Join,
+    Leave,
     Reassembly,
     Assemblers,
     Route,
@@ -37,6 +39,7 @@ pub fn play(alloc: Global, host: &mut Host, verb: Verb, words: &mut Words<'_>) -
         Verb::Addrs => set_addresses(interface, words),
         Verb::Hw => set_hardware(interface, words),
         Verb::AnyIp => set_any_ip(interface, words),
+        Verb::Join | Verb::Leave => change_group(interface, verb, words),
         Verb::Reassembly => set_reassembly_timeout(interface, words),
         Verb::Assemblers => set_reassembly_slots(alloc, interface, words),
         Verb::Route => set_router(interface, false, words),
@@ -64,6 +67,23 @@ fn set_any_ip(interface: &mut Interface, words: &mut Words<'_>) -> Answer {
         interface.set_any_ip(any);
     }
     Answer::Done
+}
+
+fn change_group(interface: &mut Interface, verb: Verb, words: &mut Words<'_>) -> Answer {
+    let group = words.address();
+    words.end();
+    if !words.is_taken() {
+        return Answer::Done;
+    }
+    let answer = match verb {
+        Verb::Join => interface.join_multicast_group(group),
+        _ => interface.leave_multicast_group(group),
+    };
+    match answer {
+        Ok(()) => Answer::Done,
+        Err(MulticastError::GroupTableFull) => Answer::Error(Refusal::GroupTableFull),
+        Err(MulticastError::Unaddressable) => Answer::Error(Refusal::Unaddressable),
+    }
 }
 
 fn set_hardware(interface: &mut Interface, words: &mut Words<'_>) -> Answer {

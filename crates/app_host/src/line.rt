@@ -62,6 +62,8 @@ fn of_host(word: &str) -> Line {
         "hw" => Line::Host(host_lines::Verb::Hw),
         "announce" => Line::Host(host_lines::Verb::Announce),
         "any_ip" => Line::Host(host_lines::Verb::AnyIp),
+        "join" => Line::Host(host_lines::Verb::Join),
+        "leave" => Line::Host(host_lines::Verb::Leave),
         "reassembly" => Line::Host(host_lines::Verb::Reassembly),
         "slots" => Line::Host(host_lines::Verb::Assemblers),
         "route" => Line::Host(host_lines::Verb::Route),

@@ -72,6 +72,7 @@ same_settings i i' plan sent h is = record {
   addresses = ap (λ (x : InnerValue). x.addresses) is;
   isn_key = ap (λ (x : InnerValue). x.isn_key) is;
   any_ip = ap (λ (x : InnerValue). x.any_ip) is;
+  groups = ap (λ (x : InnerValue). x.groups) is;
   host_requirements = ap (λ (x : InnerValue). x.host_requirements) is;
   routes = ap (λ (x : InnerValue). x.routes) is;
 }

@@ -91,5 +91,6 @@ pub record HasSettingsOf (old new : InnerValue) : Type 0 where
   pub addresses : new.addresses ≡ old.addresses
   pub isn_key : new.isn_key ≡ old.isn_key
   pub any_ip : new.any_ip ≡ old.any_ip
+  pub groups : new.groups ≡ old.groups
   pub host_requirements : new.host_requirements ≡ old.host_requirements
   pub routes : new.routes ≡ old.routes

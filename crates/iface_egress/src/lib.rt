@@ -25,8 +25,8 @@ pub use fill::{Fill, send};
 pub use fragmenter::{Cut, Fragmenter, Left, MAX_CUT_PAYLOAD};
 pub use frame::{ArpFrame, CutHeader, FragmentPart, NeighborQuery, ask};
 pub use iface_tables::{
-    Config, HardwareAddrError, InterfaceInner, LinkAddress, NewError, NotUnicast,
-    PacketAssemblerSet, Route, RouteTableFull, Routes, TABLE_ROOM,
+    Config, GROUP_ROOM, HardwareAddrError, InterfaceInner, LinkAddress, MulticastError, NewError,
+    NotUnicast, PacketAssemblerSet, Route, RouteTableFull, Routes, TABLE_ROOM,
 };
 pub use key_index::Wanted;
 pub use payload::{Carried, Direct, LentDatagram, LentSegment};

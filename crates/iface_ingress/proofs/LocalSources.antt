@@ -31,6 +31,8 @@ use Rattle.ip_wire.specs.TcpHeader.{TcpHeader}
 use Rattle.sockets.specs.TcpSegments.{rst_reply}
 use Rattle.socket_context.specs.Packet.{PacketValue, PayloadValue, ControlV4, ControlV6}
 use Rattle.iface_tables.specs.Best.{at_index}
+use Rattle.iface_tables.specs.Groups.{is_joined, is_of}
+use Rattle.iface_tables.specs.declared.groups.Group.{Group}
 use Rattle.iface_tables.specs.Inner.{InnerValue, is_address_of, is_local, is_for_us, is_member_of, is_local_broadcast, is_all_systems, is_all_nodes, is_loopback_in}
 use Rattle.iface_tables.specs.Inner.{solicits, solicits_cidr, is_local_solicited_node, is_probed}
 use Rattle.iface_tables.specs.Source.{source_v6, first_v4, is_v4, v4_address}
@@ -94,13 +96,26 @@ neither false false one other = refl
 neither true b one other = clash true refl one
 neither false true one other = clash true refl other
 
+and_not : (a b : Bool) → b ≡ false → (a && b) ≡ false
+and_not false b is = refl
+and_not true b is = is
+
+-- what was joined is a group
+not_joined : (groups : List Group) (a : IpAddress) → is_multicast a ≡ false → is_joined groups a ≡ false
+not_joined groups a one = and_not (list_any (is_of a) groups) (is_multicast a) one
+
 -- a group of the host's is a group
 no_member : (i : InnerValue) (a : IpAddress) → is_multicast a ≡ false → is_member_of i a ≡ false
-no_member i (Address.Ipv4 a) one = not_true (is_all_systems a) (λ is. clash (is_multicast_v4 a) (systems_are_many a is) one)
+no_member i (Address.Ipv4 a) one =
+    neither (is_all_systems a) (is_joined i.groups (Address.Ipv4 a))
+    (not_true (is_all_systems a) (λ is. clash (is_multicast_v4 a) (systems_are_many a is) one))
+    (not_joined i.groups (Address.Ipv4 a) one)
 no_member i (Address.Ipv6 a) one =
-    neither (is_all_nodes a) (list_any (solicits_cidr a) i.addresses)
+    neither (is_all_nodes a) (list_any (solicits_cidr a) i.addresses || is_joined i.groups (Address.Ipv6 a))
     (not_true (is_all_nodes a) (λ is. clash (is_multicast_v6 a) (nodes_are_many a is) one))
+    (neither (list_any (solicits_cidr a) i.addresses) (is_joined i.groups (Address.Ipv6 a))
     (none_solicits a i.addresses (not_true (is_solicited_node a) (λ is. clash (is_multicast_v6 a) (solicited_are_many a is) one)))
+    (not_joined i.groups (Address.Ipv6 a) one))
 
 pub own_of : (i : InnerValue) (a : IpAddress) → is_for_us i a ≡ true → is_for_many i a ≡ false → is_loopback_in a ≡ false → is_local i a ≡ true
 own_of i a ours one elsewhere =

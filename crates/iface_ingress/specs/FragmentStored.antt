@@ -83,6 +83,7 @@ pub record HasSameSettings (i i' : InnerValue) : Type 0 where
   pub addresses : i'.addresses ≡ i.addresses
   pub isn_key : i'.isn_key ≡ i.isn_key
   pub any_ip : i'.any_ip ≡ i.any_ip
+  pub groups : i'.groups ≡ i.groups
   pub host_requirements : i'.host_requirements ≡ i.host_requirements
   pub routes : i'.routes ≡ i.routes
   pub route_room : i'.route_room ≡ i.route_room

@@ -37,7 +37,7 @@ is_of address group = is_same_address group.addr address
 
 -- No address that is no group's is joined.
 abbrev pub is_joined : List Group → IpAddress → Bool
-is_joined groups address = is_multicast address && list_any (is_of address) groups
+is_joined groups address = list_any (is_of address) groups && is_multicast address
 
 -- why a group isn't joined
 abbrev pub join_refusal : List Group → IpAddress → Option MulticastError

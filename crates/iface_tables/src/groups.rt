@@ -80,7 +80,7 @@ impl Groups {
     pub fn has(&self, addr: &IpAddress) -> bool
         ensures { result ≡ is_joined self.now addr.now }
     {
-        is_multicast(addr) && self.names(addr)
+        self.names(addr) && is_multicast(addr)
     }
 
     fn names(&self, addr: &IpAddress) -> bool

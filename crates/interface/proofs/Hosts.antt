@@ -41,6 +41,7 @@ begins_so t old i has = record {
   addresses = has.addresses;
   isn_key = has.isn_key;
   any_ip = has.any_ip;
+  groups = has.groups;
   host_requirements = has.host_requirements;
   routes =
       has.routes;
@@ -54,6 +55,7 @@ arrives_so old i i' same has = record {
   addresses = same.addresses ∙ has.addresses;
   isn_key = same.isn_key ∙ has.isn_key;
   any_ip = same.any_ip ∙ has.any_ip;
+  groups = same.groups ∙ has.groups;
   host_requirements = same.host_requirements ∙ has.host_requirements;
   routes = same.routes ∙ has.routes;
 }
@@ -66,6 +68,7 @@ sends_so old i i' same has = record {
   addresses = ap (λ (x : InnerValue). x.addresses) same ∙ has.addresses;
   isn_key = ap (λ (x : InnerValue). x.isn_key) same ∙ has.isn_key;
   any_ip = ap (λ (x : InnerValue). x.any_ip) same ∙ has.any_ip;
+  groups = ap (λ (x : InnerValue). x.groups) same ∙ has.groups;
   host_requirements = ap (λ (x : InnerValue). x.host_requirements) same ∙ has.host_requirements;
   routes = ap (λ (x : InnerValue). x.routes) same ∙ has.routes;
 }
@@ -82,6 +85,7 @@ settings_so {D} moves t budget s s' changed polls =
       isn_key = refl;
       addresses = refl;
       any_ip = refl;
+      groups = refl;
       host_requirements = refl;
       routes = refl;
     } in

@@ -54,6 +54,17 @@ keeps_in i i' same =
       isn_key = i.isn_key;
       addresses = i.addresses;
       any_ip = i.any_ip;
+      groups = x;
+    }) same.groups
+    ∙ ap (λ x. record i' {
+      instant = i.instant;
+      hardware = i.hardware;
+      mtu = i.mtu;
+      checksums = i.checksums;
+      isn_key = i.isn_key;
+      addresses = i.addresses;
+      any_ip = i.any_ip;
+      groups = i.groups;
       routes =
           x;
     }) same.routes
@@ -65,6 +76,7 @@ keeps_in i i' same =
       isn_key = i.isn_key;
       addresses = i.addresses;
       any_ip = i.any_ip;
+      groups = i.groups;
       routes =
           i.routes;
       route_room = x;
@@ -77,6 +89,7 @@ keeps_in i i' same =
       isn_key = i.isn_key;
       addresses = i.addresses;
       any_ip = i.any_ip;
+      groups = i.groups;
       routes =
           i.routes;
       route_room = i.route_room;
@@ -90,6 +103,7 @@ keeps_in i i' same =
       isn_key = i.isn_key;
       addresses = i.addresses;
       any_ip = i.any_ip;
+      groups = i.groups;
       routes =
           i.routes;
       route_room = i.route_room;
@@ -105,6 +119,7 @@ settings_kept t i i' keeps = record {
   addresses = ap (λ (x : InnerValue). x.addresses) keeps;
   isn_key = ap (λ (x : InnerValue). x.isn_key) keeps;
   any_ip = ap (λ (x : InnerValue). x.any_ip) keeps;
+  groups = ap (λ (x : InnerValue). x.groups) keeps;
   host_requirements = ap (λ (x : InnerValue). x.host_requirements) keeps;
   routes = ap (λ (x : InnerValue). x.routes) keeps;
 }
@@ -117,6 +132,7 @@ settings_then a b c first second = record {
   addresses = second.addresses ∙ first.addresses;
   isn_key = second.isn_key ∙ first.isn_key;
   any_ip = second.any_ip ∙ first.any_ip;
+  groups = second.groups ∙ first.groups;
   host_requirements = second.host_requirements ∙ first.host_requirements;
   routes = second.routes ∙ first.routes;
 }

@@ -30,6 +30,8 @@ pub use Rattle.iface_egress.specs.Departing
 pub use Rattle.iface_tables.specs.declared.route.Route
 pub use Rattle.iface_tables.specs.Assemblers
 pub use Rattle.iface_tables.specs.declared.config.HardwareAddrError
+pub use Rattle.iface_tables.specs.declared.groups.MulticastError
+pub use Rattle.iface_tables.specs.Groups
 pub use Rattle.iface_tables.specs.declared.config.Config
 pub use Rattle.iface_tables.specs.declared.config.NewError
 pub use Rattle.iface_egress.specs.declared.socket_set.Item

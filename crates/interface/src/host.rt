@@ -8,13 +8,16 @@ ghost use Rattle.ip_wire.specs.IpCidr.{IpCidr};
 ghost use Rattle.iface_tables.specs.Route.{RoutesValue};
 ghost use Rattle.iface_egress.specs.Inner.{is_local, is_member_of};
 ghost use Rattle.iface_egress.specs.Settings.{unless, hardware_refusal, with_hardware, is_stranger, with_addresses, with_any_ip, routes_of, with_route_table};
+ghost use Rattle.iface_egress.specs.Settings.{with_group, without_group};
+ghost use Rattle.interface.specs.Groups.{join_refusal, leave_refusal};
+ghost use Rattle.ip_wire.specs.IpAddress.{IpAddress};
 ghost use Rattle.iface_egress.specs.Source.{first_v4, first_v6, source_for, source_v4, source_v6};
 ghost use Rattle.interface.specs.Host.{host_at, maintained};
 ghost use Rattle.interface.specs.Made.{IsIdle, assembler_count, Makes, with_inner, with_assemblers, with_timeout};
 
 use arrayvec::ArrayVec;
 use iface_egress::{
-    Config, Fragmenter, HardwareAddrError, InterfaceInner, NewError, NotUnicast,
+    Config, Fragmenter, HardwareAddrError, InterfaceInner, MulticastError, NewError, NotUnicast,
     PacketAssemblerSet, Routes, TABLE_ROOM,
 };
 use iface_ingress::Context;
@@ -133,7 +136,7 @@ impl Interface {
         self.inner.get_source_address_ipv6(dst_addr)
     }
 
-    /// Whether the host listens to this group: all systems, all nodes, or an own solicited-node address.
+    /// Whether the host listens to this group: all systems, all nodes, an own solicited-node address, or one that was joined.
     pub fn has_multicast_group(&self, addr: &IpAddress) -> bool
         ensures { result ≡ is_member_of self.now.inner addr.now }
     {
@@ -209,6 +212,32 @@ impl Interface {
         ensures { self.new ≡ with_inner self.old (with_any_ip self.old.inner any_ip) }
     {
         self.inner.set_any_ip(any_ip);
+    }
+
+    /// Listens to this multicast group from now on: each datagram to it is for the host, and goes to the UDP sockets of its port. A group
+    /// that every host listens to, or that was joined already, stays as it is. Nothing is told to routers or switches (RFC 3376, RFC 3810):
+    /// where a switch forwards a group to those alone that report it, the group isn't heard.
+    pub fn join_multicast_group<T: Into<IpAddress>>(
+        &mut self,
+        addr: T,
+    ) -> Result<(), MulticastError>
+        ensures { (group : IpAddress) × T.converts addr group
+            × (result ≡ unless (join_refusal self.old.inner.groups group) tt)
+            × (self.new ≡ with_inner self.old (with_group self.old.inner group)) }
+    {
+        self.inner.join_multicast_group(addr.into())
+    }
+
+    /// Listens to this multicast group no longer, however often it was joined. One that isn't joined stays as it is.
+    pub fn leave_multicast_group<T: Into<IpAddress>>(
+        &mut self,
+        addr: T,
+    ) -> Result<(), MulticastError>
+        ensures { (group : IpAddress) × T.converts addr group
+            × (result ≡ unless (leave_refusal group) tt)
+            × (self.new ≡ with_inner self.old (without_group self.old.inner group)) }
+    {
+        self.inner.leave_multicast_group(&addr.into())
     }
 
     /// Lends the routes to `f`.

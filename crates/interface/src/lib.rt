@@ -26,9 +26,9 @@ pub use by_kind::SocketsByKind;
 pub use due_instant::{earlier, poll_instant, slot_instant};
 pub use host::Interface;
 pub use iface_egress::{
-    AddError, Config, Handles, HardwareAddrError, Idle, InterfaceInner, Item, Iter, IterMut, Meta,
-    NewError, NotUnicast, Route, RouteTableFull, Routes, Slots, SocketHandle, SocketSet,
-    SocketStorage, TABLE_ROOM, Wanted,
+    AddError, Config, GROUP_ROOM, Handles, HardwareAddrError, Idle, InterfaceInner, Item, Iter,
+    IterMut, Meta, MulticastError, NewError, NotUnicast, Route, RouteTableFull, Routes, Slots,
+    SocketHandle, SocketSet, SocketStorage, TABLE_ROOM, Wanted,
 };
 pub use listener::Listener;
 pub use poll::{PollIngressSingleResult, PollResult};

@@ -72,6 +72,7 @@ stayed first i seen = record {
   addresses = seen.addresses;
   isn_key = seen.isn_key;
   any_ip = seen.any_ip;
+  groups = seen.groups;
   host_requirements = seen.host_requirements;
   routes = refl;
 }

@@ -102,7 +102,7 @@ module _ (i : InnerValue) (t : ℤ) (low : pos 0 ≤ℤ t) (paths : i.paths ≡ 
 
   like : IsAsAt i i.instant i
   like = record {
-    settings = record { hardware = refl; mtu = refl; checksums = refl; addresses = refl; isn_key = refl; any_ip = refl; host_requirements = refl; routes = refl };
+    settings = record { hardware = refl; mtu = refl; checksums = refl; addresses = refl; isn_key = refl; any_ip = refl; groups = refl; host_requirements = refl; routes = refl };
     instant = refl;
     low = no_earlier i.errors_until;
     ident = λ small. small;

@@ -186,6 +186,7 @@ module _ (starts : Starts) where
       record {
         addresses = ap (λ (i : InnerValue). i.addresses) same;
         any_ip = ap (λ (i : InnerValue). i.any_ip) same;
+        groups = ap (λ (i : InnerValue). i.groups) same;
         mtu = ap (λ (i : InnerValue). i.mtu) same;
         checksums = ap (λ (i : InnerValue). i.checksums) same;
         isn_key = ap (λ (i : InnerValue). i.isn_key) same;
@@ -200,6 +201,7 @@ module _ (starts : Starts) where
       record {
         addresses = (all s).addresses;
         any_ip = (all s).any_ip;
+        groups = (all s).groups;
         mtu = on.mtu ∙ was.mtu;
         checksums = on.checksums ∙ was.checksums;
         isn_key = on.isn_key ∙ was.isn_key;

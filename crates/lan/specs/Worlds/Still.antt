@@ -33,13 +33,14 @@ host_in i = record {
 abbrev pub seats_of : Starts → (Side → ℕ) → Side → Seat
 seats_of starts slots side = record { slot = slots side; host = host_in (start starts side).host.inner }
 
--- A host stays as it showed itself to its sockets at first. Its clock shows an instant. It has the addresses that it had, none of which is a loopback
--- one. No message told that a path carries less than a frame (RFC 8201, section 4). It answered nothing that no socket of it takes, neither by an
+-- A host stays as it showed itself to its sockets at first. Its clock shows an instant. It has the addresses and groups that it had, and no
+-- loopback address. No message told that a path carries less than a frame (RFC 8201, section 4). It answered nothing that no socket of it takes, neither by an
 -- error (RFC 1122, section 4.1.3.1) nor by a reset (RFC 9293, section 3.10.7.1).
 pub record IsStill (first i : InnerValue) : Type 0 where
   pub instant : IsMoment i.instant
   pub addresses : i.addresses ≡ first.addresses
   pub any_ip : i.any_ip ≡ first.any_ip
+  pub groups : i.groups ≡ first.groups
   pub outward : list_any (λ b. is_loopback (cidr_address b)) i.addresses ≡ false
   pub paths : i.paths ≡ []
   pub errors : i.errors_until ≡ first.errors_until

@@ -59,6 +59,7 @@ may_ask_throughout {E} moves t u now s x settings d hop p may reaches =
       addresses = same.addresses;
       isn_key = same.isn_key;
       any_ip = same.any_ip;
+      groups = same.groups;
       host_requirements = same.host_requirements;
       routes = same.routes;
     }) settings d hop p may

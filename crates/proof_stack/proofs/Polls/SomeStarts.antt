@@ -80,11 +80,11 @@ at_later = (omega (arith, ints), omega (arith, ints))
 
 pub stays_a : (t : ℤ) → IsMoment t → (ident : ℕ) (is_new : Bool)
     → IsStill (first_host A).inner (record (first_host A).inner { instant = t; ident = ident; initial = is_new })
-stays_a t instant ident is_new = record { instant = instant; addresses = refl; any_ip = refl; outward = refl; paths = refl; errors = refl }
+stays_a t instant ident is_new = record { instant = instant; addresses = refl; any_ip = refl; groups = refl; outward = refl; paths = refl; errors = refl }
 
 pub stays_b : (t : ℤ) → IsMoment t → (ident : ℕ) (is_new : Bool)
     → IsStill (first_host B).inner (record (first_host B).inner { instant = t; ident = ident; initial = is_new })
-stays_b t instant ident is_new = record { instant = instant; addresses = refl; any_ip = refl; outward = refl; paths = refl; errors = refl }
+stays_b t instant ident is_new = record { instant = instant; addresses = refl; any_ip = refl; groups = refl; outward = refl; paths = refl; errors = refl }
 
 pub both_stay : (a b : NodeValue) → IsStill (first_host A).inner a.host.inner → IsStill (first_host B).inner b.host.inner
     → AreStill starts (record { a = a; b = b })

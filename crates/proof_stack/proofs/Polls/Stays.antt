@@ -30,8 +30,9 @@ use Rattle.iface_ingress.specs.Processed.{names_no_endpoint}
 use Rattle.iface_ingress.specs.FragmentStored.{HasSameSettings}
 use Rattle.iface_ingress.specs.Packet.{PacketValue}
 use Rattle.iface_ingress.specs.Reassembled.{is_astray}
+use Rattle.iface_tables.specs.Groups.{is_joined}
 use Rattle.iface_tables.specs.Inner.{InnerValue, at_instant, context_of, is_address_of, is_all_nodes, is_broadcast_of, is_for_us, is_foreign_loopback}
-use Rattle.iface_tables.specs.Inner.{is_local_broadcast, is_loopback_in, is_loopback_of, is_mapped, is_member_of, is_local, solicits_cidr}
+use Rattle.iface_tables.specs.Inner.{is_local_broadcast, is_loopback_in, is_loopback_of, is_mapped, is_member_of, is_local, is_all_systems, solicits_cidr}
 use Rattle.iface_egress.specs.Departing.{HasSettingsOf}
 use Rattle.iface_egress.specs.Set.{free, socket_in}
 use Rattle.iface_egress.specs.declared.socket_meta.Meta.{Meta}
@@ -65,6 +66,7 @@ settings_out i i' is = record {
   addresses = ap (λ (x : InnerValue). x.addresses) is;
   isn_key = ap (λ (x : InnerValue). x.isn_key) is;
   any_ip = ap (λ (x : InnerValue). x.any_ip) is;
+  groups = ap (λ (x : InnerValue). x.groups) is;
   host_requirements = ap (λ (x : InnerValue). x.host_requirements) is;
   routes = ap (λ (x : InnerValue). x.routes) is;
 }
@@ -80,6 +82,7 @@ settings_in i i' same = record {
   addresses = same.addresses;
   isn_key = same.isn_key;
   any_ip = same.any_ip;
+  groups = same.groups;
   host_requirements = same.host_requirements;
   routes = same.routes;
 }
@@ -97,7 +100,7 @@ module _ {E : Type 0} (moves : E → Move → E → Type 0) (u : ℤ) where
   pub step_same : (s s' : State E) → Step moves u s s' → HasSettingsOf s.host.inner s'.host.inner
   step_same s s' (inl begins) =
       subst (λ (x : State E). HasSettingsOf s.host.inner x.host.inner) (sym begins)
-      (record { hardware = refl; mtu = refl; checksums = refl; addresses = refl; isn_key = refl; any_ip = refl; host_requirements = refl; routes = refl })
+      (record { hardware = refl; mtu = refl; checksums = refl; addresses = refl; isn_key = refl; any_ip = refl; groups = refl; host_requirements = refl; routes = refl })
   step_same s s' (inr (inl takes)) = takes_same s s' takes.0 takes.1
   step_same s s' (inr (inr (inl fragment))) =
       settings_at s.host.inner s'.host.inner
@@ -124,6 +127,7 @@ module _ {E : Type 0} (moves : E → Move → E → Type 0) (u : ℤ) where
         addresses = it.addresses;
         isn_key = it.isn_key;
         any_ip = it.any_ip;
+        groups = it.groups;
         host_requirements = it.host_requirements;
         routes = it.routes;
       }
@@ -143,8 +147,8 @@ module _ (i i' : InnerValue) (same : HasSettingsOf i i') where
   broadcast (Address.Ipv6 a) = refl
 
   member : (a : IpAddress) → is_member_of i' a ≡ is_member_of i a
-  member (Address.Ipv4 a) = refl
-  member (Address.Ipv6 a) = ap (λ (bs : List IpCidr). is_all_nodes a || list_any (solicits_cidr a) bs) same.addresses
+  member (Address.Ipv4 a) k = is_all_systems a || is_joined (same.groups k) (Address.Ipv4 a)
+  member (Address.Ipv6 a) k = is_all_nodes a || list_any (solicits_cidr a) (same.addresses k) || is_joined (same.groups k) (Address.Ipv6 a)
 
   own : (a : IpAddress) → is_local i' a ≡ is_local i a
   own a k = same.any_ip k || list_any (is_address_of a) (same.addresses k)

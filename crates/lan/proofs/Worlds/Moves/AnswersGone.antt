@@ -43,6 +43,7 @@ settings_on i0 i i' has same = record {
   addresses = same.addresses ∙ has.addresses;
   isn_key = same.isn_key ∙ has.isn_key;
   any_ip = same.any_ip ∙ has.any_ip;
+  groups = same.groups ∙ has.groups;
   host_requirements = same.host_requirements ∙ has.host_requirements;
   routes = same.routes ∙ has.routes;
 }

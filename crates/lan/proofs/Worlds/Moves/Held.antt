@@ -13,7 +13,8 @@ use Rattle.interface.specs.Serve.{with_source}
 use Rattle.iface_ingress.specs.IpAddress.{IpAddress}
 use Rattle.iface_ingress.specs.Processed.{is_for_many, names_no_endpoint}
 use Rattle.iface_ingress.specs.Reassembled.{is_astray}
-use Rattle.iface_tables.specs.Inner.{InnerValue, context_of, context_towards, is_address_of, is_all_nodes, is_broadcast_of, is_for_us, is_local_broadcast, is_loopback_in}
+use Rattle.iface_tables.specs.Groups.{is_joined}
+use Rattle.iface_tables.specs.Inner.{InnerValue, context_of, context_towards, is_address_of, is_all_nodes, is_all_systems, is_broadcast_of, is_for_us, is_local_broadcast, is_loopback_in}
 use Rattle.iface_tables.specs.Inner.{is_limited_broadcast, is_loopback_of, is_mapped, is_member_of, is_local, may_be_source, mtu_by_destination, solicits_cidr}
 use Rattle.iface_tables.specs.PathMtu.{mtu_towards}
 use Rattle.iface_tables.specs.declared.path_mtu.Path.{Path}
@@ -84,6 +85,7 @@ whole_path a now whole = refl
 pub record IsSeenAs (i0 i : InnerValue) : Type 0 where
   pub addresses : i.addresses ≡ i0.addresses
   pub any_ip : i.any_ip ≡ i0.any_ip
+  pub groups : i.groups ≡ i0.groups
   pub mtu : i.mtu ≡ i0.mtu
   pub checksums : i.checksums ≡ i0.checksums
   pub isn_key : i.isn_key ≡ i0.isn_key
@@ -93,6 +95,7 @@ pub seen_of : (i0 i : InnerValue) → HasSettingsOf i0 i → IsSeenAs i0 i
 seen_of i0 i has = record {
   addresses = has.addresses;
   any_ip = has.any_ip;
+  groups = has.groups;
   mtu = has.mtu;
   checksums = has.checksums;
   isn_key = has.isn_key;
@@ -126,8 +129,8 @@ module _ (i0 i : InnerValue) (seen : IsSeenAs i0 i) where
   owns a = λ k. seen.any_ip k || list_any (is_address_of a) (seen.addresses k)
 
   members : (a : IpAddress) → is_member_of i a ≡ is_member_of i0 a
-  members (Address.Ipv4 a) = refl
-  members (Address.Ipv6 a) = ap (λ (bs : List IpCidr). is_all_nodes a || list_any (solicits_cidr a) bs) seen.addresses
+  members (Address.Ipv4 a) = λ k. is_all_systems a || is_joined (seen.groups k) (Address.Ipv4 a)
+  members (Address.Ipv6 a) = λ k. is_all_nodes a || list_any (solicits_cidr a) (seen.addresses k) || is_joined (seen.groups k) (Address.Ipv6 a)
 
   pub for_us : (a : IpAddress) → is_for_us i a ≡ is_for_us i0 a
   for_us a = λ k. owns a k || members a k || broadcasts a k || is_loopback_in a

@@ -321,7 +321,7 @@ IsSince i0 i = HasSettingsOf i0 i × (i0.errors_until ≤ℤ i.errors_until)
 
 pub since_itself : (i : InnerValue) → IsSince i i
 since_itself i =
-    (record { hardware = refl; mtu = refl; checksums = refl; addresses = refl; isn_key = refl; any_ip = refl; host_requirements = refl; routes = refl }, no_earlier i.errors_until)
+    (record { hardware = refl; mtu = refl; checksums = refl; addresses = refl; isn_key = refl; any_ip = refl; groups = refl; host_requirements = refl; routes = refl }, no_earlier i.errors_until)
 
 pub since_begun : (i0 i : InnerValue) (t : ℤ) → IsSince i0 i → IsSince i0 (at_instant t i)
 since_begun i0 i t since = (
@@ -332,6 +332,7 @@ since_begun i0 i t since = (
     addresses = since.0.addresses;
     isn_key = since.0.isn_key;
     any_ip = since.0.any_ip;
+    groups = since.0.groups;
     host_requirements = since.0.host_requirements;
     routes = since.0.routes;
   },
@@ -347,6 +348,7 @@ since_arrival i0 i i' same later since = (
     addresses = same.addresses ∙ since.0.addresses;
     isn_key = same.isn_key ∙ since.0.isn_key;
     any_ip = same.any_ip ∙ since.0.any_ip;
+    groups = same.groups ∙ since.0.groups;
     host_requirements = same.host_requirements ∙ since.0.host_requirements;
     routes = same.routes ∙ since.0.routes;
   },
@@ -362,6 +364,7 @@ since_out i0 i i' same since = (
     addresses = ap (λ (x : InnerValue). x.addresses) same ∙ since.0.addresses;
     isn_key = ap (λ (x : InnerValue). x.isn_key) same ∙ since.0.isn_key;
     any_ip = ap (λ (x : InnerValue). x.any_ip) same ∙ since.0.any_ip;
+    groups = ap (λ (x : InnerValue). x.groups) same ∙ since.0.groups;
     host_requirements = ap (λ (x : InnerValue). x.host_requirements) same ∙ since.0.host_requirements;
     routes = ap (λ (x : InnerValue). x.routes) same ∙ since.0.routes;
   },

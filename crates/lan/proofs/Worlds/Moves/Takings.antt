@@ -302,6 +302,7 @@ module _ (names : List ℕ → Bool) (side : Side) (C G : Type 0) (N : IpAddress
       addresses = like.settings.addresses;
       isn_key = like.settings.isn_key;
       any_ip = like.settings.any_ip;
+      groups = like.settings.groups;
       host_requirements = like.settings.host_requirements;
       routes = like.settings.routes;
     };
