@@ -123,6 +123,8 @@ static void hosts_without_host(zv_host *none)
     WANT(zv_address_remove(none, &first), ZV_NO_HOST);
     WANT(zv_route_add(none, &first, 24, &second), ZV_NO_HOST);
     WANT(zv_route_remove(none, &first, 24), ZV_NO_HOST);
+    WANT(zv_group_join(none, &first), ZV_NO_HOST);
+    WANT(zv_group_leave(none, &first), ZV_NO_HOST);
     WANT(zv_host_set_hardware(none, &station), ZV_NO_HOST);
     WANT(zv_host_update_hardware(none, &station, &out.count), ZV_NO_HOST);
     WANT(zv_host_set_any_ip(none, 1), ZV_NO_HOST);
@@ -305,6 +307,25 @@ static void routes(void)
     for (int i = 0; i < 3; i++)
         WANT(zv_route_remove(&one, &network, 8), ZV_OK);
     WANT(zv_route_remove(&one, &network, 8), ZV_NOT_FOUND);
+}
+
+static void groups(void)
+{
+    const zv_address all = zv_ipv4(224, 0, 0, 1);
+    zv_address it = zv_ipv4(239, 1, 2, 0);
+    WANT(zv_group_join(&one, &any), ZV_BAD_ARGUMENT);
+    WANT(zv_group_leave(&one, &any), ZV_BAD_ARGUMENT);
+    WANT(zv_group_join(&one, &first), ZV_UNADDRESSABLE);
+    WANT(zv_group_leave(&one, &first), ZV_UNADDRESSABLE);
+    for (it.bytes[3] = 0; it.bytes[3] < 8; it.bytes[3]++)
+        WANT(zv_group_join(&one, &it), ZV_OK);
+    WANT(zv_group_join(&one, &it), ZV_TABLE_FULL);
+    WANT(zv_group_join(&one, &all), ZV_OK);
+    WANT(zv_group_leave(&one, &it), ZV_OK);
+    for (it.bytes[3] = 0; it.bytes[3] < 8; it.bytes[3]++) {
+        WANT(zv_group_join(&one, &it), ZV_OK);
+        WANT(zv_group_leave(&one, &it), ZV_OK);
+    }
 }
 
 /* Of 192.168.1.1 an ARP request tells, of 2001:db8::1 a neighbour advertisement. */
@@ -694,6 +715,7 @@ int main(void)
     hosts();
     addresses();
     routes();
+    groups();
     set_up();
     sockets();
     frames();

@@ -288,7 +288,9 @@ static void call(zv_host *host, int which)
         break;
     }
     default:
-        if (choice(64) == 0) {
+        if (choice(32) == 0) {
+            code = choice(2) ? zv_group_join(host, &address) : zv_group_leave(host, &address);
+        } else if (choice(64) == 0) {
             code = choice(3) == 0 ? zv_host_set_reassembly_slots(host, choice(8))
                    : choice(2)    ? zv_host_set_any_ip(host, (uint8_t)choice(4) / 3)
                                   : zv_host_set_reassembly_timeout(host, any_number());

@@ -139,7 +139,8 @@ static void make_hosts(course *it)
 /* Addresses, routes and settings of a host. */
 static void set_up(zv_host *host)
 {
-    const zv_address other = zv_ipv4(192, 168, 2, 1), router = zv_ipv4(192, 168, 1, 9), all = zv_ipv4(0, 0, 0, 0);
+    const zv_address other = zv_ipv4(192, 168, 2, 1), router = zv_ipv4(192, 168, 1, 9), all = zv_ipv4(0, 0, 0, 0),
+                     group = zv_ipv4(224, 0, 0, 251);
     const zv_hardware station = {{2, 0, 0, 0, 0, 1}};
     zv_counts counts;
     size_t told;
@@ -151,6 +152,9 @@ static void set_up(zv_host *host)
     DO(zv_route_add(host, &all, 0, &router));
     DO(zv_route_remove(host, &all, 0));
     SAYS(zv_address_remove(host, &other), ZV_NOT_FOUND);
+    DO(zv_group_join(host, &group));
+    DO(zv_group_leave(host, &group));
+    SAYS(zv_group_join(host, &other), ZV_UNADDRESSABLE);
     DO(zv_host_set_hardware(host, &station));
     DO(zv_host_update_hardware(host, &station, &told));
     DO(zv_host_set_any_ip(host, 0));

@@ -185,6 +185,14 @@ uint32_t zv_route_add(zv_host *host, const zv_address *network, uint8_t prefix, 
 /* Takes the first route out whose network and prefix were given as these. ZV_BAD_ARGUMENT, ZV_NOT_FOUND. */
 uint32_t zv_route_remove(zv_host *host, const zv_address *network, uint8_t prefix);
 
+/* Listens to a multicast group from now on, eight at most: each datagram to it goes to the UDP sockets of its port. A group that is joined already,
+ * 224.0.0.1 and ff02::1 stay as they are. No report is sent (IGMP, MLD): a switch that forwards a group to those alone that report it doesn't
+ * forward this one. ZV_BAD_ARGUMENT, ZV_UNADDRESSABLE (no group), ZV_TABLE_FULL. */
+uint32_t zv_group_join(zv_host *host, const zv_address *group);
+
+/* Listens to it no longer, however often it was joined. A group that isn't joined stays as it is. ZV_BAD_ARGUMENT, ZV_UNADDRESSABLE (no group). */
+uint32_t zv_group_leave(zv_host *host, const zv_address *group);
+
 /* Sets the station's address. ZV_MEDIUM, ZV_NOT_UNICAST. */
 uint32_t zv_host_set_hardware(zv_host *host, const zv_hardware *hardware);
 

@@ -75,6 +75,8 @@ extern "C" {
     pub fn zv_address_remove(host: *mut Host, address: *const Address) -> u32;
     pub fn zv_route_add(host: *mut Host, network: *const Address, prefix: u8, router: *const Address) -> u32;
     pub fn zv_route_remove(host: *mut Host, network: *const Address, prefix: u8) -> u32;
+    pub fn zv_group_join(host: *mut Host, group: *const Address) -> u32;
+    pub fn zv_group_leave(host: *mut Host, group: *const Address) -> u32;
     pub fn zv_host_set_hardware(host: *mut Host, hardware: *const Hardware) -> u32;
     pub fn zv_host_update_hardware(host: *mut Host, hardware: *const Hardware, told: *mut usize) -> u32;
     pub fn zv_host_set_any_ip(host: *mut Host, enabled: u8) -> u32;

@@ -180,6 +180,16 @@ impl Interface {
         done(unsafe { ffi::zv_route_remove(&mut self.host, &address(network), prefix_len) })
     }
 
+    /// Listens to this multicast group from now on, eight at most. No report is sent. [`Error::Unaddressable`], [`Error::TableFull`].
+    pub fn join_multicast_group(&mut self, group: IpAddr) -> Result<()> {
+        done(unsafe { ffi::zv_group_join(&mut self.host, &address(group)) })
+    }
+
+    /// Listens to this multicast group no longer. [`Error::Unaddressable`].
+    pub fn leave_multicast_group(&mut self, group: IpAddr) -> Result<()> {
+        done(unsafe { ffi::zv_group_leave(&mut self.host, &address(group)) })
+    }
+
     /// Sets the station's address.
     pub fn set_hardware_addr(&mut self, bytes: [u8; 6]) -> Result<()> {
         done(unsafe { ffi::zv_host_set_hardware(&mut self.host, &ffi::Hardware { bytes }) })

@@ -16,6 +16,8 @@ use Rattle.interface.specs.Route.{Route}
 use Rattle.interface.specs.Settings.{is_stranger, with_addresses, with_routes, with_hardware, hardware_refusal}
 use Rattle.interface.specs.HardwareAddrError.{HardwareAddrError}
 use Rattle.interface.specs.HardwareAddrError.TheVariants as No
+use Rattle.interface.specs.MulticastError.{MulticastError}
+use Rattle.interface.specs.MulticastError.TheVariants as Group
 use Rattle.c_calls.specs.Link.{LinkMove}
 use Rattle.c_calls.specs.Codes.{coded}
 use Rattle.c_calls.specs.declared.code.Code.{Code}
@@ -117,6 +119,16 @@ UpdatesHardware own s result s' =
     s.link told s'.link
     × (result ≡ coded of_hardware told)
     × (s' ≡ record s { link = s'.link; host = with_inner s.host (with_hardware s.host.inner (Hardware.Ethernet own)) })
+
+-- GROUPS
+
+abbrev pub of_group : MulticastError → Code
+of_group Group.GroupTableFull = Is.TableFull
+of_group Group.Unaddressable = Is.Unaddressable
+
+abbrev pub group_answer : Option MulticastError → Result (Unit {0}) Code
+group_answer None = Ok tt
+group_answer (Some error) = Err (of_group error)
 
 -- PIECES
 

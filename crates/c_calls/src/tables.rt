@@ -2,14 +2,15 @@
 ghost use Rattle.std.specs.Prelude.{◌≡◌, position};
 ghost use Rattle.ip_wire.specs.HardwareAddress.TheVariants as Hardware;
 ghost use Rattle.interface.specs.Made.{with_inner, with_timeout};
-ghost use Rattle.interface.specs.Settings.{hardware_refusal, with_hardware, with_any_ip};
+ghost use Rattle.interface.specs.Groups.{join_refusal, leave_refusal};
+ghost use Rattle.interface.specs.Settings.{hardware_refusal, with_hardware, with_any_ip, with_group, without_group};
 ghost use Rattle.c_calls.specs.Tables.{address_room, is_address, is_cidr, pushed, removed, own_with, own_without, routes_with, routes_without};
-ghost use Rattle.c_calls.specs.Tables.{with_own, with_table, own_in, table_in, route_to, is_done, of_hardware, hardware_answer, UpdatesHardware, SetsSlots};
+ghost use Rattle.c_calls.specs.Tables.{with_own, with_table, own_in, table_in, route_to, is_done, of_hardware, hardware_answer, of_group, group_answer, UpdatesHardware, SetsSlots};
 
 use crate::code::Code;
 use crate::host::Host;
 use arrayvec::ArrayVec;
-use interface::{HardwareAddrError, Interface, Route, Routes, TABLE_ROOM};
+use interface::{HardwareAddrError, Interface, MulticastError, Route, Routes, TABLE_ROOM};
 use ip_wire::{EthernetAddress, HardwareAddress, IpAddress, IpCidr};
 use net_base::{Duration, Instant};
 use sockets::addresses::{are_of_one_family, is_same_address};
@@ -126,6 +127,35 @@ fn set_hardware(interface: &mut Interface, address: EthernetAddress) -> Result<(
     }
 }
 
+fn join_group(interface: &mut Interface, group: IpAddress) -> Result<(), Code>
+    ensures answer { result ≡ group_answer (join_refusal interface.old.inner.groups group) }
+    ensures after { interface.new ≡ with_inner interface.old (with_group interface.old.inner group) }
+{
+    match interface.join_multicast_group(group) {
+        Ok(()) => Ok(()),
+        Err(error) => Err(of_group(error)),
+    }
+}
+
+fn leave_group(interface: &mut Interface, group: IpAddress) -> Result<(), Code>
+    ensures answer { result ≡ group_answer (leave_refusal group) }
+    ensures after { interface.new ≡ with_inner interface.old (without_group interface.old.inner group) }
+{
+    match interface.leave_multicast_group(group) {
+        Ok(()) => Ok(()),
+        Err(error) => Err(of_group(error)),
+    }
+}
+
+fn of_group(error: MulticastError) -> Code
+    ensures { result ≡ of_group error }
+{
+    match error {
+        MulticastError::GroupTableFull => Code::TableFull,
+        MulticastError::Unaddressable => Code::Unaddressable,
+    }
+}
+
 fn of_hardware(error: HardwareAddrError) -> Code
     ensures { result ≡ of_hardware error }
 {
@@ -198,6 +228,22 @@ impl Host {
             Ok(count) => Ok(count),
             Err(error) => Err(of_hardware(error)),
         }
+    }
+
+    /// Listens to this multicast group from now on.
+    pub fn group_join(&mut self, group: IpAddress) -> Result<(), Code>
+        ensures answer { result ≡ group_answer (join_refusal self.old.host.inner.groups group) }
+        ensures after { self.new ≡ record self.old { host = with_inner self.old.host (with_group self.old.host.inner group) } }
+    {
+        join_group(self.interface(), group)
+    }
+
+    /// Listens to this multicast group no longer.
+    pub fn group_leave(&mut self, group: IpAddress) -> Result<(), Code>
+        ensures answer { result ≡ group_answer (leave_refusal group) }
+        ensures after { self.new ≡ record self.old { host = with_inner self.old.host (without_group self.old.host.inner group) } }
+    {
+        leave_group(self.interface(), group)
     }
 
     /// Sets whether every address counts as an own one.

@@ -47,8 +47,8 @@ pub use streams::{
     zv_tcp_new, zv_tcp_peek, zv_tcp_peer, zv_tcp_queues, zv_tcp_recv, zv_tcp_send, zv_tcp_state,
 };
 pub use tables::{
-    zv_address_add, zv_address_remove, zv_host_set_any_ip, zv_host_set_hardware,
-    zv_host_set_reassembly_slots, zv_host_set_reassembly_timeout, zv_host_update_hardware,
-    zv_route_add, zv_route_remove,
+    zv_address_add, zv_address_remove, zv_group_join, zv_group_leave, zv_host_set_any_ip,
+    zv_host_set_hardware, zv_host_set_reassembly_slots, zv_host_set_reassembly_timeout,
+    zv_host_update_hardware, zv_route_add, zv_route_remove,
 };
 pub use trace::zv_trace_line;

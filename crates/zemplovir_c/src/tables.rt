@@ -1,12 +1,13 @@
 //! Addresses, routes and other settings of a host.
 ghost use Rattle.std.specs.Prelude.{◌≡◌};
 ghost use Rattle.interface.specs.Made.{with_inner, with_timeout};
-ghost use Rattle.interface.specs.Settings.{hardware_refusal, with_hardware, with_any_ip};
+ghost use Rattle.interface.specs.Groups.{join_refusal, leave_refusal};
+ghost use Rattle.interface.specs.Settings.{hardware_refusal, with_hardware, with_any_ip, with_group, without_group};
 ghost use Rattle.ip_wire.specs.HardwareAddress.TheVariants as HardwareAddr;
 ghost use Rattle.ip_wire.specs.IpCidr.{IpCidr as Cidr};
 ghost use Rattle.std.specs.Prelude.{Result, Ok};
 ghost use Rattle.c_calls.specs.declared.code.Code.{Code as Refusal};
-ghost use Rattle.c_calls.specs.Tables.{is_done, own_with, own_without, routes_with, routes_without, with_own, with_table, route_to, hardware_answer};
+ghost use Rattle.c_calls.specs.Tables.{is_done, own_with, own_without, routes_with, routes_without, with_own, with_table, route_to, hardware_answer, group_answer};
 ghost use Rattle.c_calls.specs.Tables.{UpdatesHardware, SetsSlots};
 ghost use Rattle.zemplovir_c.specs.Answers.{all_done, answer_by, after_by, checked_answer, checked, Acts, Gives};
 ghost use Rattle.zemplovir_c.specs.Hosts.{IsCidrBy};
@@ -117,6 +118,50 @@ pub extern "C" fn zv_route_remove(
         return NO_HOST;
     };
     let answer = host.route_remove(network);
+    handle.put(host);
+    done(answer)
+}
+
+/// Listens to this multicast group from now on.
+#[unsafe(no_mangle)]
+pub extern "C" fn zv_group_join(alloc: Global, handle: &mut Handle, group: &Address) -> u32
+    ensures answer { result ≡
+        checked_answer (required_in group.now) (λ to. answer_by handle.old.inside (λ host. group_answer (join_refusal host.host.inner.groups to))) }
+    ensures after { handle.new.inside ≡
+        checked (required_in group.now)
+        (λ to. after_by handle.old.inside (λ host. record host { host = with_inner host.host (with_group host.host.inner to) }))
+        handle.old.inside }
+{
+    let group = match required(group) {
+        Ok(group) => group,
+        Err(code) => return code.number(),
+    };
+    let Some(mut host) = handle.take(alloc) else {
+        return NO_HOST;
+    };
+    let answer = host.group_join(group);
+    handle.put(host);
+    done(answer)
+}
+
+/// Listens to this multicast group no longer.
+#[unsafe(no_mangle)]
+pub extern "C" fn zv_group_leave(alloc: Global, handle: &mut Handle, group: &Address) -> u32
+    ensures answer { result ≡
+        checked_answer (required_in group.now) (λ to. answer_by handle.old.inside (λ host. group_answer (leave_refusal to))) }
+    ensures after { handle.new.inside ≡
+        checked (required_in group.now)
+        (λ to. after_by handle.old.inside (λ host. record host { host = with_inner host.host (without_group host.host.inner to) }))
+        handle.old.inside }
+{
+    let group = match required(group) {
+        Ok(group) => group,
+        Err(code) => return code.number(),
+    };
+    let Some(mut host) = handle.take(alloc) else {
+        return NO_HOST;
+    };
+    let answer = host.group_leave(group);
     handle.put(host);
     done(answer)
 }
