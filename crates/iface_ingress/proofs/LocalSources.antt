@@ -111,11 +111,11 @@ no_member i (Address.Ipv4 a) one =
     (not_true (is_all_systems a) (λ is. clash (is_multicast_v4 a) (systems_are_many a is) one))
     (not_joined i.groups (Address.Ipv4 a) one)
 no_member i (Address.Ipv6 a) one =
-    neither (is_all_nodes a) (list_any (solicits_cidr a) i.addresses || is_joined i.groups (Address.Ipv6 a))
+    neither (is_all_nodes a || list_any (solicits_cidr a) i.addresses) (is_joined i.groups (Address.Ipv6 a))
+    (neither (is_all_nodes a) (list_any (solicits_cidr a) i.addresses)
     (not_true (is_all_nodes a) (λ is. clash (is_multicast_v6 a) (nodes_are_many a is) one))
-    (neither (list_any (solicits_cidr a) i.addresses) (is_joined i.groups (Address.Ipv6 a))
-    (none_solicits a i.addresses (not_true (is_solicited_node a) (λ is. clash (is_multicast_v6 a) (solicited_are_many a is) one)))
-    (not_joined i.groups (Address.Ipv6 a) one))
+    (none_solicits a i.addresses (not_true (is_solicited_node a) (λ is. clash (is_multicast_v6 a) (solicited_are_many a is) one))))
+    (not_joined i.groups (Address.Ipv6 a) one)
 
 pub own_of : (i : InnerValue) (a : IpAddress) → is_for_us i a ≡ true → is_for_many i a ≡ false → is_loopback_in a ≡ false → is_local i a ≡ true
 own_of i a ours one elsewhere =
