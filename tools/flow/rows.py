@@ -125,7 +125,7 @@ class Rows:
             unsure = " or an earlier poll did" if any(handing.is_unsure for handing in row.taken) else ""
             past = f" at {seconds(row.moment)}" if row.moment != row.now else ""
             beside.append(("poll", words[0] + past + (f" takes {took}{unsure}" if took else "") + f" → {said}", row.step.line))
-            beside += [("refused", f"gives up on {address}: {MOST_REQUESTS} requests, no answer", None)
+            beside += [("refused", f"gives up on {address}, drops what waited: {MOST_REQUESTS} requests, no answer", None)
                        for address in self.hosts[name].newly_given_up(row.moment)]
             room = self.history.room[name]
             if room == 0 and words[0] == "poll":

@@ -105,7 +105,7 @@ export class Rows {
             const past = row.moment !== row.now ? ` at ${seconds(row.moment)}` : '';
             beside.push(['poll', `${words[0]}${past}${took ? ` takes ${took}${unsure}` : ''} → ${said}`, row.step.line]);
             for (const address of this.hosts[name].newlyGivenUp(row.moment)) {
-                beside.push(['refused', `gives up on ${address}: ${MOST_REQUESTS} requests, no answer`, null]);
+                beside.push(['refused', `gives up on ${address}, drops what waited: ${MOST_REQUESTS} requests, no answer`, null]);
             }
             if (this.history.room[name] === 0 && words[0] === 'poll') beside.push(['refused', 'its device has no room', null]);
         } else if (CALLS.includes(words[0]) || refused && !['deliver', 'damage', 'cut', 'noise', 'state', 'pollat'].includes(words[0])) {
