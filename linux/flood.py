@@ -85,6 +85,8 @@ def tried(name, both, at, rate, most):
         times = pages(both[1], at, most)
     finally:
         ends.set()
+        if sender.is_alive():
+            sender.join()
     came = sorted(it for it in times if it is not None)
     said = f"; middle {statistics.median(came):.3f} s, longest {came[-1]:.3f} s" if came else ""
     fast = sum(it < 1 for it in came)
