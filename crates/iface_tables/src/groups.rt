@@ -1,8 +1,9 @@
 //! The multicast groups that a host listens to because its user joined them (RFC 1112, section 7.1).
-ghost use Rattle.std.specs.Prelude.{◌≡◌, ◌<◌, [], length, None};
+ghost use Rattle.std.specs.Prelude.{◌≡◌, ◌<◌, [], length, IfOk, IfErr};
 ghost use Rattle.std.specs.List.{list_any};
 ghost use Rattle.std.specs.Option.{ForSome};
 ghost use Rattle.std.specs.Prelude.{position};
+ghost use Rattle.iface_tables.specs.Settings.{unless};
 ghost use Rattle.iface_tables.specs.Groups.{group_room, is_all_systems, is_all_nodes, is_heard_by_all, is_of, is_joined, join_refusal, joined, leave_refusal, left};
 
 use arrayvec::ArrayVec;
@@ -69,13 +70,6 @@ impl Groups {
         }
     }
 
-    /// The groups, in the order in which they were joined.
-    pub fn as_slice(&self) -> &[Group]
-        ensures { result.now ≡ self.now }
-    {
-        self.entries.as_slice()
-    }
-
     /// Whether this group was joined. No address that is no group's was.
     pub fn has(&self, addr: &IpAddress) -> bool
         ensures { result ≡ is_joined self.now addr.now }
@@ -92,29 +86,23 @@ impl Groups {
             .any(|group| is_same_address(&group.addr, addr))
     }
 
-    /// Why this group can't be joined.
-    pub fn join_refusal(&self, addr: &IpAddress) -> Option<MulticastError>
-        ensures { result ≡ join_refusal self.now addr.now }
-    {
-        if !is_multicast(addr) {
-            Some(MulticastError::Unaddressable)
-        } else if is_heard_by_all(addr) || self.names(addr) {
-            None
-        } else if self.entries.is_full() {
-            Some(MulticastError::GroupTableFull)
-        } else {
-            None
-        }
-    }
-
     /// Joins this group, if it isn't there already and isn't one that every host listens to.
-    pub fn join(&mut self, addr: IpAddress)
-        requires { join_refusal self.old addr ≡ None }
-        ensures { self.new ≡ joined self.old addr }
+    pub fn join(&mut self, addr: IpAddress) -> Result<(), MulticastError>
+        ensures answer { result ≡ unless (join_refusal self.old addr) tt }
+        ensures joined { IfOk result (λ u. self.new ≡ joined self.old addr) }
+        ensures refused { IfErr result (λ e. self.new ≡ self.old) }
     {
-        if !is_heard_by_all(&addr) && !self.names(&addr) && !self.entries.is_full() {
-            self.entries.push(Group { addr });
+        if !is_multicast(&addr) {
+            return Err(MulticastError::Unaddressable);
         }
+        if is_heard_by_all(&addr) || self.names(&addr) {
+            return Ok(());
+        }
+        if self.entries.is_full() {
+            return Err(MulticastError::GroupTableFull);
+        }
+        self.entries.push(Group { addr });
+        Ok(())
     }
 
     /// Leaves this group, if it is there.

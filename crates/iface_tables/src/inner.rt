@@ -569,14 +569,9 @@ impl InterfaceInner {
         ensures answer { result ≡ unless (join_refusal self.old.groups addr) tt }
         ensures after { self.new ≡ with_group self.old addr }
     {
-        match self.groups.join_refusal(&addr) {
-            Some(error) => Err(error),
-            None => {
-                self.groups.join(addr);
-                self.is_fresh = false;
-                Ok(())
-            }
-        }
+        self.groups.join(addr)?;
+        self.is_fresh = false;
+        Ok(())
     }
 
     /// Listens to this group no longer.
