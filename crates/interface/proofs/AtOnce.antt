@@ -43,6 +43,8 @@ use Rattle.interface.specs.declared.serve.Served.{Served}
 use Rattle.interface.specs.declared.serve.Served.TheVariants as Turn
 use Rattle.interface.proofs.SameHost.{same_where}
 use Rattle.interface.proofs.Sourced.{sends_from, sourced_stays}
+use Rattle.iface_egress.specs.Parked.{is_searched}
+use Rattle.interface.proofs.Alone.{leaves_unsearched}
 use Rattle.interface.proofs.Direct.{direct_left}
 
 -- WHETHER IT MAY LEAVE
@@ -345,7 +347,8 @@ module _ {D : Type 0} (moves : D → Move → D → Type 0) (turn : Option IpAdd
       sends.1 ∙ sourced_stays s.inner p (or_true (is_raw p.payload) (comes_from_here s.inner p.header) direct.here) in
       let so : SendsAs moves turn p s (udp_item freed_mark (offering v q p)) false turned s' item' =
       subst (λ (l : PacketValue). SendsAs moves turn l s (udp_item freed_mark (offering v q p)) false turned s' item') same sends.3 in
-      let back = leaves_back so.0 so.1 in
+      let off : is_searched (plan_at s p) ≡ false = ap is_searched (direct.plan (is_some s.left)) in
+      let back = leaves_back so.0 (leaves_unsearched moves turn s freed_mark p so.0 s' off so.1) in
       record {
         sent = so.0;
         leaves = back.0;

@@ -3,10 +3,14 @@ pub mod IdleSlots
 pub mod Known
 pub mod Due
 pub mod QuietTurn
+pub mod QuietParked
 pub mod QuietPass
 pub mod StepUnchanged
 pub mod PassStep
+pub mod Parked
 pub mod SameHost
+pub mod Alone
+pub mod Cleared
 pub mod Stepped
 pub mod Settings
 pub mod Rounds
@@ -15,8 +19,10 @@ pub mod Unchanged
 pub mod Runs
 pub mod Kept
 pub mod Keep
+pub mod KeepAlone
 pub mod Hosts
 pub mod Shapes
+pub mod FewWait
 pub mod Priced
 pub mod Count
 pub mod HostCounts

@@ -1,4 +1,5 @@
 -- Two hosts and the link between them.
+pub mod Alone
 pub mod AtLink
 pub mod Hosts
 pub mod Moves

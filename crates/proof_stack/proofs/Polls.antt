@@ -9,6 +9,7 @@ pub mod Polled
 pub mod Numbers
 pub mod Ways
 pub mod AnyLeave
+pub mod AnyTurn
 pub mod OurLeave
 pub mod OurTurn
 pub mod Goes

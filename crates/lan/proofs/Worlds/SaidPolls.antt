@@ -1,5 +1,5 @@
 -- What a host holds and takes says what is so, through a poll too.
-use Rattle.std.proofs.Common.{◌≡◌, inl, inr, ℕ, ℤ, Bool, true, false, cond, List, ◌∷◌, Option, Some, None, is_some, sym, ◌∙◌, ap, subst}
+use Rattle.std.proofs.Common.{◌≡◌, inl, inr, ℕ, ℤ, Bool, true, false, cond, ◌&&◌, List, ◌∷◌, Option, Some, None, is_some, refl, sym, ◌∙◌, ap, subst}
 use Rattle.std.specs.List.{AllByRecursion}
 use Rattle.sim_link.specs.ChecksumCapabilities.{ChecksumCapabilities}
 use Rattle.sim_link.specs.Device.{Allowed}
@@ -26,15 +26,17 @@ use Rattle.iface_ingress.specs.Arrives.{ReplyValue}
 use Rattle.iface_ingress.specs.Incoming.{IncomingValue, IsIncoming, IsContent}
 use Rattle.iface_ingress.specs.Reassembled.{is_taken_in, taken_in, with_room}
 use Rattle.interface.specs.Host.{Sender}
-use Rattle.interface.specs.Ingress.{Takes, Replied, is_awaited, sender_of, sender_with}
+use Rattle.iface_egress.specs.Parked.{ServesParked}
+use Rattle.interface.specs.Ingress.{AnswerGoes, Takes, Replied, is_awaited, sender_of, sender_with, would_solicit}
 use Rattle.interface.proofs.Kept.{IsKept}
 use Rattle.interface.specs.State.{State, at_device}
-use Rattle.interface.specs.Serve.{Leaves, SendsBy, Answers, TurnsIf, ItemTurns, is_waiting, let_through}
+use Rattle.interface.specs.Serve.{Leaves, LeavesIf, SendsBy, Answers, TurnsIf, ItemTurns, is_waiting, let_through}
 use Rattle.interface.specs.EgressPath.{FragmentLeaves}
 use Rattle.interface.specs.declared.serve.Served.{Served}
 use Rattle.interface.proofs.Keep.{polls_keep}
 use Rattle.interface.proofs.Runs.{receives_same}
-use Rattle.interface.proofs.SameHost.{slot_same}
+use Rattle.interface.proofs.Parked.{HasLeft, parked_keep}
+use Rattle.interface.proofs.SameHost.{serves_same, slot_same}
 use Rattle.lan.specs.Worlds.AtLink.Port.{LinkEnd, PortValue, PortMove}
 use Rattle.lan.specs.Worlds.AtLink.Node.{NodeValue, at_port}
 use Rattle.lan.specs.Worlds.AtLink.Steps.{PollsAt}
@@ -64,10 +66,16 @@ module _ (turn : Option IpAddress) where
   leaves_waits x x' m p sent (inr admits) =
       goes_waits admits.0 x'.device x.inner x'.inner x.left x'.left p sent admits.2 ∙ leave_waits x.inner.instant x.device admits.0 true admits.1
 
+  leaves_if_waits : (many : Bool) (x x' : Sender PortValue) (m : Meta) (p : PacketValue) (sent : Sent) → LeavesIf PortMove turn many x m p sent x' →
+      Waits x'.device ≡ Waits x.device
+  leaves_if_waits false x x' m p sent goes = leaves_waits x x' m p sent goes
+  leaves_if_waits true x x' m p sent goes =
+      ap (λ (y : Sender PortValue). Waits y.device) goes.4 ∙ leaves_waits x goes.1 m p goes.0 goes.2
+
   offer_waits : (o : Option PacketValue) (x x' : Sender PortValue) (item item' : Item Socket) (changed : Bool) (turned : Served) →
       SendsBy PortMove turn o x item changed turned x' item' → Waits x'.device ≡ Waits x.device
   offer_waits None x x' item item' changed turned sends = absurd sends
-  offer_waits (Some p) x x' item item' changed turned sends = leaves_waits x x' item.meta sends.0 sends.3.0 sends.3.1
+  offer_waits (Some p) x x' item item' changed turned sends = leaves_if_waits x.inner.host_requirements x x' item.meta sends.0 sends.3.0 sends.3.1
 
   answer_waits : (answer : Answer.Offer) (x x' : Sender PortValue) (item item' : Item Socket) (turned : Served) →
       Answers PortMove turn answer x item turned x' item' → Waits x'.device ≡ Waits x.device
@@ -92,12 +100,30 @@ fragment_waits l x x' gone (inr goes) =
     once_waits goes.0 x'.device x.inner (Some (departure_from x.inner l)) gone (fragment_sends PortMove goes.0 x'.device x.inner l x'.left gone goes.2)
     ∙ leave_waits x.inner.instant x.device goes.0 true goes.1
 
+answer_waits_if : (many : Bool) (p : PacketValue) (kept_back : Bool) (x x' : Sender PortValue) → AnswerGoes PortMove many p kept_back x x' →
+    Waits x'.device ≡ Waits x.device
+answer_waits_if false p kept_back x x' goes = goes_waits x.device x'.device x.inner x'.inner x.left x'.left p goes.0 goes.1
+answer_waits_if true p kept_back x x' goes =
+    ap (λ (y : Sender PortValue). Waits y.device) goes.3 ∙ goes_waits x.device goes.1.device x.inner goes.1.inner x.left goes.1.left p goes.0 goes.2
+
+-- a packet that waited
+parked_waits : (x x' : Sender PortValue) (p : PacketValue) (sent : Sent) → HasLeft PortMove x p sent x' → Waits x'.device ≡ Waits x.device
+parked_waits x x' p sent (inl stays) = ap (λ (y : Sender PortValue). Waits y.device) stays
+parked_waits x x' p sent (inr (inl refused)) = leave_waits x.inner.instant x.device x'.device false refused.0
+parked_waits x x' p sent (inr (inr goes)) =
+    goes_waits goes.0 x'.device x.inner x'.inner x.left x'.left p sent goes.2 ∙ leave_waits x.inner.instant x.device goes.0 true goes.1
+
+served_waits : (x x' : Sender PortValue) (all : Bool) → ServesParked PortMove x all x' → Waits x'.device ≡ Waits x.device
+served_waits x x' all serves =
+    parked_keep PortMove (λ (y : Sender PortValue). Waits y.device ≡ Waits x.device) (λ y z p sent so left. parked_waits y z p sent left ∙ so)
+    (λ y k so. so) x x' all refl serves
+
 replied_waits : (awaited : Bool) (reply : Option ReplyValue) (x x' : Sender PortValue) → Replied PortMove awaited reply x x' → Waits x'.device ≡ Waits x.device
 replied_waits awaited None x x' is = ap (λ (y : Sender PortValue). Waits y.device) is
 replied_waits awaited (Some (Replies.Tells packet)) x x' is =
     waits_same x.device x'.device (frame_of x.inner (Tells packet)) (frame_len_of x.inner (Tells packet)) is.0 is.1
 replied_waits awaited (Some (Replies.Answers p)) x x' (inl held) = ap (λ (y : Sender PortValue). Waits y.device) held.0
-replied_waits awaited (Some (Replies.Answers p)) x x' (inr goes) = goes_waits x.device x'.device x.inner x'.inner x.left x'.left p goes.0 goes.1
+replied_waits awaited (Some (Replies.Answers p)) x x' (inr goes) = answer_waits_if x.inner.host_requirements p (awaited && would_solicit x p) x x' goes
 
 -- A HOST THAT TAKES WHAT IS SO
 
@@ -166,6 +192,14 @@ module _ (S : FragKey → Fact → Type 0) (medium : Medium) where
       assemblers_are = so.assemblers_are;
       waits = subst (AllByRecursion (TakenSo S medium)) (sym (fragment_waits l x x' gone leaves)) so.waits;
     };
+    parked = λ h ps x x' all runs many so serves.
+        let same = serves_same PortMove x x' all many serves in
+        record {
+          hardware = ap (λ (i : InnerValue). medium_on i.hardware) same ∙ so.hardware;
+          checksums = ap (λ (i : InnerValue). i.checksums) same ∙ so.checksums;
+          assemblers_are = so.assemblers_are;
+          waits = subst (AllByRecursion (TakenSo S medium)) (sym (served_waits x x' all serves)) so.waits;
+        };
     turns = λ turn h before after p p' x x' turned runs so turns.
         let same = slot_same PortMove turn x x' p p' turned turns in
         record {

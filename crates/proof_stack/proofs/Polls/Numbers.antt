@@ -18,11 +18,13 @@ use Rattle.iface_egress.proofs.Changes.{changes}
 use Rattle.interface.specs.Awaited.{turn_of}
 use Rattle.interface.specs.Host.{Sender}
 use Rattle.interface.specs.Pass.{Pass, Passed}
-use Rattle.interface.specs.Serve.{Leaves, SendsBy, Answers, TurnsIf, ItemTurns, ServesSlot, is_waiting, let_through}
-use Rattle.interface.specs.EgressPath.{Clears, Egress}
+use Rattle.interface.specs.Serve.{Answers, ItemTurns, Leaves, LeavesIf, SendsBy, ServesSlot, TurnsIf, is_waiting, let_through, plan_at}
+use Rattle.interface.specs.EgressPath.{Clears, ClearsIf, Egress}
 use Rattle.interface.specs.declared.serve.Served.{Served}
 use Rattle.interface.specs.declared.serve.Served.TheVariants as Turn
 use Rattle.lan.proofs.Worlds.Moves.Idents.{small_after}
+use Rattle.iface_egress.specs.Parked.{parks, sender_after}
+use Rattle.interface.proofs.Parked.{HasLeft, parked_keep}
 
 abbrev pub IsSmall : InnerValue → Type 0
 IsSmall i = i.ident < 2 ^ 16
@@ -31,16 +33,28 @@ module _ {D : Type 0} (moves : D → Move → D → Type 0) (turn : Option IpAdd
   rests : x' ≡ x → IsSmall x'.inner
   rests is = subst (λ (y : Sender D). IsSmall y.inner) (sym is) small
 
-  leaves : (m : Meta) (p : PacketValue) (sent : Sent) → Leaves moves turn x m p sent x' → IsSmall x'.inner
-  leaves m p sent (inl rests) = subst IsSmall (sym rests.2) small
-  leaves m p sent (inr goes) =
-      subst IsSmall (sym (changes moves goes.0 x'.device x.inner x'.inner x.left x'.left p (is_some x.left) sent goes.2).1)
+  leaves : (y : Sender D) (m : Meta) (p : PacketValue) (sent : Sent) → Leaves moves turn x m p sent y → IsSmall y.inner
+  leaves y m p sent (inl rests) = subst IsSmall (sym rests.2) small
+  leaves y m p sent (inr goes) =
+      subst IsSmall (sym (changes moves goes.0 y.device x.inner y.inner x.left y.left p (is_some x.left) sent goes.2).1)
       (small_after x.inner.ident (plan_of x.inner (is_some x.left) p.header) sent p.header small)
+
+  -- whether it is parked or not
+  parked_or_not : (b : Bool) (y : Sender D) (p : PacketValue) → IsSmall y.inner → IsSmall (sender_after b p y).inner
+  parked_or_not true y p so = so
+  parked_or_not false y p so = so
+
+  leaves_if : (many : Bool) (m : Meta) (p : PacketValue) (sent : Sent) → LeavesIf moves turn many x m p sent x' → IsSmall x'.inner
+  leaves_if false m p sent goes = leaves x' m p sent goes
+  leaves_if true m p sent goes =
+      subst (λ (y : Sender D). IsSmall y.inner) (sym goes.4)
+      (parked_or_not (parks goes.1.inner p (plan_at x p) goes.0) goes.1 p (leaves goes.1 m p goes.0 goes.2))
 
   offers : (o : Option PacketValue) (item item' : Item Socket) (changed : Bool) (turned : Served) → SendsBy moves turn o x item changed turned x' item'
       → IsSmall x'.inner
   offers None item item' changed turned sends = absurd sends
-  offers (Some p) item item' changed turned sends = leaves item.meta sends.0 sends.3.0 sends.3.1
+  offers (Some p) item item' changed turned sends =
+      leaves_if x.inner.host_requirements item.meta sends.0 sends.3.0 sends.3.1
 
   answers : (answer : Answer.Offer) (item item' : Item Socket) (turned : Served) → Answers moves turn answer x item turned x' item' → IsSmall x'.inner
   answers (Offer.Silent changed) item item' turned is = rests is.1
@@ -76,8 +90,23 @@ module _ {D : Type 0} (moves : D → Move → D → Type 0) where
   clears_small None clear x x' goes small = subst (λ (y : Sender D). IsSmall y.inner) (sym goes.1) small
   clears_small (Some l) clear x x' goes small = subst IsSmall (sym goes.1) small
 
+  -- a packet that waited for its next hop
+  left_small : (x x' : Sender D) (p : PacketValue) (sent : Sent) → IsSmall x.inner → HasLeft moves x p sent x' → IsSmall x'.inner
+  left_small x x' p sent small (inl is) = subst (λ (y : Sender D). IsSmall y.inner) (sym is) small
+  left_small x x' p sent small (inr (inl stays)) = subst IsSmall (sym stays.1) small
+  left_small x x' p sent small (inr (inr goes)) =
+      subst IsSmall (sym (changes moves goes.0 x'.device x.inner x'.inner x.left x'.left p (is_some x.left) sent goes.2).1)
+      (small_after x.inner.ident (plan_of x.inner (is_some x.left) p.header) sent p.header small)
+
+  pub clears_all_small : (many : Bool) (clear : Bool) (x x' : Sender D) → ClearsIf moves many x clear x' → IsSmall x.inner → IsSmall x'.inner
+  clears_all_small false clear x x' goes small = clears_small x.left clear x x' goes small
+  clears_all_small true clear x x' (inl goes) small = clears_small x.left false x x' goes.0 small
+  clears_all_small true clear x x' (inr goes) small =
+      parked_keep moves (λ (y : Sender D). IsSmall y.inner) left_small (λ y k so. so) goes.0 x' clear (clears_small x.left true x goes.0 goes.1 small) goes.2
+
   pub step_small : (x : Sender D) (ps : List (SocketStorage Socket)) (e : Passed D) → Egress moves x ps e → IsSmall x.inner → IsSmall e.sender.inner
   step_small x ps e (inl stays) small =
-      subst (λ (y : Passed D). IsSmall y.sender.inner) (sym stays.2) (clears_small x.left false x stays.0 stays.1 small)
+      subst (λ (y : Passed D). IsSmall y.sender.inner) (sym stays.2) (clears_all_small x.inner.host_requirements false x stays.0 stays.1 small)
   step_small x ps e (inr goes) small =
-      pass_small (turn_of goes.0.inner ps) ps goes.0 [] false e goes.2 (clears_small x.left true x goes.0 goes.1 small)
+      pass_small (turn_of goes.0.inner ps) ps goes.0 [] false e goes.2
+      (clears_all_small x.inner.host_requirements true x goes.0 goes.1 small)

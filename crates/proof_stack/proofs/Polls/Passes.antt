@@ -11,16 +11,18 @@ use Rattle.iface_egress.specs.declared.socket_set.SocketStorage.{SocketStorage}
 use Rattle.interface.specs.Awaited.{turn_of}
 use Rattle.interface.specs.Host.{Sender}
 use Rattle.interface.specs.Instant.{earlier, slot_instant, soonest, poll_instant}
-use Rattle.interface.specs.Pass.{Pass, Passed}
+use Rattle.interface.specs.Pass.{Passed}
 use Rattle.interface.specs.QuietStep.{IsEarlier}
-use Rattle.interface.specs.EgressPath.{FragmentLeaves, Clears, Egress}
+use Rattle.interface.specs.EgressPath.{FragmentLeaves, Clears}
 use Rattle.interface.specs.declared.serve.Served.TheVariants as Turn
+use Rattle.interface.proofs.Alone.{due_alone}
 use Rattle.interface.proofs.Due.{AllLater}
 use Rattle.proof_stack.specs.Progress.Moves.{AreMoves}
 use Rattle.proof_stack.specs.Progress.OfUse.{Stirs}
 use Rattle.proof_stack.specs.Progress.Patience.{IsItemPatient, ArePatient}
 use Rattle.proof_stack.proofs.Polls.Walks.{joined, stirs_before, stirs_following}
 use Rattle.proof_stack.proofs.Polls.Turns.{earlier_later, Calm, Ends, slot_ends}
+use Rattle.proof_stack.proofs.Parkless.{Egress, Pass}
 
 -- ALL PLACES ARE LATER
 
@@ -202,11 +204,12 @@ module _ {D : Type 0} (moves : D → Move → D → Type 0) where
           inr (clear.2, λ patient. subst (λ (x : Sender D). CalmPass x e) clear.1 (more (ap (λ (x : Sender D). x.left) clear.1 ∙ clear.2) patient (inr tt)))
 
   -- nothing changed, and no fragment waits: no socket is due
-  pub calm_instant : (s : Sender D) (e : Passed D) → s.left ≡ None → e.changed ≡ false → CalmPass s e
+  pub calm_instant : (s : Sender D) (e : Passed D) → s.inner.host_requirements ≡ false → s.left ≡ None → e.changed ≡ false → CalmPass s e
       → IsEarlier s.inner.instant (poll_instant e.sender.inner e.sender.left e.slots)
-  calm_instant s e none same calm =
+  calm_instant s e alone none same calm =
       subst (λ (i : InnerValue). IsEarlier s.inner.instant (poll_instant i e.sender.left e.slots)) (sym calm.inner)
-      (subst (λ (l : Option LeftValue). IsEarlier s.inner.instant (poll_instant s.inner l e.slots)) (sym (calm.left ∙ none)) (by calm.done))
+      (subst (λ (l : Option LeftValue). IsEarlier s.inner.instant (poll_instant s.inner l e.slots)) (sym (calm.left ∙ none))
+      (subst (λ (o : Option ℤ). IsEarlier s.inner.instant o) (sym (due_alone s.inner e.slots alone)) (by calm.done)))
     where
       by : Done s.inner e.changed e.slots → IsEarlier s.inner.instant (soonest s.inner e.slots)
       by (inl is) = absurd (let clash : true ≡ false = sym is ∙ same in cc)

@@ -18,6 +18,7 @@ use Rattle.proof_stack.specs.Progress.OfUse.{Stirs, IsOfUse, IsDue, Acts}
 use Rattle.proof_stack.specs.Progress.Patience.{ArePatient}
 use Rattle.proof_stack.proofs.Polls.Walks.{joined, stirs_following}
 use Rattle.proof_stack.proofs.Polls.Passes.{CalmPass, StepEnds, egress_ends, calm_instant}
+use Rattle.proof_stack.proofs.Parkless.{egress_alone}
 
 or_true : (a b : Bool) → a ≡ true → (a || b) ≡ true
 or_true true b e = refl
@@ -97,10 +98,11 @@ module _ {D : Type 0} (moves : D → Move → D → Type 0) (t : ℤ) where
     are : AreMoves moves all s.device s'.device
     what : Stirs all ⊎ CalmPoll s s'
 
-  step_ends : (s s' : State D) → ArePatient s.slots → EgressStep moves t s None s' → PollEnds s s'
-  step_ends s s' patient step =
+  step_ends : (s s' : State D) → s.host.inner.host_requirements ≡ false → ArePatient s.slots → EgressStep moves t s None s' → PollEnds s s'
+  step_ends s s' alone patient step =
       let e : Passed D = step.0 in
-      let ends : StepEnds moves (sending t s) s.slots e = egress_ends moves (sending t s) s.slots e step.1 in
+      let ends : StepEnds moves (sending t s) s.slots e =
+      egress_ends moves (sending t s) s.slots e (egress_alone moves (sending t s) s.slots e alone step.1) in
       record {
         all = ends.all;
         are = subst (λ (d : D). AreMoves moves ends.all s.device d) (sym (ap (λ (x : State D). x.device) step.2)) ends.are;
@@ -113,23 +115,24 @@ module _ {D : Type 0} (moves : D → Move → D → Type 0) (t : ℤ) where
         inner = ap (λ (x : State D). x.host.inner) step.2 ∙ (calm.1 patient).inner;
         left = ap (λ (x : State D). x.host.left) step.2 ∙ (calm.1 patient).left;
         later = subst (λ (x : State D). IsEarlier t (poll_instant x.host.inner x.host.left x.slots)) (sym step.2)
-            (calm_instant moves (sending t s) step.0 calm.0 (told_none step.0.changed step.3) (calm.1 patient));
+            (calm_instant moves (sending t s) step.0 alone calm.0 (told_none step.0.changed step.3) (calm.1 patient));
       })
 
-  out_ends : (n : ℕ) (s s' : State D) (c : Bool) → ArePatient s.slots → Repeats (EgressStep moves t) (suc n) s c s' false → PollEnds s s'
-  out_ends n s s' c patient (inl ends) = step_ends s s' patient ends.0
-  out_ends n s s' c patient (inr goes) =
+  out_ends : (n : ℕ) (s s' : State D) (c : Bool) → s.host.inner.host_requirements ≡ false → ArePatient s.slots → Repeats (EgressStep moves t) (suc n) s c s' false → PollEnds s s'
+  out_ends n s s' c alone patient (inl ends) = step_ends s s' alone patient ends.0
+  out_ends n s s' c alone patient (inr goes) =
       clash (sym (grows (EgressStep moves t) n goes.1 s' (c || goes.0) false goes.3
       (or_other c goes.0 (told_true goes.0 goes.2.0.changed goes.2.3))))
 
-  poll_ends : (budget : ℕ) (s s' : State D) → 1 ≤ budget → ArePatient s.slots → Polls moves t budget s false s' → PollEnds s s'
-  poll_ends zero s s' some patient polls = absurd (let none : 1 ≤ 0 = some in omega arith)
-  poll_ends (suc n) s s' some patient polls =
+  poll_ends : (budget : ℕ) (s s' : State D) → s.host.inner.host_requirements ≡ false → 1 ≤ budget → ArePatient s.slots → Polls moves t budget s false s' → PollEnds s s'
+  poll_ends zero s s' alone some patient polls = absurd (let none : 1 ≤ 0 = some in omega arith)
+  poll_ends (suc n) s s' alone some patient polls =
       let mid : State D = polls.0 in
       let entry : InEnds (begun t s) mid =
       in_ends (suc n) (begun t s) mid false polls.1 (never_said (EgressStep moves t) (suc n) mid s' polls.1 polls.3) polls.2 in
       let exit : PollEnds mid s' =
-      out_ends n mid s' polls.1 (subst (λ (ps : List (SocketStorage Socket)). ArePatient ps) (sym entry.slots) patient) polls.3 in
+      out_ends n mid s' polls.1 (ap (λ (i : InnerValue). i.host_requirements) entry.inner ∙ alone)
+      (subst (λ (ps : List (SocketStorage Socket)). ArePatient ps) (sym entry.slots) patient) polls.3 in
       record {
         all = entry.all ++ exit.all;
         are = joined moves entry.all exit.all s.device mid.device s'.device entry.are exit.are;
@@ -141,21 +144,21 @@ module _ {D : Type 0} (moves : D → Move → D → Type 0) (t : ℤ) where
       both xs ys mid inner left (inl stirs) = inl (stirs_following xs ys stirs)
       both xs ys mid inner left (inr calm) = inr (record { inner = calm.inner ∙ inner; left = calm.left ∙ left; later = calm.later })
 
-  pub of_use : (budget : ℕ) (s s' : State D) → 1 ≤ budget → ArePatient s.slots → Polls moves t budget s false s'
+  pub of_use : (budget : ℕ) (s s' : State D) → s.host.inner.host_requirements ≡ false → 1 ≤ budget → ArePatient s.slots → Polls moves t budget s false s'
       → IsOfUse moves t s.device s'.device (poll_instant s'.host.inner s'.host.left s'.slots)
-  of_use budget s s' some patient polls =
-      let ends : PollEnds s s' = poll_ends budget s s' some patient polls in
+  of_use budget s s' alone some patient polls =
+      let ends : PollEnds s s' = poll_ends budget s s' alone some patient polls in
       record { all = ends.all; are = ends.are; why = by ends.all ends.what }
     where
       by : (xs : List Move) → Stirs xs ⊎ CalmPoll s s' → Stirs xs ⊎ IsEarlier t (poll_instant s'.host.inner s'.host.left s'.slots)
       by xs (inl stirs) = inl stirs
       by xs (inr calm) = inr calm.later
 
-  pub acts : (budget : ℕ) (s s' : State D) → 1 ≤ budget → ArePatient s.slots
+  pub acts : (budget : ℕ) (s s' : State D) → s.host.inner.host_requirements ≡ false → 1 ≤ budget → ArePatient s.slots
       → IsDue t (poll_instant (at_instant t s.host.inner) s.host.left s.slots) → Polls moves t budget s false s'
       → Acts moves s.device s'.device s.slots s'.slots
-  acts budget s s' some patient due polls =
-      let ends : PollEnds s s' = poll_ends budget s s' some patient polls in
+  acts budget s s' alone some patient due polls =
+      let ends : PollEnds s s' = poll_ends budget s s' alone some patient polls in
       record { all = ends.all; are = ends.are; what = by ends.all ends.what }
     where
       by : (xs : List Move) → Stirs xs ⊎ CalmPoll s s' → Stirs xs ⊎ (s'.slots ≡ s.slots → ⊥)

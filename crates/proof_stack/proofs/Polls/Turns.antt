@@ -40,9 +40,8 @@ use Rattle.interface.specs.Host.{Sender}
 use Rattle.interface.specs.Instant.{earlier, instant_of, local_instant, item_instant, instant_in}
 use Rattle.interface.specs.Remote.{address_in, remote_of, context_for, end_by}
 use Rattle.interface.specs.QuietStep.{IsEarlier}
-use Rattle.interface.specs.Serve.{is_known, is_waiting, let_through, waits_until, is_given_up, is_out_of_turn, settled_by, turned_by, plan_at, Leaves, SendsBy}
-use Rattle.interface.specs.Serve.{Answers}
-use Rattle.interface.specs.Serve.{TurnsIf, ItemTurns, ServesSlot, outcome_by, held}
+use Rattle.interface.specs.Serve.{is_known, is_waiting, let_through, waits_until, is_given_up, is_out_of_turn, settled_by, turned_by, plan_at, Leaves}
+use Rattle.interface.specs.Serve.{outcome_by, held}
 use Rattle.interface.specs.declared.serve.Served.{Served}
 use Rattle.interface.specs.declared.serve.Served.TheVariants as Turn
 use Rattle.std.specs.List.{list_any}
@@ -51,6 +50,7 @@ use Rattle.proof_stack.specs.Progress.OfUse.{Stirs}
 use Rattle.proof_stack.specs.Progress.Patience.{IsPatient, IsItemPatient}
 use Rattle.proof_stack.proofs.Polls.Plans.{is_to_wait, Facts, plan_facts, waits_later, out_of_turn_waits}
 use Rattle.proof_stack.proofs.Polls.Rests.{rests}
+use Rattle.proof_stack.proofs.Parkless.{Answers, ItemTurns, SendsBy, ServesSlot, TurnsIf}
 
 clash : {X : Type 0} → true ≡ false → X
 clash {X} e = absurd cc
@@ -285,7 +285,7 @@ module _ {D : Type 0} (moves : D → Move → D → Type 0) where
       held_ends plan sent false false move waits facts is gets inner left =
           absurd (let never : (let o : Option Sent = None in o) ≡ Some sent = is in cc)
 
-      leaves : (sent : Sent) → Leaves moves turn x item.meta p sent x' → Gets (plan_at x p) sent → Ends Q x x' turned (Some item')
+      pub leaves : (sent : Sent) → Leaves moves turn x item.meta p sent x' → Gets (plan_at x p) sent → Ends Q x x' turned (Some item')
       leaves sent (inl rests) gets = by rests.0 rests.1 rests.4 where
         by : (given : Bool) → moves x.device (Allowed x.inner.instant given) x'.device
             → outcome_by given (held turn item.meta x.inner (destination_of p.header) (plan_at x p)) ≡ Some sent

@@ -35,13 +35,14 @@ use Rattle.iface_ingress.specs.Arrives as Replies
 use Rattle.iface_ingress.specs.Arrives.{ReplyValue, whole_arrived}
 use Rattle.iface_ingress.specs.FragmentStored.{HasSameSettings}
 use Rattle.interface.specs.Host.{Sender}
-use Rattle.interface.specs.Ingress.{Takes, Replied, is_awaited, is_read, longest_frame}
+use Rattle.interface.specs.Ingress.{Takes, Replied, is_awaited, is_read, longest_frame, would_solicit}
 use Rattle.interface.specs.State.{State}
 use Rattle.interface.specs.Serve.{Leaves, SendsBy, Answers, TurnsIf, ItemTurns, ServesSlot, is_waiting, let_through}
 use Rattle.interface.specs.EgressPath.{FragmentLeaves}
 use Rattle.interface.specs.declared.serve.Served.{Served}
-use Rattle.interface.proofs.Kept.{IsKept}
-use Rattle.interface.proofs.Keep.{polls_keep}
+use Rattle.interface.proofs.Alone.{answers_alone, leaves_alone}
+use Rattle.interface.proofs.Kept.{IsKeptAlone}
+use Rattle.interface.proofs.KeepAlone.{polls_keep_alone}
 use Rattle.interface.proofs.Runs.{receives_same}
 use Rattle.sim_link.specs.Port.{LinkEnd, PortMove, PortValue}
 use Rattle.lan.specs.Worlds.AtLink.Node.{NodeValue, at_port}
@@ -157,31 +158,32 @@ module _ (first : Frames) where
   so_told : (i : InnerValue) → 576 ≤ i.mtu → 42 ≤ link_room i.hardware + i.mtu
   so_told i low = omega (arith, low)
 
-  so_replied : (awaited : Bool) (reply : Option ReplyValue) (x x' : Sender PortValue) → IfReplyMeasured reply → Replied PortMove awaited reply x x'
+  so_replied : (awaited : Bool) (reply : Option ReplyValue) (x x' : Sender PortValue) → x.inner.host_requirements ≡ false → IfReplyMeasured reply → Replied PortMove awaited reply x x'
       → So x.device x.inner → So x'.device x'.inner
-  so_replied awaited None x x' len is so = subst (λ (y : Sender PortValue). So y.device y.inner) (sym is) so
-  so_replied awaited (Some (Replies.Tells packet)) x x' len tells so =
+  so_replied awaited None x x' alone len is so = subst (λ (y : Sender PortValue). So y.device y.inner) (sym is) so
+  so_replied awaited (Some (Replies.Tells packet)) x x' alone len tells so =
       subst (λ (i : InnerValue). So x'.device i) (sym tells.2)
       (so_sends (Departures.Tells packet) tells.0 x.device x'.device x.inner (so_told x.inner so.low) tells.1 so)
-  so_replied awaited (Some (Replies.Answers p)) x x' len (inl held) so = subst (λ (y : Sender PortValue). So y.device y.inner) (sym held.0) so
-  so_replied awaited (Some (Replies.Answers p)) x x' len (inr answers) so =
+  so_replied awaited (Some (Replies.Answers p)) x x' alone len (inl held) so = subst (λ (y : Sender PortValue). So y.device y.inner) (sym held.0) so
+  so_replied awaited (Some (Replies.Answers p)) x x' alone len (inr goes) so =
+      let answers = answers_alone PortMove p (awaited && would_solicit x p) x x' alone goes in
       so_out x.device x'.device x.inner x'.inner x.left x'.left p (is_some x.left) answers.0 len answers.1 so
 
-  so_takes : (s s' : State PortValue) (answer : Option Bool) → So s.device s.host.inner → Takes PortMove s answer s' → So s'.device s'.host.inner
-  so_takes s s' None so takes =
+  so_takes : (s s' : State PortValue) (answer : Option Bool) → s.host.inner.host_requirements ≡ false → So s.device s.host.inner → Takes PortMove s answer s' → So s'.device s'.host.inner
+  so_takes s s' None alone so takes =
       subst (λ (i : InnerValue). So s'.device i) (sym (ap (λ (x : State PortValue). x.host.inner) takes.1))
       (so_same s.device s'.device s.host.inner takes.0.0 so)
-  so_takes s s' (Some false) so takes =
+  so_takes s s' (Some false) alone so takes =
       subst (λ (i : InnerValue). So s'.device i) (sym (ap (λ (x : State PortValue). x.host.inner) takes.3))
       (so_port s.device s'.device s.host.inner (ap (λ (p : PortValue). p.link.sent) (sym takes.1.1)) so)
-  so_takes s s' (Some true) so takes =
+  so_takes s s' (Some true) alone so takes =
       let reads = takes.4 in
       let i : InnerValue = s.host.inner in
       let j : InnerValue = reads.2.0.inner in
       let same : HasSameSettings i j = (receives_same PortMove reads.0 (record s { device = takes.1 }) s' reads.2).0 in
       let took : So takes.1 i = so_port s.device takes.1 i (ap (λ (p : PortValue). p.link.sent) (sym takes.2.1)) so in
       so_replied (is_awaited reads.2.0) reads.2.0.reply (record { device = takes.1; inner = j; left = s.host.left })
-      (record { device = s'.device; inner = s'.host.inner; left = s'.host.left })
+      (record { device = s'.device; inner = s'.host.inner; left = s'.host.left }) (same.host_requirements ∙ alone)
       (brings_so i s.slots (whole_arrived i s.host.timeout s.host.assemblers reads.0) reads.2.0 reads.2.1.1) reads.2.3
       (so_host takes.1 i j same.mtu took)
 
@@ -195,7 +197,7 @@ module _ (first : Frames) where
       subst (λ (i : InnerValue). So x'.device i) (sym is)
       (so_fragment l gone goes.0 x'.device x.inner x'.left goes.2 (so_same x.device goes.0 x.inner goes.1.0 so))
 
-  module _ (turn : Option IpAddress) (x x' : Sender PortValue) (so : So x.device x.inner) where
+  module _ (turn : Option IpAddress) (x x' : Sender PortValue) (alone : x.inner.host_requirements ≡ false) (so : So x.device x.inner) where
     abbrev Next : Type 0
     Next = So x'.device x'.inner
 
@@ -210,7 +212,8 @@ module _ (first : Frames) where
 
     so_sent : (o : Option PacketValue) (item item' : Item Socket) (changed : Bool) (turned : Served) → SendsBy PortMove turn o x item changed turned x' item' → Next
     so_sent None item item' changed turned sends = absurd sends
-    so_sent (Some p) item item' changed turned sends = so_leaves item.meta sends.0 sends.3.0 sends.3.4.sendable.len sends.3.1
+    so_sent (Some p) item item' changed turned sends =
+        so_leaves item.meta sends.0 sends.3.0 sends.3.4.sendable.len (leaves_alone PortMove turn x x' item.meta sends.0 sends.3.0 alone sends.3.1)
 
     so_answers : (answer : Answer.Offer) (item item' : Item Socket) (turned : Served) → Answers PortMove turn answer x item turned x' item' → Next
     so_answers (Offer.Silent changed) item item' turned answers = so_stays answers.1
@@ -232,12 +235,12 @@ module _ (first : Frames) where
   abbrev Whole : State PortValue → Type 0
   Whole s = So s.device s.host.inner
 
-  kept : (t : ℤ) → IsKept PortMove t Whole
+  kept : (t : ℤ) → IsKeptAlone PortMove t Whole
   kept t = record {
     maintenance = λ s so. so_host s.device s.host.inner (at_instant t s.host.inner) refl so;
-    arrivals = λ s s' answer runs so takes. so_takes s s' answer so takes;
+    arrivals = λ s s' answer runs so takes. so_takes s s' answer runs.2 so takes;
     fragments = λ h ps x x' l gone runs is so leaves same. so_fragment_leaves l x x' gone leaves same so;
-    turns = λ turn h before after p p' x x' turned runs so turns. so_slot turn x x' so p p' turned turns;
+    turns = λ turn h before after p p' x x' turned runs so turns. so_slot turn x x' runs.2 so p p' turned turns;
   }
 
 -- A POLL
@@ -248,13 +251,13 @@ pub record SendsShort (before after : Frames) : Type 0 where
   pub are : after ≡ before ++ gone
   pub read : CanBeRead gone
 
-pub sends_short : (s s' : NodeValue) (t : ℤ) (budget : ℕ) (changed : Bool) → 576 ≤ s.host.inner.mtu → s.host.inner.mtu ≤ 65_535 → PollsAt s t budget changed s'
+pub sends_short : (s s' : NodeValue) (t : ℤ) (budget : ℕ) (changed : Bool) → s.host.inner.host_requirements ≡ false → 576 ≤ s.host.inner.mtu → s.host.inner.mtu ≤ 65_535 → PollsAt s t budget changed s'
     → SendsShort s.link.sent s'.link.sent
-sends_short s s' t budget changed low high at =
+sends_short s s' t budget changed alone low high at =
     let first : Frames = at.port.link.sent in
     let begins : Sends first at.port s.host.inner = record { low = low; high = high; gone = []; are = sym (append-nil first); read = tt } in
     let ends : Sends first at.port_after s'.host.inner =
-    (polls_keep PortMove t (Whole first) (kept first t) budget (at_port at.port s) (at_port at.port_after s') changed begins at.polls).0 in
+    (polls_keep_alone PortMove t (Whole first) (kept first t) budget (at_port at.port s) (at_port at.port_after s') changed alone begins at.polls).0 in
     record {
       gone = ends.gone;
       are = ap (λ (l : LinkEnd). l.sent) (sym at.after) ∙ ends.are ∙ ap (λ (l : LinkEnd). l.sent ++ ends.gone) at.before;

@@ -41,10 +41,11 @@ pub fn waiting_sockets_ask_in_turn<D: Device>()
         → AsksThen D.moves x a.hop }
 {}
 
-/// Law: and nobody is asked for until that question's second is over: while the silence lasts a step of the egress path leaves what the host knows of
-/// neighbours, whatever the device does.
+/// Law: and nobody is asked for until that question's second is over: while the silence lasts a step of the egress path leaves what a host without
+/// host requirements knows of neighbours, whatever the device does.
 pub fn nobody_is_asked_for_in_silence<D: Device>()
     ensures { (t : ℤ) (s s' : State D) (answer : Option Bool)
+        → s.host.inner.host_requirements ≡ false
         → int_lt t s.host.inner.neighbors.silent ≡ true
         → EgressStep D.moves t s answer s'
         → s'.host.inner.neighbors ≡ s.host.inner.neighbors }

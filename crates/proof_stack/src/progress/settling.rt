@@ -31,13 +31,13 @@ use super::events::peer_sides_proceed_by_their_events;
 use super::known_hops::nobody_waits_where_hosts_know_each_other;
 use lan::host_laws::one_outcome;
 
-/// Law: a poll takes the first of the frames that wait for its host, and no more of them than its budget. None that it sends is empty, or too long to be
-/// read.
+/// Law: a poll takes the first of the frames that wait for its host, and no more of them than its budget. None that a host without host requirements
+/// sends in it is empty, or too long to be read.
 pub fn polls_take_no_more_than_their_budget()
     ensures taken { (s s' : NodeValue) (instant : ℤ) (budget : ℕ) (changed : Bool) → PollsAt s instant budget changed s'
         → (frames : List (List ℕ)) × (s.link.waiting ≡ frames ++ s'.link.waiting) × (length frames ≤ budget) }
-    ensures sent { (s s' : NodeValue) (instant : ℤ) (budget : ℕ) (changed : Bool) → 576 ≤ s.host.inner.mtu → s.host.inner.mtu ≤ 65_535
-        → PollsAt s instant budget changed s'
+    ensures sent { (s s' : NodeValue) (instant : ℤ) (budget : ℕ) (changed : Bool) → s.host.inner.host_requirements ≡ false
+        → 576 ≤ s.host.inner.mtu → s.host.inner.mtu ≤ 65_535 → PollsAt s instant budget changed s'
         → (frames : List (List ℕ)) × (s'.link.sent ≡ s.link.sent ++ frames) × AllByRecursion (λ frame. is_read frame ≡ true) frames }
 {}
 

@@ -7,5 +7,5 @@ returns-clause-taken c s s' instant budget changed polls =
     let few = takes_few s s' instant budget changed polls in (few.frames, few.first, few.few)
 
 pub returns-clause-sent : goal.returns-clause-sent
-returns-clause-sent c s s' instant budget changed low high polls =
-    let short = sends_short s s' instant budget changed low high polls in (short.gone, short.are, short.read)
+returns-clause-sent c s s' instant budget changed alone low high polls =
+    let short = sends_short s s' instant budget changed alone low high polls in (short.gone, short.are, short.read)
