@@ -4,6 +4,7 @@ pub mod Rests
 pub mod Walks
 pub mod Plans
 pub mod Turns
+pub mod ParkedRests
 pub mod Passes
 pub mod Polled
 pub mod Numbers
