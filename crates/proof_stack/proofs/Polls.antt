@@ -7,6 +7,7 @@ pub mod Turns
 pub mod ParkedRests
 pub mod Passes
 pub mod Polled
+pub mod HostKept
 pub mod Numbers
 pub mod Ways
 pub mod AnyLeave
@@ -32,6 +33,7 @@ pub mod Rotates
 pub mod StillNeeded
 pub mod Known
 pub mod InSilence
+pub mod OwnSilence
 pub mod StillFirst
 pub mod Exchanged
 pub mod Served
