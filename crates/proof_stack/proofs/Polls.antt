@@ -15,6 +15,8 @@ pub mod AnyTurn
 pub mod OurLeave
 pub mod OurTurn
 pub mod Goes
+pub mod LeavesQueue
+pub mod ParkedGoes
 pub mod InTurn
 pub mod Readers
 pub mod NeverRests
