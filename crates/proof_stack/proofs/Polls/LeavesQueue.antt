@@ -1,10 +1,10 @@
 -- With host requirements a datagram that fits in one frame leaves its socket's queue at its turn, whoever its next hop is.
 use Rattle.std.proofs.Common.{◌≡◌, ◌≤◌, ℕ, zero, suc, ◌+◌, Bool, true, false, not, ◌&&◌, ◌||◌, if◌then◌else◌, ◌⊎◌, inl, inr, ℤ, List, [], ◌∷◌, ◌++◌, length, drop, Option, Some, None}
 use Rattle.std.proofs.Common.{is_some, refl, sym, ap, ◌∙◌, subst, arith, append_assoc, append-nil, length-append}
-use Rattle.std.specs.Prelude.{nat_le, slice_get}
+use Rattle.std.specs.Prelude.{slice_get}
 use Rattle.std.specs.List.{list_any}
 use Rattle.std.proofs.lemmas.Bool.{le-leb}
-use Rattle.net_base.specs.Device.{Move, Allowed}
+use Rattle.net_base.specs.Device.{Move}
 use Rattle.net_base.specs.Packets.{contents, unpadded}
 use Rattle.base_buffer.proofs.PacketLaws.{contents-without_first, contents-unpadded}
 use Rattle.ip_wire.specs.EthernetAddress.{EthernetAddress}
@@ -55,7 +55,7 @@ use Rattle.interface.specs.Remote.{context_for}
 use Rattle.interface.specs.SameHost.{IsSameHost, parking_from}
 use Rattle.interface.specs.Serve.{Answers, ItemTurns, Leaves, LeavesIf, LeavesOrParks, SendsAs, SendsBy, ServesSlot, TurnsIf, held, is_given_up, is_out_of_turn, is_waiting}
 use Rattle.interface.specs.Serve.{lost_time}
-use Rattle.interface.specs.Serve.{let_through, outcome_by, plan_at, settled_by, sourced, turned_by, waits_until}
+use Rattle.interface.specs.Serve.{let_through, outcome_by, plan_at, settled_by, turned_by, waits_until}
 use Rattle.interface.specs.State.{State}
 use Rattle.interface.specs.declared.serve.Served.{Served}
 use Rattle.interface.specs.declared.serve.Served.TheVariants as Turn

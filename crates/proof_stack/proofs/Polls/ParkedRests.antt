@@ -28,8 +28,8 @@ use Rattle.iface_tables.specs.declared.neighbor.Neighbor.{Neighbor}
 use Rattle.iface_egress.specs.Departure as Departures
 use Rattle.iface_egress.specs.Departure.{Departure}
 use Rattle.iface_egress.specs.Fragments.{LeftValue, departure_from}
-use Rattle.iface_egress.specs.IsTransmitted.{Asked, IsTransmitted, WasCut, WasSent, cut_of, frame_len_of, frame_of, numbered}
-use Rattle.iface_egress.specs.Parked.{GoesOn, LeavesBy, ServesEach, ServesParked, Tries, lent, packet_in}
+use Rattle.iface_egress.specs.IsTransmitted.{Asked, WasCut, WasSent, cut_of, frame_len_of, frame_of, numbered}
+use Rattle.iface_egress.specs.Parked.{GoesOn, LeavesBy, ServesEach, ServesParked, lent, packet_in}
 use Rattle.iface_egress.specs.Plan.{can_be_cut, may_be_source_on, may_solicit, never_leaves, plan_by, plan_of, solicit_from, solicit_if, solicit_on, solicit_v4, total_len}
 use Rattle.iface_egress.specs.declared.egress_path.Sent.{Sent}
 use Rattle.iface_egress.specs.declared.egress_path.Sent.TheVariants as Outcome
@@ -41,7 +41,7 @@ use Rattle.interface.specs.Instant.{due_by, earlier, parked_due, soonest_if, soo
 use Rattle.interface.specs.QuietStep.{IsEarlier}
 use Rattle.proof_stack.specs.Progress.Moves.{AreMoves}
 use Rattle.proof_stack.specs.Progress.OfUse.{Stirs}
-use Rattle.proof_stack.proofs.Polls.Plans.{Facts, is_busy, plan_facts}
+use Rattle.proof_stack.proofs.Polls.Plans.{is_busy, plan_facts}
 use Rattle.proof_stack.proofs.Polls.Turns.{earlier_later}
 use Rattle.proof_stack.proofs.Polls.Walks.{joined, stirs_before, stirs_following}
 

@@ -10,7 +10,6 @@ use Rattle.iface_egress.specs.declared.socket_set.SocketStorage.{SocketStorage}
 use Rattle.interface.specs.Egress.{EgressStep, sending, if_changed}
 use Rattle.interface.specs.Ingress.{IngressStep}
 use Rattle.interface.specs.Instant.{poll_instant}
-use Rattle.interface.specs.Pass.{Passed}
 use Rattle.interface.specs.Polls.{Repeats, Polls, begun}
 use Rattle.interface.specs.QuietStep.{IsEarlier}
 use Rattle.interface.specs.State.{State}

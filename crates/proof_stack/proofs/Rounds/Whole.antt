@@ -1,14 +1,13 @@
 -- Packets that wait for their next hops have the bytes that their headers say.
-use Rattle.std.proofs.Common.{◌≡◌, ℕ, zero, suc, Bool, true, false, if◌then◌else◌, inl, inr, List, [], ◌∷◌, ◌++◌, drop, take, Option, Some, None, sym, ap, subst}
+use Rattle.std.proofs.Common.{ℕ, zero, suc, Bool, true, false, if◌then◌else◌, inl, inr, List, [], ◌∷◌, ◌++◌, drop, take, Option, Some, None, sym, subst}
 use Rattle.std.specs.Prelude.{remove}
 use Rattle.net_base.specs.Device.{Move}
 use Rattle.ip_wire.specs.Ip.{destination_of, payload_len_of}
 use Rattle.ip_wire.specs.IpAddress.{IpAddress}
-use Rattle.ip_wire.specs.IpRepr.{IpRepr}
 use Rattle.socket_context.specs.Packet.{PacketValue, PayloadValue, ControlV4, ControlV6, Bytes, Datagram, Segment}
 use Rattle.socket_context.specs.WellFormed.{HasWidths, IsWellFormed}
 use Rattle.socket_context.specs.Widths.{IsPayload}
-use Rattle.iface_tables.specs.Inner.{InnerValue, next_hop, parked_by, with_packet_parked}
+use Rattle.iface_tables.specs.Inner.{InnerValue, next_hop, parked_by}
 use Rattle.iface_tables.specs.Parking.{ParkedValue, ParkingValue, has_room, is_holdable, parked_as, place_to_go, with_parked, with_place_for, with_room_for, without_at}
 use Rattle.iface_egress.specs.Parked.{IsPartOf, ServesParked, inner_after, lent}
 use Rattle.iface_egress.proofs.KeptOrder.{in_order}
