@@ -19,7 +19,7 @@ use Rattle.iface_tables.specs.Inner.{InnerValue, all_stations, asked_of, group_h
 use Rattle.iface_tables.specs.Inner.{silence_of}
 use Rattle.iface_tables.specs.Neighbor.{CacheValue, answer_by, has_failed, lookup, missing, neighbor_index_of, unless_failed}
 use Rattle.iface_tables.specs.Parking.{ParkedValue, ParkingValue, headers_of}
-use Rattle.iface_tables.specs.Source.{source_for, source_v4}
+use Rattle.iface_tables.specs.Source.{source_v4}
 use Rattle.iface_tables.specs.declared.link.LinkAddress.{LinkAddress}
 use Rattle.iface_tables.specs.declared.link.LinkAddress.TheVariants as Link
 use Rattle.iface_tables.specs.declared.neighbor.Answer.{Answer}
@@ -30,7 +30,7 @@ use Rattle.iface_egress.specs.Departure.{Departure}
 use Rattle.iface_egress.specs.Fragments.{LeftValue, departure_from}
 use Rattle.iface_egress.specs.IsTransmitted.{Asked, WasCut, WasSent, cut_of, frame_len_of, frame_of, numbered}
 use Rattle.iface_egress.specs.Parked.{GoesOn, LeavesBy, ServesEach, ServesParked, lent, packet_in}
-use Rattle.iface_egress.specs.Plan.{can_be_cut, may_be_source_on, may_solicit, never_leaves, plan_by, plan_of, solicit_from, solicit_if, solicit_on, solicit_v4, total_len}
+use Rattle.iface_egress.specs.Plan.{can_be_cut, may_solicit, never_leaves, plan_by, plan_of, solicit_from, solicit_if, solicit_on, solicit_v4, total_len}
 use Rattle.iface_egress.specs.declared.egress_path.Sent.{Sent}
 use Rattle.iface_egress.specs.declared.egress_path.Sent.TheVariants as Outcome
 use Rattle.iface_egress.specs.declared.frame.NeighborQuery.{NeighborQuery}
@@ -39,6 +39,7 @@ use Rattle.iface_egress.specs.declared.plan.Plan.TheVariants as Way
 use Rattle.interface.specs.Host.{Sender}
 use Rattle.interface.specs.Instant.{due_by, earlier, parked_due, soonest_if, soonest_parked}
 use Rattle.interface.specs.QuietStep.{IsEarlier}
+use Rattle.interface.proofs.ParkedPlan.{plan_parked}
 use Rattle.proof_stack.specs.Progress.Moves.{AreMoves}
 use Rattle.proof_stack.specs.Progress.OfUse.{Stirs}
 use Rattle.proof_stack.proofs.Polls.Plans.{is_busy, plan_facts}
@@ -59,52 +60,9 @@ and_last i [] k wait last = (last, tt)
 and_last i (q ∷ ks) k wait last = (wait.0, and_last i ks k wait.1 last)
 
 -- whatever else waits
-module _ (i : InnerValue) (parking : ParkingValue) where
-  abbrev other : InnerValue
-  other = record i { parking = parking }
-
-  hop_apart : (o : Option IpAddress) → link_of_hop other o ≡ link_of_hop i o
-  hop_apart None = refl
-  hop_apart (Some hop) = refl
-
-  on_apart : (hardware : HardwareAddress) (address : IpAddress) → link_on hardware other address ≡ link_on hardware i address
-  on_apart Hardware.Ip address = refl
-  on_apart (Hardware.Ethernet own) address =
-      ap (λ (l : LinkAddress). if is_local_broadcast i address then Link.Known (Hardware.Ethernet all_stations)
-      else if is_multicast address then Link.Known (Hardware.Ethernet (group_hardware_addr address)) else l) (hop_apart (next_hop i address))
-
-  source_apart : (o : Option IpAddress) (hop : IpAddress) → may_be_source_on o other hop ≡ may_be_source_on o i hop
-  source_apart None hop = refl
-  source_apart (Some source) hop = refl
-
-  from_apart : (own : EthernetAddress) (hop : IpAddress) → solicit_from own other hop ≡ solicit_from own i hop
-  from_apart own (Address.Ipv4 hop) = refl
-  from_apart own (Address.Ipv6 hop) = refl
-
-  solicit_apart : (hardware : HardwareAddress) (hop : IpAddress) → solicit_on hardware other hop ≡ solicit_on hardware i hop
-  solicit_apart Hardware.Ip hop = refl
-  solicit_apart (Hardware.Ethernet own) hop = from_apart own hop
-
-  asks_apart : (may : Bool) (hop : IpAddress) → solicit_if may other hop ≡ solicit_if may i hop
-  asks_apart true hop = solicit_apart i.hardware hop
-  asks_apart false hop = refl
-
-  by_apart : (l : LinkAddress) (busy : Bool) (h : IpRepr) → plan_by l other busy h ≡ plan_by l i busy h
-  by_apart (Link.Known to) busy h = refl
-  by_apart Link.NoRoute busy h = refl
-  by_apart Link.Silent busy h = refl
-  by_apart Link.Unanswered busy h = refl
-  by_apart (Link.Unknown hop) busy h =
-      ap (λ (may : Bool). solicit_if may other hop) (source_apart (source_for i.addresses hop) hop) ∙ asks_apart (may_solicit i hop) hop
-
-  pub plan_apart : (busy : Bool) (h : IpRepr) → plan_of other busy h ≡ plan_of i busy h
-  plan_apart busy h =
-      ap (λ (l : LinkAddress). if never_leaves i h then Way.Drop else plan_by l other busy h) (on_apart i.hardware (destination_of h))
-      ∙ ap (λ (plan : Plan). if never_leaves i h then Way.Drop else plan) (by_apart (link_address i (destination_of h)) busy h)
-
-  wait_apart : (ks : List ParkedValue) → AllWait i ks → AllWait other ks
-  wait_apart [] wait = tt
-  wait_apart (k ∷ ks) wait = (plan_apart false k.header ∙ wait.0, wait_apart ks wait.1)
+wait_apart : (i : InnerValue) (parking : ParkingValue) (ks : List ParkedValue) → AllWait i ks → AllWait (record i { parking = parking }) ks
+wait_apart i parking [] wait = tt
+wait_apart i parking (k ∷ ks) wait = (plan_parked i parking false k.header ∙ wait.0, wait_apart i parking ks wait.1)
 
 -- UNTIL WHEN
 
