@@ -157,7 +157,7 @@ module _ (c : CacheValue) (hop : IpAddress) (instant : ℤ) where
 
 -- LINKS
 
-not_found : (a : Answer) (via hop : IpAddress) → link_by a via ≡ Link.Unknown hop → (a ≡ Known.NotFound) × (via ≡ hop)
+pub not_found : (a : Answer) (via hop : IpAddress) → link_by a via ≡ Link.Unknown hop → (a ≡ Known.NotFound) × (via ≡ hop)
 not_found (Known.Found hardware) via hop is = absurd (let never : Link.Known hardware ≡ Link.Unknown hop = is in cc)
 not_found Known.RateLimited via hop is = absurd (let never : Link.Silent ≡ Link.Unknown hop = is in cc)
 not_found Known.Unanswered via hop is = absurd (let never : Link.Unanswered ≡ Link.Unknown hop = is in cc)
