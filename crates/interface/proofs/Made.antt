@@ -1,5 +1,5 @@
 -- An interface that isn't made.
-use Rattle.std.proofs.Common.{◌≡◌, Option, Some, None, Ok, Err, refl}
+use Rattle.std.proofs.Common.{Option, Some, None, Ok, Err, refl}
 use Rattle.iface_tables.specs.Settings.{MadeUnless}
 use Rattle.iface_tables.specs.declared.config.NewError.{NewError}
 use Rattle.iface_tables.specs.declared.config.NewError.TheVariants as New

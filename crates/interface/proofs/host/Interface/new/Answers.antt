@@ -1,5 +1,5 @@
-use Rattle.std.proofs.Common.{rules, ◌≡◌, Ok, subst}
-use Rattle.iface_tables.specs.Settings.{made, refusal, MadeUnless}
+use Rattle.std.proofs.Common.{rules}
+use Rattle.iface_tables.specs.Settings.{made, refusal}
 use Rattle.interface.specs.Made.{new_host}
 use Rattle.interface.proofs.Made.{lacks_memory}
 use Rattle.interface.proofs.host.Interface.new.Goals as goal
