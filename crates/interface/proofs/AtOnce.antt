@@ -3,7 +3,7 @@ use Rattle.std.proofs.Common.{◌≡◌, ℕ, ◌+◌, ◌%◌, ◌==◌, Bool, 
 use Rattle.std.proofs.Common.{refl, sym, ap, ◌∙◌, subst}
 use Rattle.std.specs.Prelude.{if◌then◌else◌, Result, Ok}
 use Rattle.net_base.specs.Device.{Move, Allowed}
-use Rattle.net_base.specs.Packets.{QueuedPacket, Packets, packet, packets_in, contents, padding_for, start_of, unpadded, first, first_by, without_first}
+use Rattle.net_base.specs.Packets.{QueuedPacket, Packets, packet, packets_in, contents, padding_for, start_of, unpadded, first_by, without_first}
 use Rattle.ip_wire.specs.HardwareAddress.{HardwareAddress}
 use Rattle.ip_wire.specs.Ip.{destination_of}
 use Rattle.ip_wire.specs.IpAddress.{IpAddress}

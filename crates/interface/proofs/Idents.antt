@@ -14,7 +14,7 @@ use Rattle.interface.specs.State.{State}
 use Rattle.interface.specs.Idents.{TakesIdents}
 use Rattle.interface.specs.Used.{most_if, most_parked, sockets_in}
 use Rattle.interface.proofs.HostCounts.{IsHostCount, hosts_priced}
-use Rattle.interface.proofs.Priced.{polls_cost}
+use Rattle.interface.proofs.Priced.{none_added, polls_cost}
 
 module _ (i : InnerValue) where
   abbrev Taken : ℕ → InnerValue → Type 0
@@ -66,14 +66,11 @@ polls_take {D} moves t budget s s' changed polls =
     (polls_cost moves t 0 (λ (n : ℕ) (x : State D). TakesIdents n i x.host.inner)
     (hosts_priced moves t (λ (n : ℕ) (j : InnerValue). TakesIdents n i j) (counted i t) (λ n j k taken. same i n j (record j { parking = k }) refl taken)) budget 0 s s' changed start polls).0
 
-no_more : (n : ℕ) → 0 + n ≡ n
-no_more n = omega arith
-
 -- without host requirements none is parked
 pub polls_take_alone : {D : Type 0} (moves : D → Move → D → Type 0) (t : ℤ) (budget : ℕ) (s s' : State D) (changed : Bool)
     → s.host.inner.host_requirements ≡ false → Polls moves t budget s changed s'
     → TakesIdents (budget * (1 + sockets_in s.slots)) s.host.inner s'.host.inner
 polls_take_alone moves t budget s s' changed alone polls =
-    subst (λ (n : ℕ). TakesIdents (budget * n) s.host.inner s'.host.inner) (no_more (1 + sockets_in s.slots))
+    subst (λ (n : ℕ). TakesIdents (budget * n) s.host.inner s'.host.inner) (none_added (1 + sockets_in s.slots))
     (subst (λ (many : Bool). TakesIdents (budget * (most_if many (length s.host.inner.parking.packets) + (1 + sockets_in s.slots))) s.host.inner s'.host.inner) alone
     (polls_take moves t budget s s' changed polls))

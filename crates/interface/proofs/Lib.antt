@@ -44,5 +44,6 @@ pub mod Told
 pub mod Arrives
 pub mod Named
 pub mod Offered
+pub mod Made
 pub mod Stays
 pub mod Backlog
