@@ -22,7 +22,6 @@ use Rattle.iface_tables.specs.Inner.{InnerValue, at_instant, context_of, is_crow
 use Rattle.iface_tables.specs.Inner.{with_next_ident, with_packet_parked, with_request}
 use Rattle.iface_tables.specs.Parking.{ParkedValue, ParkingValue, empty_parking}
 use Rattle.iface_tables.specs.declared.link.LinkAddress.TheVariants as Link
-use Rattle.iface_tables.specs.declared.neighbor.Answer.{Answer}
 use Rattle.iface_egress.specs.Departure as Departures
 use Rattle.iface_egress.specs.Departure.{Departure, target_of}
 use Rattle.iface_egress.specs.Fragments.{LeftValue, departure_from}

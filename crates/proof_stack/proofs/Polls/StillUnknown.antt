@@ -10,8 +10,6 @@ use Rattle.ip_wire.specs.HardwareAddress.{HardwareAddress}
 use Rattle.ip_wire.specs.HardwareAddress.TheVariants as Hardware
 use Rattle.ip_wire.specs.IpAddress.{IpAddress}
 use Rattle.ip_wire.specs.IpRepr.{IpRepr}
-use Rattle.ip_wire.specs.IpRepr.TheVariants as Ip
-use Rattle.iface_ingress.specs.Offer as Answer
 use Rattle.iface_tables.specs.Best.{at_index}
 use Rattle.iface_tables.specs.Inner.{InnerValue, all_stations, asked_of, group_hardware_addr, is_local_broadcast, link_address, link_by, link_of_hop, link_on}
 use Rattle.iface_tables.specs.Inner.{next_hop, silence_of, with_request}
