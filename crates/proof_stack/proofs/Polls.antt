@@ -17,6 +17,7 @@ pub mod OurTurn
 pub mod Goes
 pub mod LeavesQueue
 pub mod ParkedGoes
+pub mod Parks
 pub mod InTurn
 pub mod Readers
 pub mod NeverRests

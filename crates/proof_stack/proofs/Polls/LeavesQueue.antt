@@ -488,7 +488,7 @@ module _ {D : Type 0} (moves : D → Move → D → Type 0) (socket offering : S
       by xs ys (inl refused) = inl (refused_following xs ys refused)
       by xs ys (inr went) = inr went
 
-no_segment : (cx : ContextValue) (v : UdpValue) (d : UdpMetadata × List ℕ) (p : PacketValue)
+pub no_segment : (cx : ContextValue) (v : UdpValue) (d : UdpMetadata × List ℕ) (p : PacketValue)
     → TakesDatagram cx v.settings d p → is_segment p.payload ≡ false
 no_segment cx v d p takes = ap (λ (q : PacketValue). is_segment q.payload) takes.1
 

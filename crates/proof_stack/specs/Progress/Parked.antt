@@ -1,5 +1,5 @@
 -- Packets that wait for their next hops beside the sockets, with host requirements.
-use Rattle.std.specs.Prelude.{◌≡◌, ◌⊎◌, ℕ, Bool, true, List, slice_get, drop, Option, Some}
+use Rattle.std.specs.Prelude.{◌≡◌, ◌⊎◌, ℕ, Bool, true, List, [], ◌∷◌, ◌++◌, slice_get, drop, Option, Some}
 use Rattle.std.specs.List.{AllByRecursion, list_any}
 use Rattle.net_base.specs.Device.{Move}
 use Rattle.net_base.specs.Packets.{contents}
@@ -10,9 +10,11 @@ use Rattle.iface_ingress.specs.Packet.{PacketValue}
 use Rattle.iface_ingress.specs.Socket.{Socket}
 use Rattle.iface_ingress.specs.Socket.TheVariants as Kind
 use Rattle.iface_tables.specs.Inner.{InnerValue}
-use Rattle.iface_tables.specs.Parking.{ParkedValue, IsMeasured, header_of}
+use Rattle.iface_tables.specs.Parking.{ParkedValue, IsMeasured, header_of, parked_as}
 use Rattle.iface_egress.specs.Set.{unmarked}
 use Rattle.iface_egress.specs.declared.socket_set.SocketStorage.{SocketStorage}
+use Rattle.interface.specs.declared.serve.Served.{Served}
+use Rattle.interface.specs.declared.serve.Served.TheVariants as Turn
 use Rattle.proof_stack.specs.Progress.Exchanged.{AsksFor}
 use Rattle.proof_stack.specs.Progress.Moves.{AreMoves, is_refused}
 use Rattle.proof_stack.specs.Progress.Queued.{SendsPacket}
@@ -60,3 +62,11 @@ pub record IsAskedForAtOnce {D : Type 0} (moves : D → Move → D → Type 0) (
   pub all : List Move
   pub are : AreMoves moves all old new
   pub what : (list_any is_refused all ≡ true) ⊎ AsksFor i hop all
+
+-- A DATAGRAM THAT HAS TO WAIT is parked
+
+-- the next socket has its turn, and the packet waits for this hop, the last of those that wait
+pub record IsParkedLast (i : InnerValue) (hop : IpAddress) (p : PacketValue) (turned : Served) (j : InnerValue) : Type 0 where
+  pub next : turned ≡ Turn.Next true
+  pub before : List ParkedValue
+  pub last : j.parking.packets ≡ before ++ parked_as i.checksums hop p ∷ []
