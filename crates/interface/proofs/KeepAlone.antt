@@ -10,7 +10,7 @@ use Rattle.interface.specs.Used.{most_if, sockets_in}
 use Rattle.interface.proofs.Count.{polls_count}
 use Rattle.interface.proofs.Keep.{in_step_keeps, out_step_keeps, polls_keep}
 use Rattle.interface.proofs.Kept.{IsCounted, IsCountedAlone, IsKept, IsKeptAlone, IsPriced, IsPricedAlone, RunsAloneAt}
-use Rattle.interface.proofs.Priced.{polls_cost}
+use Rattle.interface.proofs.Priced.{none_added, polls_cost}
 use Rattle.interface.proofs.Runs.{receives_same}
 use Rattle.interface.proofs.SameHost.{same_flag, slot_same}
 use Rattle.interface.proofs.Shapes.{shape}
@@ -97,7 +97,8 @@ module _ {D : Type 0} (moves : D → Move → D → Type 0) where
       polls_cost_alone budget n s s' changed alone holds polls =
           let all = polls_cost moves t fragment (λ (m : ℕ) (x : State D). Holds (Q m x) x) priced_so budget n s s' changed (record { so = holds; alone = alone })
           polls in (
-            subst (λ (b : Bool). Q (n + budget * (1 + (most_if b (length s.host.inner.parking.packets) + (fragment + sockets_in s.slots)))) s') alone all.0.so,
+            subst (λ (m : ℕ). Q (n + budget * (1 + m)) s') (none_added (fragment + sockets_in s.slots))
+                (subst (λ (b : Bool). Q (n + budget * (1 + (most_if b (length s.host.inner.parking.packets) + (fragment + sockets_in s.slots)))) s') alone all.0.so),
             (all.1.0, all.1.1, all.0.alone),
             all.2,
           )
@@ -126,7 +127,8 @@ module _ {D : Type 0} (moves : D → Move → D → Type 0) where
           Polls moves t budget s changed s' → Q (n + budget * (length s.slots + 2)) s' × RunsAloneAt t s'.host.inner × (length s'.slots ≡ length s.slots)
       polls_count_alone budget n s s' changed alone holds polls =
           let all = polls_count moves t (λ (m : ℕ) (x : State D). Holds (Q m x) x) counted_so budget n s s' changed (record { so = holds; alone = alone }) polls in (
-            subst (λ (b : Bool). Q (n + budget * (most_if b (length s.host.inner.parking.packets) + (length s.slots + 2))) s') alone all.0.so,
+            subst (λ (m : ℕ). Q (n + budget * m) s') (none_added (length s.slots + 2))
+                (subst (λ (b : Bool). Q (n + budget * (most_if b (length s.host.inner.parking.packets) + (length s.slots + 2))) s') alone all.0.so),
             (all.1.0, all.1.1, all.0.alone),
             all.2,
           )

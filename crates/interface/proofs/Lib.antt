@@ -3,6 +3,7 @@ pub mod IdleSlots
 pub mod Known
 pub mod Due
 pub mod QuietTurn
+pub mod ParkedPlan
 pub mod QuietParked
 pub mod QuietPass
 pub mod StepUnchanged
@@ -43,5 +44,6 @@ pub mod Told
 pub mod Arrives
 pub mod Named
 pub mod Offered
+pub mod Made
 pub mod Stays
 pub mod Backlog

@@ -28,6 +28,10 @@ use Rattle.interface.proofs.Runs.{runs_out, runs_so, runs_where, takes_runs, tur
 use Rattle.interface.proofs.SameHost.{flag_cleared, serves_same}
 use Rattle.interface.proofs.Shapes.{shape, trues, sockets_so, one_slot, takes_shape}
 
+-- where nothing waits, nothing is added
+pub none_added : (n : ℕ) → 0 + n ≡ n
+none_added n = omega arith
+
 module _ {D : Type 0} (moves : D → Move → D → Type 0) (t : ℤ) (fragment : ℕ) (Q : ℕ → State D → Type 0) (kept : IsPriced moves t fragment Q) (first : List Bool) (parked : ℕ) where
   -- so many were counted, while the call runs; the same slots have sockets as at first; and no more than so many packets wait
   record Counts (n : ℕ) (s : State D) : Type 0 where

@@ -96,7 +96,7 @@ hop_limit i (Some hop) knows =
     links i.hardware (lookup (asked_of i hop) hop i.instant) hop
     (unless_stays i.hardware (has_failed (asked_of i hop) hop i.instant)
     (answer_by (at_index (neighbor_index_of i.neighbors.entries hop) i.neighbors.entries) (asked_of i hop) i.instant)
-    (answers i.hardware (at_index (neighbor_index_of i.neighbors.entries hop) i.neighbors.entries) i.neighbors i.instant
+    (answers i.hardware (at_index (neighbor_index_of i.neighbors.entries hop) i.neighbors.entries) (asked_of i hop) i.instant
     (at i.hardware (neighbor_index_of i.neighbors.entries hop) i.neighbors.entries knows)))
 
 -- GROUPS

@@ -40,12 +40,13 @@ use Rattle.interface.specs.State.{State}
 use Rattle.interface.specs.Ingress.{AnswerGoes, Takes, Replied, is_awaited, would_solicit}
 use Rattle.interface.specs.Polls.{Polls}
 use Rattle.interface.proofs.Kept.{RunsAt, IsCounted}
-use Rattle.interface.specs.Touches.{Touch, Looks, Leave, Sends, Traced, Does, DoesAll, departed, sends_in, Silences, SilencesIf, second_after}
+use Rattle.interface.specs.Touches.{Touch, Looks, Leave, Sends, Traced, TracedAlone, Does, departed, sends_in, Silences, SilencesIf, second_after}
 use Rattle.interface.specs.Used.{most_if, most_parked}
 use Rattle.interface.proofs.Parked.{HasLeft, parked_go}
 use Rattle.interface.proofs.SameHost.{is_transmitted_same}
 use Rattle.interface.proofs.Runs.{receives_same}
 use Rattle.interface.proofs.Count.{polls_count}
+use Rattle.interface.proofs.Priced.{none_added}
 
 module _ {D : Type 0} (moves : D → Move → D → Type 0) (t : ℤ) (d0 : D) (i0 : InnerValue) (n : ℕ) where
   -- so far, with `n` sends at most; and after one more at most
@@ -354,15 +355,6 @@ one_silence t (Departures.Tells packet ∷ ds) before after is = one_silence t d
 one_silence t (Departures.Whole to p ∷ ds) before after is = one_silence t ds before after is
 one_silence t (Departures.Part to header fragment ∷ ds) before after is = one_silence t ds before after is
 
--- one silence is for all, and nothing that waited was sent
-pub record TracedAlone {D : Type 0} (moves : D → Move → D → Type 0) (t : ℤ) (most : ℕ) (d : D) (i : InnerValue) (d' : D) (i' : InnerValue) : Type 0 where
-  pub touches : List Touch
-  pub path : DoesAll moves t i.hardware i.checksums touches d d'
-  pub sends : sends_in touches ≤ most
-  pub silence : Silences t (departed touches) i.neighbors.silent i'.neighbors.silent
-  pub hardware : i'.hardware ≡ i.hardware
-  pub checksums : i'.checksums ≡ i.checksums
-
 pub polls_traced_alone : {D : Type 0} (moves : D → Move → D → Type 0) (t : ℤ) (budget : ℕ) (s s' : State D) (changed : Bool)
     → s.host.inner.host_requirements ≡ false → Polls moves t budget s changed s'
     → TracedAlone moves t (budget * (length s.slots + 2)) s.device s.host.inner s'.device s'.host.inner
@@ -371,7 +363,8 @@ polls_traced_alone moves t budget s s' changed alone polls =
     record {
       touches = all.touches;
       path = all.path;
-      sends = subst (λ (many : Bool). sends_in all.touches ≤ budget * (most_if many (length s.host.inner.parking.packets) + (length s.slots + 2))) alone all.sends;
+      sends = subst (λ (n : ℕ). sends_in all.touches ≤ budget * n) (none_added (length s.slots + 2))
+          (subst (λ (many : Bool). sends_in all.touches ≤ budget * (most_if many (length s.host.inner.parking.packets) + (length s.slots + 2))) alone all.sends);
       silence = one_silence t (departed all.touches) s.host.inner.neighbors.silent s'.host.inner.neighbors.silent
           (subst (λ (many : Bool). SilencesIf many t (departed all.touches) s.host.inner.neighbors.silent s'.host.inner.neighbors.silent) alone all.silence);
       hardware = all.hardware;
