@@ -41,7 +41,7 @@ use Rattle.interface.specs.Serve.{passes_filter, is_waiting, let_through, held, 
 use Rattle.interface.specs.Serve.{SendsAs, SendsBy, Sends, Answers, TurnsIf, Turns}
 use Rattle.interface.specs.declared.serve.Served.{Served}
 use Rattle.interface.specs.declared.serve.Served.TheVariants as Turn
-use Rattle.interface.proofs.SameHost.{same_where}
+use Rattle.interface.proofs.SameHost.{same_but, same_made, same_where}
 use Rattle.interface.proofs.Sourced.{sends_from, sourced_stays}
 use Rattle.iface_egress.specs.Parked.{is_searched}
 use Rattle.interface.proofs.Alone.{leaves_unsearched}
@@ -78,8 +78,10 @@ gone_apart : Outcome.Gone ≡ Outcome.Refused → ⊥
 gone_apart is = cc
 
 header_same : (h : IpRepr) (i : InnerValue) → IsSameHost i (after_header h i)
-header_same (Ip.Ipv4 v) i = refl
-header_same (Ip.Ipv6 v) i = refl
+header_same h i = same_made i (after_header h i) (by h) where
+  by : (h : IpRepr) → after_header h i ≡ same_but i (after_header h i) i.parking
+  by (Ip.Ipv4 v) = refl
+  by (Ip.Ipv6 v) = refl
 
 module _ {D : Type 0} (moves : D → Move → D → Type 0) where
   was_sent_same : (old new : D) (i i' : InnerValue) (h : IpRepr) (d : Departure) (sent : Sent) → WasSent moves old i h d sent new i' → IsSameHost i i'

@@ -1,5 +1,5 @@
 -- The identifications that a poll takes.
-use Rattle.std.proofs.Common.{◌≡◌, ℕ, suc, ◌+◌, ◌*◌, ◌%◌, ◌^◌, ◌≤◌, arith, Bool, true, false, cond, refl, ap, ◌∙◌}
+use Rattle.std.proofs.Common.{◌≡◌, ℕ, suc, ◌+◌, ◌*◌, ◌%◌, ◌^◌, ◌≤◌, arith, Bool, true, false, cond, length, refl, ap, ◌∙◌, subst}
 use Rattle.std.specs.Prelude.{ℤ}
 use Rattle.std.proofs.Math.Nat.{mul-le-mul_left}
 use Rattle.net_base.specs.Device.{Move}
@@ -12,7 +12,7 @@ use Rattle.iface_egress.specs.declared.egress_path.Sent.TheVariants as Outcome
 use Rattle.interface.specs.Polls.{Polls}
 use Rattle.interface.specs.State.{State}
 use Rattle.interface.specs.Idents.{TakesIdents}
-use Rattle.interface.specs.Used.{most_parked, sockets_in}
+use Rattle.interface.specs.Used.{most_if, most_parked, sockets_in}
 use Rattle.interface.proofs.HostCounts.{IsHostCount, hosts_priced}
 use Rattle.interface.proofs.Priced.{polls_cost}
 
@@ -65,3 +65,15 @@ polls_take {D} moves t budget s s' changed polls =
     more i (0 + cost) (budget * (parked + (1 + sockets_in s.slots))) s'.host.inner (omega (arith, most))
     (polls_cost moves t 0 (λ (n : ℕ) (x : State D). TakesIdents n i x.host.inner)
     (hosts_priced moves t (λ (n : ℕ) (j : InnerValue). TakesIdents n i j) (counted i t) (λ n j k taken. same i n j (record j { parking = k }) refl taken)) budget 0 s s' changed start polls).0
+
+no_more : (n : ℕ) → 0 + n ≡ n
+no_more n = omega arith
+
+-- without host requirements none is parked
+pub polls_take_alone : {D : Type 0} (moves : D → Move → D → Type 0) (t : ℤ) (budget : ℕ) (s s' : State D) (changed : Bool)
+    → s.host.inner.host_requirements ≡ false → Polls moves t budget s changed s'
+    → TakesIdents (budget * (1 + sockets_in s.slots)) s.host.inner s'.host.inner
+polls_take_alone moves t budget s s' changed alone polls =
+    subst (λ (n : ℕ). TakesIdents (budget * n) s.host.inner s'.host.inner) (no_more (1 + sockets_in s.slots))
+    (subst (λ (many : Bool). TakesIdents (budget * (most_if many (length s.host.inner.parking.packets) + (1 + sockets_in s.slots))) s.host.inner s'.host.inner) alone
+    (polls_take moves t budget s s' changed polls))

@@ -3,6 +3,7 @@ pub mod IdleSlots
 pub mod Known
 pub mod Due
 pub mod QuietTurn
+pub mod ParkedPlan
 pub mod QuietParked
 pub mod QuietPass
 pub mod StepUnchanged

@@ -19,7 +19,7 @@ use Rattle.iface_tables.specs.Inner.{InnerValue, asked_of, at_instant, is_local_
 use Rattle.iface_tables.specs.Inner.{all_stations, group_hardware_addr}
 use Rattle.iface_tables.specs.Neighbor.{CacheValue, answer_by, answer_of, has_failed, has_failed_by, is_found, last_request, lookup, missing, most_requests}
 use Rattle.iface_tables.specs.Neighbor.{neighbor_index_of, own_silence, search_of, unless_failed}
-use Rattle.iface_tables.specs.Parking.{ParkedValue, headers_of}
+use Rattle.iface_tables.specs.Parking.{ParkedValue, empty_parking, headers_of}
 use Rattle.iface_tables.specs.declared.link.LinkAddress.{LinkAddress}
 use Rattle.iface_tables.specs.declared.link.LinkAddress.TheVariants as Link
 use Rattle.iface_tables.specs.declared.neighbor.Answer.{Answer}
@@ -40,6 +40,7 @@ use Rattle.interface.specs.Instant.{due_by, earlier, parked_due}
 use Rattle.interface.specs.QuietStep.{IsEarlier, RoutesStay}
 use Rattle.interface.proofs.Due.{both_early}
 use Rattle.interface.proofs.Known.{found_unless, unfound_by}
+use Rattle.interface.proofs.ParkedPlan.{plan_parked}
 
 -- WHO WAITS
 
@@ -243,7 +244,7 @@ module _ (asked : InnerValue) (t : ℤ) (since : asked.instant ≤ℤ t) (routes
         let wait : AllWait x.inner.parking.packets =
         subst (λ (i : InnerValue). AllWait i.parking.packets) (sym here) ((all_wait None asked.parking.packets instant early).1) in
         let end = each_waits x.inner.parking.packets [] (lent moves x) all serves.0 serves.1
-        (λ header. ap (λ (i : InnerValue). plan_of i false header) here) idle wait serves.2 in (
+        (λ header. plan_parked x.inner (empty_parking 0) false header ∙ ap (λ (i : InnerValue). plan_of i false header) here) idle wait serves.2 in (
           end.0,
           serves.3 ∙ ap (λ (y : Sender D). put_back moves x.inner.parking.room serves.1 y) end.1
               ∙ ap (λ (ks : List ParkedValue). put_back moves x.inner.parking.room ks (lent moves x)) end.2,

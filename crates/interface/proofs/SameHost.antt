@@ -37,7 +37,7 @@ pub parked_so : (many : Bool) (k l : ParkingValue) → k ≡ l → k ≡ (if man
 parked_so true k l is = refl
 parked_so false k l is = is
 
-abbrev same_but : InnerValue → InnerValue → ParkingValue → InnerValue
+abbrev pub same_but : InnerValue → InnerValue → ParkingValue → InnerValue
 same_but old new parking =
     record old { ident = new.ident; neighbors = record old.neighbors { silent = new.neighbors.silent; searches = new.neighbors.searches }; parking = parking }
 
@@ -67,7 +67,7 @@ same_parked i k many = ap (same_but i i) (by i.host_requirements many) where
   by false is = absurd cc
 
 -- another identification, and other searches
-same_made : (i i' : InnerValue) → i' ≡ same_but i i' i.parking → IsSameHost i i'
+pub same_made : (i i' : InnerValue) → i' ≡ same_but i i' i.parking → IsSameHost i i'
 same_made i i' is =
     is ∙ ap (same_but i i') (parked_so i.host_requirements i.parking i.parking refl
     ∙ ap (λ (k : ParkingValue). if i.host_requirements then k else i.parking) (sym (ap (λ (x : InnerValue). x.parking) is)))

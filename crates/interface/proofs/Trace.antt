@@ -40,7 +40,7 @@ use Rattle.interface.specs.State.{State}
 use Rattle.interface.specs.Ingress.{AnswerGoes, Takes, Replied, is_awaited, would_solicit}
 use Rattle.interface.specs.Polls.{Polls}
 use Rattle.interface.proofs.Kept.{RunsAt, IsCounted}
-use Rattle.interface.specs.Touches.{Touch, Looks, Leave, Sends, Traced, Does, DoesAll, departed, sends_in, Silences, SilencesIf, second_after}
+use Rattle.interface.specs.Touches.{Touch, Looks, Leave, Sends, Traced, TracedAlone, Does, departed, sends_in, Silences, SilencesIf, second_after}
 use Rattle.interface.specs.Used.{most_if, most_parked}
 use Rattle.interface.proofs.Parked.{HasLeft, parked_go}
 use Rattle.interface.proofs.SameHost.{is_transmitted_same}
@@ -354,14 +354,8 @@ one_silence t (Departures.Tells packet ∷ ds) before after is = one_silence t d
 one_silence t (Departures.Whole to p ∷ ds) before after is = one_silence t ds before after is
 one_silence t (Departures.Part to header fragment ∷ ds) before after is = one_silence t ds before after is
 
--- one silence is for all, and nothing that waited was sent
-pub record TracedAlone {D : Type 0} (moves : D → Move → D → Type 0) (t : ℤ) (most : ℕ) (d : D) (i : InnerValue) (d' : D) (i' : InnerValue) : Type 0 where
-  pub touches : List Touch
-  pub path : DoesAll moves t i.hardware i.checksums touches d d'
-  pub sends : sends_in touches ≤ most
-  pub silence : Silences t (departed touches) i.neighbors.silent i'.neighbors.silent
-  pub hardware : i'.hardware ≡ i.hardware
-  pub checksums : i'.checksums ≡ i.checksums
+no_more : (n : ℕ) → 0 + n ≡ n
+no_more n = omega arith
 
 pub polls_traced_alone : {D : Type 0} (moves : D → Move → D → Type 0) (t : ℤ) (budget : ℕ) (s s' : State D) (changed : Bool)
     → s.host.inner.host_requirements ≡ false → Polls moves t budget s changed s'
@@ -371,7 +365,8 @@ polls_traced_alone moves t budget s s' changed alone polls =
     record {
       touches = all.touches;
       path = all.path;
-      sends = subst (λ (many : Bool). sends_in all.touches ≤ budget * (most_if many (length s.host.inner.parking.packets) + (length s.slots + 2))) alone all.sends;
+      sends = subst (λ (n : ℕ). sends_in all.touches ≤ budget * n) (no_more (length s.slots + 2))
+          (subst (λ (many : Bool). sends_in all.touches ≤ budget * (most_if many (length s.host.inner.parking.packets) + (length s.slots + 2))) alone all.sends);
       silence = one_silence t (departed all.touches) s.host.inner.neighbors.silent s'.host.inner.neighbors.silent
           (subst (λ (many : Bool). SilencesIf many t (departed all.touches) s.host.inner.neighbors.silent s'.host.inner.neighbors.silent) alone all.silence);
       hardware = all.hardware;

@@ -44,7 +44,7 @@ Silences t (Tells packet ∷ ds) before after = Silences t ds before after
 Silences t (Whole to p ∷ ds) before after = Silences t ds before after
 Silences t (Part to header fragment ∷ ds) before after = Silences t ds before after
 
--- The same of any host: with host requirements a request may leave in the silence of another one, and its own neighbour's is over.
+-- The same of any host: with host requirements a request may leave in the silence that another one began.
 abbrev pub SilencesIf : (many : Bool) → ℤ → List Departure → ℤ → ℤ → Type 0
 SilencesIf many t [] before after = after ≡ before
 SilencesIf many t (Asks neighbor_query ∷ ds) before after =
@@ -78,3 +78,12 @@ pub record Traced {D : Type 0} (moves : D → Move → D → Type 0) (t : ℤ) (
   pub hardware : i'.hardware ≡ i.hardware
   pub checksums : i'.checksums ≡ i.checksums
   pub host_requirements : i'.host_requirements ≡ i.host_requirements
+
+-- The same without host requirements: one silence is for all, and nothing that waited was sent.
+pub record TracedAlone {D : Type 0} (moves : D → Move → D → Type 0) (t : ℤ) (most : ℕ) (d : D) (i : InnerValue) (d' : D) (i' : InnerValue) : Type 0 where
+  pub touches : List Touch
+  pub path : DoesAll moves t i.hardware i.checksums touches d d'
+  pub sends : sends_in touches ≤ most
+  pub silence : Silences t (departed touches) i.neighbors.silent i'.neighbors.silent
+  pub hardware : i'.hardware ≡ i.hardware
+  pub checksums : i'.checksums ≡ i.checksums

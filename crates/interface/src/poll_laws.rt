@@ -35,7 +35,7 @@ ghost use Rattle.iface_egress.specs.Determined.{IsDetermined};
 ghost use Rattle.interface.specs.Idents.{TakesIdents};
 ghost use Rattle.interface.specs.Used.{most_parked, sockets_in};
 ghost use Rattle.interface.specs.Steady.{IsSteady};
-ghost use Rattle.interface.specs.Touches.{Traced};
+ghost use Rattle.interface.specs.Touches.{Traced, TracedAlone};
 
 use iface_ingress::socket_laws::one_offer;
 use net_base::Device;
@@ -52,9 +52,12 @@ pub fn polls_keep_settings<D: Device>()
 /// for their next hops at most. Without them a request among those that the device took is no earlier than the end of the silence. It begins
 /// one of a second; nothing else in a poll begins or ends one.
 pub fn asks_a_second_apart<D: Device>()
-    ensures { (t : ℤ) (budget : ℕ) (s s' : State D) (changed : Bool)
+    ensures traced { (t : ℤ) (budget : ℕ) (s s' : State D) (changed : Bool)
         → Polls D.moves t budget s changed s'
         → Traced D.moves t (budget * (most_parked s.host.inner + (length s.slots + 2))) s.device s.host.inner s'.device s'.host.inner }
+    ensures few { (t : ℤ) (budget : ℕ) (s s' : State D) (changed : Bool) → s.host.inner.host_requirements ≡ false
+        → Polls D.moves t budget s changed s'
+        → TracedAlone D.moves t (budget * (length s.slots + 2)) s.device s.host.inner s'.device s'.host.inner }
 {}
 
 /// Law: of the neighbours that sockets wait for none comes before the one whose turn it is to be asked for; and while a socket waits,
@@ -101,9 +104,12 @@ pub fn chosen_sources_are_local()
 /// Law: a poll takes at most one identification for each frame that it may take and each turn of a socket: one for each step of its
 /// budget, and one for each socket; and with host requirements one for each packet that waits for its next hop. A later fragment takes none.
 pub fn identifications_of_a_poll<D: Device>()
-    ensures { (t : ℤ) (budget : ℕ) (s s' : State D) (changed : Bool)
+    ensures taken { (t : ℤ) (budget : ℕ) (s s' : State D) (changed : Bool)
         → Polls D.moves t budget s changed s'
         → TakesIdents (budget * (most_parked s.host.inner + (1 + sockets_in s.slots))) s.host.inner s'.host.inner }
+    ensures few { (t : ℤ) (budget : ℕ) (s s' : State D) (changed : Bool) → s.host.inner.host_requirements ≡ false
+        → Polls D.moves t budget s changed s'
+        → TakesIdents (budget * (1 + sockets_in s.slots)) s.host.inner s'.host.inner }
 {}
 
 /// Law: at a device that stays determined a poll has one end: device, host, sockets, and whether anything changed.

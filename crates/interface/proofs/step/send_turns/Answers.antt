@@ -1,4 +1,4 @@
-use Rattle.std.proofs.Common.{Option, false, [], inl, inr, refl, subst}
+use Rattle.std.proofs.Common.{Option, true, false, [], inl, inr, refl, subst}
 use Rattle.ip_wire.specs.IpAddress.{IpAddress}
 use Rattle.interface.specs.Host.{sender}
 use Rattle.interface.specs.Pass.{Pass, passed}
