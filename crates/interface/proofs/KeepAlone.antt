@@ -1,5 +1,5 @@
 -- What a poll of a host without host requirements keeps, and what it costs.
-use Rattle.std.proofs.Common.{◌≡◌, ℕ, ◌+◌, ◌*◌, ℤ, Bool, true, false, length, Option, Some, None, ap, ◌∙◌, subst}
+use Rattle.std.proofs.Common.{◌≡◌, ℕ, ◌+◌, ◌*◌, ℤ, Bool, true, false, length, Option, Some, None, ap, ◌∙◌, subst, arith}
 use Rattle.net_base.specs.Device.{Move}
 use Rattle.iface_tables.specs.Inner.{InnerValue}
 use Rattle.interface.specs.Ingress.{IngressStep, Takes}
@@ -18,6 +18,9 @@ use Rattle.interface.proofs.Shapes.{shape}
 both_flags : (b : Bool) → b ≡ true → b ≡ false → ⊥
 both_flags true is not = cc
 both_flags false is not = cc
+
+no_more : (n : ℕ) → 0 + n ≡ n
+no_more n = omega arith
 
 module _ {D : Type 0} (moves : D → Move → D → Type 0) where
   takes_flag : (s s' : State D) (answer : Option Bool) → Takes moves s answer s' → s'.host.inner.host_requirements ≡ s.host.inner.host_requirements
@@ -97,7 +100,9 @@ module _ {D : Type 0} (moves : D → Move → D → Type 0) where
       polls_cost_alone budget n s s' changed alone holds polls =
           let all = polls_cost moves t fragment (λ (m : ℕ) (x : State D). Holds (Q m x) x) priced_so budget n s s' changed (record { so = holds; alone = alone })
           polls in (
-            subst (λ (b : Bool). Q (n + budget * (1 + (most_if b (length s.host.inner.parking.packets) + (fragment + sockets_in s.slots)))) s') alone all.0.so,
+            subst (λ (k : ℕ). Q (n + budget * (1 + k)) s') (no_more (fragment + sockets_in s.slots))
+                (subst (λ (b : Bool). Q (n + budget * (1 + (most_if b (length s.host.inner.parking.packets) + (fragment + sockets_in s.slots)))) s') alone
+                all.0.so),
             (all.1.0, all.1.1, all.0.alone),
             all.2,
           )
@@ -126,7 +131,8 @@ module _ {D : Type 0} (moves : D → Move → D → Type 0) where
           Polls moves t budget s changed s' → Q (n + budget * (length s.slots + 2)) s' × RunsAloneAt t s'.host.inner × (length s'.slots ≡ length s.slots)
       polls_count_alone budget n s s' changed alone holds polls =
           let all = polls_count moves t (λ (m : ℕ) (x : State D). Holds (Q m x) x) counted_so budget n s s' changed (record { so = holds; alone = alone }) polls in (
-            subst (λ (b : Bool). Q (n + budget * (most_if b (length s.host.inner.parking.packets) + (length s.slots + 2))) s') alone all.0.so,
+            subst (λ (k : ℕ). Q (n + budget * k) s') (no_more (length s.slots + 2))
+                (subst (λ (b : Bool). Q (n + budget * (most_if b (length s.host.inner.parking.packets) + (length s.slots + 2))) s') alone all.0.so),
             (all.1.0, all.1.1, all.0.alone),
             all.2,
           )
