@@ -160,7 +160,7 @@ module _ (first : InnerValue) (s s' : NodeValue) (t : ℤ) (budget slot : ℕ) (
   now = (poll_settings s s' t budget changed at).now
 
   use_of : IsOfUse PortMove t at.port at.port_after (poll_instant s'.host.inner s'.host.left s'.slots)
-  use_of = of_use PortMove t budget (at_port at.port s) (at_port at.port_after s') alone quiet.some patient
+  use_of = of_use PortMove t budget (at_port at.port s) (at_port at.port_after s') quiet.some patient
       (subst (λ (b : Bool). Polled PortMove t budget (at_port at.port s) b (at_port at.port_after s')) is_false at.polls)
 
   sent_same : length at.port_after.link.sent ≤ length at.port.link.sent

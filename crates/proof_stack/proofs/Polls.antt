@@ -4,8 +4,10 @@ pub mod Rests
 pub mod Walks
 pub mod Plans
 pub mod Turns
+pub mod ParkedRests
 pub mod Passes
 pub mod Polled
+pub mod HostKept
 pub mod Numbers
 pub mod Ways
 pub mod AnyLeave
@@ -13,6 +15,8 @@ pub mod AnyTurn
 pub mod OurLeave
 pub mod OurTurn
 pub mod Goes
+pub mod LeavesQueue
+pub mod ParkedGoes
 pub mod InTurn
 pub mod Readers
 pub mod NeverRests
@@ -31,6 +35,7 @@ pub mod Rotates
 pub mod StillNeeded
 pub mod Known
 pub mod InSilence
+pub mod OwnSilence
 pub mod StillFirst
 pub mod Exchanged
 pub mod Served

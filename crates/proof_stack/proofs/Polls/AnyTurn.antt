@@ -1,5 +1,5 @@
 -- What each part of a step of the egress path asks of the device, and that what couldn't go was refused.
-use Rattle.std.proofs.Common.{◌≡◌, Bool, true, false, ◌||◌, ◌⊎◌, inl, inr, List, [], ◌∷◌, ◌++◌, Option, Some, None, is_some, refl, sym, ap, ◌∙◌, subst}
+use Rattle.std.proofs.Common.{◌≡◌, ℕ, Bool, true, false, ◌||◌, ◌⊎◌, inl, inr, List, [], ◌∷◌, ◌++◌, Option, Some, None, is_some, refl, sym, ap, ◌∙◌, subst}
 use Rattle.std.specs.List.{list_any}
 use Rattle.net_base.specs.Device.{Move, Allowed, Emitted, Denied}
 use Rattle.ip_wire.specs.Ip.{destination_of}
@@ -41,11 +41,11 @@ module _ {D : Type 0} (moves : D → Move → D → Type 0) where
     pub are : AreMoves moves all old new
     pub what : (list_any is_refused all ≡ true) ⊎ Else
 
-  abbrev Refused : List Move → Type 0
+  abbrev pub Refused : List Move → Type 0
   Refused all = list_any is_refused all ≡ true
 
   -- one after the other
-  then_through : (Else More : Type 0) (old mid new : D) → Through Else old mid → (Else → Through More mid new) → Through More mid new → Through More old new
+  pub then_through : (Else More : Type 0) (old mid new : D) → Through Else old mid → (Else → Through More mid new) → Through More mid new → Through More old new
   then_through Else More old mid new first more rest = by first.what where
     by : Refused first.all ⊎ Else → Through More old new
     by (inl refused) = record {
@@ -145,10 +145,10 @@ module _ {D : Type 0} (moves : D → Move → D → Type 0) where
   -- A PACKET THAT WAITED for its next hop
 
   module _ (x x' : Sender D) (p : PacketValue) (sent : Sent) where
-    abbrev NotRefused : Type 0
+    abbrev pub NotRefused : Type 0
     NotRefused = sent ≡ Outcome.Refused → ⊥
 
-    abbrev Left : D → Type 0
+    abbrev pub Left : D → Type 0
     Left old = Through NotRefused old x'.device
 
     stays : (o : Sent) → (o ≡ Outcome.Refused → ⊥) → sent ≡ o → x' ≡ x → Left x.device
@@ -216,7 +216,7 @@ module _ {D : Type 0} (moves : D → Move → D → Type 0) where
   }
   tries plan x x' p sent (inr goes) = out x x' p goes.0 goes.1 plan sent goes.2
 
-  left_through : (plan : Plan) (x x' : Sender D) (p : PacketValue) (sent : Sent) → LeavesBy moves plan x p sent x' → Left x x' p sent x.device
+  pub left_through : (plan : Plan) (x x' : Sender D) (p : PacketValue) (sent : Sent) → LeavesBy moves plan x p sent x' → Left x x' p sent x.device
   left_through Way.Wait x x' p sent goes = stays x x' p sent Outcome.Waits (λ is. cc) goes.0 goes.1
   left_through Way.Busy x x' p sent goes = stays x x' p sent Outcome.Busy (λ is. cc) goes.0 goes.1
   left_through Way.NoRoute x x' p sent goes = stays x x' p sent Outcome.Dropped (λ is. cc) goes.0 goes.1
@@ -225,7 +225,7 @@ module _ {D : Type 0} (moves : D → Move → D → Type 0) where
   left_through (Way.Go to) x x' p sent goes = tries (Way.Go to) x x' p sent goes
   left_through (Way.Cut to) x x' p sent goes = tries (Way.Cut to) x x' p sent goes
 
-  each_through : (rest kept : List ParkedValue) (x : Sender D) (all : Bool) (x' : Sender D) (left : List ParkedValue)
+  pub each_through : (rest kept : List ParkedValue) (x : Sender D) (all : Bool) (x' : Sender D) (left : List ParkedValue)
       → ServesEach moves rest kept x all x' left → Through (all ≡ true) x.device x'.device
   each_through [] kept x all x' left serves = unmoved (all ≡ true) x.device x'.device (ap (λ (y : Sender D). y.device) serves.1) serves.0
   each_through (k ∷ rest) kept x all x' left serves =
@@ -283,7 +283,7 @@ module _ {D : Type 0} (moves : D → Move → D → Type 0) where
       what = inl refl;
     }
 
-  cleared : (l : Option LeftValue) (x x' : Sender D) (clear : Bool) → Clears moves l x clear x' → Through (clear ≡ true) x.device x'.device
+  pub cleared : (l : Option LeftValue) (x x' : Sender D) (clear : Bool) → Clears moves l x clear x' → Through (clear ≡ true) x.device x'.device
   cleared None x x' clear goes = unmoved (clear ≡ true) x.device x'.device (ap (λ (y : Sender D). y.device) goes.1) goes.0
   cleared (Some l) x x' clear goes = fragment l x x' clear goes.0
 

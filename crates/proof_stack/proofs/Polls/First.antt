@@ -62,7 +62,7 @@ use Rattle.proof_stack.proofs.Polls.OurLeave.{OursLeaves, our_leave}
 use Rattle.proof_stack.proofs.Polls.Passes.{FragmentEnds, clears, clears_same}
 use Rattle.proof_stack.proofs.Polls.Silenced.{nobody_sought, silent_link, sought}
 use Rattle.proof_stack.proofs.Polls.Walks.{joined, refused_before, refused_following, sends_before, sends_following}
-use Rattle.proof_stack.proofs.Polls.Ways.{waits_still}
+use Rattle.proof_stack.proofs.Polls.Ways.{waits_still, with_ident_same}
 use Rattle.proof_stack.proofs.Parkless.{Egress, Pass, ServesSlot, egress_alone, kept, slot_same}
 
 abbrev Place : Type 0
@@ -116,7 +116,7 @@ offers_under i ident s = by (remote_of s) where
 may_offer : (i : InnerValue) (ident : ℕ) (o : Option (Item Socket)) (p : PacketValue) → MayOffer (record i { ident = ident }) o p → MayOffer i o p
 may_offer i ident None p is = absurd is
 may_offer i ident (Some item) p is = (
-  waits_still (record i { ident = ident }) i item.meta refl is.0,
+  waits_still (record i { ident = ident }) i item.meta (with_ident_same (record i { ident = ident }) i.ident) is.0,
   (
     is.1.0,
     is.1.1,

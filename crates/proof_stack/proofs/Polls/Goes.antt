@@ -73,7 +73,7 @@ offered_still i ident silent searches parking s offering says p only = record { 
       → (answer ≡ Offer.Packet says) × (s' ≡ offering)
   by s asked = asked
 
-only_still : (i j : InnerValue) (s offering : Socket) (says : Bool) (p : PacketValue) → IsSameHost i j → OffersOnly i s says offering p
+pub only_still : (i j : InnerValue) (s offering : Socket) (says : Bool) (p : PacketValue) → IsSameHost i j → OffersOnly i s says offering p
     → OffersOnly j s says offering p
 only_still i j s offering says p same only =
     subst (λ (x : InnerValue). OffersOnly x s says offering p) (sym same)

@@ -1,7 +1,7 @@
 -- Who of those that sockets wait for is asked for next, and what a question leaves of the others.
 use Rattle.std.proofs.Common.{◌≡◌, ℕ, zero, suc, Bool, true, false, cond, if◌then◌else◌, ℤ, List, [], ◌∷◌, ◌++◌, length, get_or}
 use Rattle.std.proofs.Common.{Option, Some, None, refl, sym, ap, ◌∙◌, subst}
-use Rattle.std.specs.Prelude.{nat_lt, find, position, slice_get, remove}
+use Rattle.std.specs.Prelude.{nat_lt, find, position, slice_get, slice_set, remove}
 use Rattle.std.specs.List.{AllByRecursion, filter_map, cons_option}
 use Rattle.std.specs.Option.{option_or}
 use Rattle.std.proofs.lemmas.List.Folds.{find_at, find_past, find-append}
@@ -147,13 +147,18 @@ module _ (c : CacheValue) (x h : IpAddress) (instant : ℤ) (apart : is_same_add
       by None = refl
       by (Some s) = refl
 
-  kept : (o : Option ℕ) (s : Option Search) → nat_lt (length c.searches) c.search_room ≡ true → position ours c.searches ≡ o → at_index o c.searches ≡ s
-      → find theirs (searched_at c.search_room o s c.searches x instant) ≡ find theirs c.searches
-  kept (Some at) (Some s) room is there =
+  -- a question for one that is asked for already
+  pub asked_again : (at : ℕ) (s : Search) → position ours c.searches ≡ Some at → at_index (Some at) c.searches ≡ Some s
+      → find theirs (slice_set c.searches at (one_more s instant)) ≡ find theirs c.searches
+  asked_again at s is there =
       let here : ours (get_or c.searches at s) ≡ true = (position-Some ours c.searches at s is).1 in
       let this : get_or c.searches at s ≡ s = get_or_from_slice_get c.searches at s s there in
       find_past theirs c.searches at (one_more s instant) s (not_theirs (get_or c.searches at s) here)
       (not_theirs (one_more s instant) (subst (λ (q : Search). ours q ≡ true) this here))
+
+  kept : (o : Option ℕ) (s : Option Search) → nat_lt (length c.searches) c.search_room ≡ true → position ours c.searches ≡ o → at_index o c.searches ≡ s
+      → find theirs (searched_at c.search_room o s c.searches x instant) ≡ find theirs c.searches
+  kept (Some at) (Some s) room is there = asked_again at s is there
   kept (Some at) None room is there = added room
   kept None s room is there = added room
 

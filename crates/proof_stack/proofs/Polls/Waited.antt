@@ -56,7 +56,7 @@ use Rattle.proof_stack.proofs.Polls.Passes.{FragmentEnds, clears, clears_same}
 use Rattle.proof_stack.proofs.Polls.Searches.{WaitsAt, next_offset}
 use Rattle.proof_stack.proofs.Polls.Silenced.{nobody_sought}
 use Rattle.proof_stack.proofs.Polls.Walks.{joined, refused_before, refused_following, sends_before, sends_following}
-use Rattle.proof_stack.proofs.Polls.Ways.{waits_still}
+use Rattle.proof_stack.proofs.Polls.Ways.{waits_still, with_ident_same}
 use Rattle.proof_stack.proofs.Parkless.{Answers, Egress, ItemTurns, Pass, SendsBy, ServesSlot, TurnsIf, egress_alone, slot_same}
 
 abbrev Place : Type 0
@@ -90,7 +90,7 @@ module _ (i : InnerValue) (ident : ℕ) (hop : IpAddress) where
 
   needs_under : (o : Option (Item Socket)) → StillNeeds i hop o → StillNeeds later hop o
   needs_under None needs = absurd needs
-  needs_under (Some item) needs = (waits_still i later item.meta refl needs.0, with_packet) where
+  needs_under (Some item) needs = (waits_still i later item.meta (with_ident_same i ident) needs.0, with_packet) where
     with_packet : (answer : Answer.Offer) (s : Socket) → Offers (context_for later item.socket) item.socket answer s → IsNeedy later hop (offered_by s)
     with_packet answer s offers =
         needy_under (offered_by s)

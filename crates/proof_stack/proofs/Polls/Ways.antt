@@ -31,6 +31,7 @@ use Rattle.iface_egress.specs.Plan.{total_len, long_plan, plan_by, plan_of}
 use Rattle.iface_egress.specs.declared.plan.Plan.TheVariants as Way
 use Rattle.iface_egress.specs.declared.socket_meta.Meta.{Meta}
 use Rattle.interface.specs.SameHost.{IsSameHost, parking_from}
+use Rattle.interface.proofs.SameHost.{parked_so}
 use Rattle.interface.specs.Serve.{is_known, is_waiting}
 use Rattle.proof_stack.specs.Progress.Queued.{CanGo, with_ident, frame_under}
 use Rattle.proof_stack.specs.Progress.Segments.{CanTransmit}
@@ -188,6 +189,10 @@ can_still i i' settings d to p same can =
       known = left.known;
       short = left.short;
     }
+
+-- so does another identification
+pub with_ident_same : (i : InnerValue) (ident : ℕ) → IsSameHost i (with_ident i ident)
+with_ident_same i ident = ap (λ (k : ParkingValue). record i { ident = ident; parking = k }) (parked_so i.host_requirements i.parking i.parking refl)
 
 pub waits_still : (i i' : InnerValue) (m : Meta) → IsSameHost i i' → is_waiting i m ≡ false → is_waiting i' m ≡ false
 waits_still i i' m same ready =

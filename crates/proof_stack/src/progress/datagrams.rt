@@ -1,22 +1,28 @@
 //! What is queued goes.
 
-ghost use Rattle.std.specs.Prelude.{◌≡◌, ◌≢◌, ℕ, ◌<◌, ℤ, Bool, List, ◌∷◌, ◌++◌, length, Option};
+ghost use Rattle.std.specs.Prelude.{◌≡◌, ◌≢◌, ℕ, ◌<◌, ◌≤◌, ℤ, Bool, true, false, List, ◌∷◌, ◌++◌, length, slice_get, Option, Some};
 ghost use Rattle.std.specs.List.{AllByRecursion};
 ghost use Rattle.net_base.specs.Packets.{contents};
 ghost use Rattle.ip_wire.specs.HardwareAddress.{HardwareAddress};
-ghost use Rattle.socket_datagram.specs.Udp.{UdpValue, UdpSettings};
+ghost use Rattle.ip_wire.specs.Ip.{destination_of};
+ghost use Rattle.socket_datagram.specs.Udp.{TakesDatagram, UdpValue, UdpSettings};
 ghost use Rattle.socket_datagram.specs.declared.udp.UdpMetadata.{UdpMetadata};
 ghost use Rattle.iface_ingress.specs.Packet.{PacketValue};
 ghost use Rattle.iface_ingress.specs.WellFormed.{IsWellFormed};
-ghost use Rattle.iface_tables.specs.Inner.{InnerValue, at_instant};
+ghost use Rattle.iface_tables.specs.Inner.{InnerValue, at_instant, context_of, mtu_to};
+ghost use Rattle.iface_tables.specs.Parking.{ParkedValue};
 ghost use Rattle.iface_egress.specs.Departure.{Whole};
 ghost use Rattle.iface_egress.specs.IsTransmitted.{numbered};
+ghost use Rattle.iface_egress.specs.Parked.{packet_in};
+ghost use Rattle.iface_egress.specs.Plan.{never_leaves, total_len};
 ghost use Rattle.interface.specs.TransmittedFrame.{Reader, CanRead, HasWidths, IsRead};
 ghost use Rattle.interface.specs.Egress.{EgressStep};
 ghost use Rattle.interface.specs.Polls.{Polls};
 ghost use Rattle.interface.specs.QuietPoll.{HasNoFrame};
 ghost use Rattle.interface.specs.State.{State};
+ghost use Rattle.proof_stack.specs.Progress.Parked.{GoesFromThere, LeavesQueue};
 ghost use Rattle.proof_stack.specs.Progress.Queued.{CanGo, HasWay, HasTurn, GoesAtOnce, GoesInTurn, with_ident, FindsDatagram};
+ghost use Rattle.proof_stack.specs.Progress.Segments.{CanTransmit};
 
 use net_base::Device;
 
@@ -42,6 +48,34 @@ pub fn queued_datagrams_go<D: Device>()
         → HasNoFrame D.moves t s.device
         → Polls D.moves t budget s changed s'
         → GoesInTurn D.moves (at_instant t s.host.inner) to p s.device s'.device }
+{}
+
+/// Law: with host requirements no queue stands still for a neighbour (RFC 1122, section 2.3.2.2): in one step of the egress path the first datagram
+/// in the queue of a UDP socket leaves it, whoever its next hop is, and whether that one is known, is asked for or doesn't answer, unless the
+/// device refuses in that step. The datagram may leave its host, and fits one frame and the path to its destination.
+pub fn no_queue_stands_still<D: Device>()
+    ensures { (t : ℤ) (s s' : State D) (answer : Option Bool) (n : ℕ) (v : UdpValue) (d : UdpMetadata × List ℕ)
+        (more : List (UdpMetadata × List ℕ)) (p : PacketValue)
+        → s.host.inner.host_requirements ≡ true
+        → HasTurn (at_instant t s.host.inner) s.slots n v
+        → contents v.queued ≡ d ∷ more
+        → TakesDatagram (context_of (at_instant t s.host.inner)) v.settings d p
+        → never_leaves (at_instant t s.host.inner) p.header ≡ false
+        → total_len p.header ≤ mtu_to (at_instant t s.host.inner) (destination_of p.header)
+        → EgressStep D.moves t s answer s'
+        → LeavesQueue D.moves n v s.device s'.device answer s'.slots }
+{}
+
+/// Law: and a packet that waits beside the search for its next hop goes in one step of the egress path once the hardware address of that hop is
+/// known, whatever else waits, unless the device refuses in that step. It may leave its host, and fits one frame and the path to its
+/// destination.
+pub fn what_waits_goes_once_its_hop_is_known<D: Device>()
+    ensures { (t : ℤ) (s s' : State D) (answer : Option Bool) (n : ℕ) (k : ParkedValue) (to : HardwareAddress)
+        → s.host.inner.host_requirements ≡ true
+        → slice_get s.host.inner.parking.packets n ≡ Some k
+        → CanTransmit (at_instant t s.host.inner) to (packet_in k)
+        → EgressStep D.moves t s answer s'
+        → GoesFromThere D.moves (at_instant t s.host.inner) to (packet_in k) s.device s'.device }
 {}
 
 /// Law: another host of the same medium that is handed the frame of such a packet, whatever padding follows, reads the packet in its normal

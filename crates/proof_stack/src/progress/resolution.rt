@@ -9,6 +9,8 @@ ghost use Rattle.socket_datagram.specs.declared.udp.UdpMetadata.{UdpMetadata};
 ghost use Rattle.iface_ingress.specs.Packet.{PacketValue};
 ghost use Rattle.iface_ingress.specs.Socket.TheVariants as Kind;
 ghost use Rattle.iface_tables.specs.Inner.{InnerValue};
+ghost use Rattle.iface_tables.specs.Neighbor.{search_of};
+ghost use Rattle.iface_tables.specs.declared.neighbor.Search.{Search};
 ghost use Rattle.iface_egress.specs.declared.socket_meta.Meta.{Meta};
 ghost use Rattle.interface.specs.Awaited.{next_awaited};
 ghost use Rattle.interface.specs.declared.awaited.Awaited.{Awaited};
@@ -49,6 +51,17 @@ pub fn nobody_is_asked_for_in_silence<D: Device>()
         → int_lt t s.host.inner.neighbors.silent ≡ true
         → EgressStep D.moves t s answer s'
         → s'.host.inner.neighbors ≡ s.host.inner.neighbors }
+{}
+
+/// Law: with host requirements each neighbour has a silence of its own (RFC 1122, section 2.3.2.1; RFC 4861, section 7.2.2): one that was asked for, and
+/// whose second to answer in isn't over, isn't asked for again, nor is its search given up, in a step of the egress path, whatever the device does.
+pub fn nobody_is_asked_for_in_their_silence<D: Device>()
+    ensures { (t : ℤ) (s s' : State D) (answer : Option Bool) (hop : IpAddress) (search : Search)
+        → s.host.inner.host_requirements ≡ true
+        → search_of s.host.inner.neighbors.searches hop ≡ Some search
+        → int_lt t search.answer_by ≡ true
+        → EgressStep D.moves t s answer s'
+        → search_of s'.host.inner.neighbors.searches hop ≡ Some search }
 {}
 
 /// Law: a neighbour has its turn within as many steps as there are neighbours that sockets wait for. Of so many steps of the egress path, each of which
