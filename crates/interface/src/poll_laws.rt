@@ -60,8 +60,8 @@ pub fn asks_a_second_apart<D: Device>()
         → TracedAlone D.moves t (budget * (length s.slots + 2)) s.device s.host.inner s'.device s'.host.inner }
 {}
 
-/// Law: of the neighbours that sockets wait for none comes before the one whose turn it is to be asked for; and while a socket waits,
-/// no socket's packet asks for another.
+/// Law: without host requirements, of the neighbours that sockets wait for none comes before the one whose turn it is to be asked for; and
+/// while a socket waits, no socket's packet asks for another.
 pub fn neighbors_are_asked_in_turn()
     ensures first { (i : InnerValue) (ps : List (SocketStorage Socket)) (a : Awaited)
         → next_awaited i ps ≡ Some a
