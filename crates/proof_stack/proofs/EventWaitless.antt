@@ -27,7 +27,7 @@ use Rattle.iface_ingress.specs.Offer.TheVariants as Offer
 use Rattle.iface_ingress.specs.Packet.{PacketValue, Segment, packet_of}
 use Rattle.iface_ingress.specs.Socket.{Socket}
 use Rattle.iface_ingress.specs.Socket.TheVariants as Kind
-use Rattle.iface_ingress.specs.Sockets.{Offers, offered_by, settled}
+use Rattle.iface_ingress.specs.Sockets.{Offers, offered_by}
 use Rattle.iface_tables.specs.Inner.{InnerValue, context_of, link_address}
 use Rattle.iface_tables.specs.Source.{source_for}
 use Rattle.iface_tables.specs.declared.link.LinkAddress.TheVariants as Link

@@ -36,6 +36,8 @@ pub mod StillNeeded
 pub mod Known
 pub mod InSilence
 pub mod OwnSilence
+pub mod StillUnknown
+pub mod AskedAtOnce
 pub mod StillFirst
 pub mod Exchanged
 pub mod Served

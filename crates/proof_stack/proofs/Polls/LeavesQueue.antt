@@ -151,7 +151,7 @@ own_turn (Way.Go to) = refl
 own_turn (Way.Cut to) = refl
 
 -- whose turn it is to be asked for doesn't count
-no_turn : (i : InnerValue) (ps : List Place) → i.host_requirements ≡ true → turn_of i ps ≡ None
+pub no_turn : (i : InnerValue) (ps : List Place) → i.host_requirements ≡ true → turn_of i ps ≡ None
 no_turn i ps many = ap (λ (b : Bool). if b then None else hop_of (next_awaited i ps)) many
 
 module _ {D : Type 0} (moves : D → Move → D → Type 0) (x : Sender D) (p : PacketValue) (many : x.inner.host_requirements ≡ true)
@@ -230,13 +230,13 @@ module _ {D : Type 0} (moves : D → Move → D → Type 0) (x : Sender D) (p : 
 
 module _ {D : Type 0} (moves : D → Move → D → Type 0) (turn : Option IpAddress) (x x' : Sender D) (offering : Socket) (p : PacketValue) where
   -- the packet is offered, and leaves, stays or is parked
-  record Offered (turned : Served) (o : Option (Item Socket)) : Type 0 where
-    meta : Meta
-    changed : Bool
-    sent : Sent
-    leaves : LeavesOrParks moves turn x meta p sent x'
-    next : turned ≡ turned_by sent changed
-    became : o ≡ Some (settled_by sent x.inner.instant (waits_until (plan_at x p) x'.inner) (destination_of p.header) (record { meta = meta; socket = offering }))
+  pub record Offered (turned : Served) (o : Option (Item Socket)) : Type 0 where
+    pub meta : Meta
+    pub changed : Bool
+    pub sent : Sent
+    pub leaves : LeavesOrParks moves turn x meta p sent x'
+    pub next : turned ≡ turned_by sent changed
+    pub became : o ≡ Some (settled_by sent x.inner.instant (waits_until (plan_at x p) x'.inner) (destination_of p.header) (record { meta = meta; socket = offering }))
 
   module _ (s : Socket) (changed : Bool) (only : OffersOnly x.inner s changed offering p) (may : never_leaves x.inner p.header ≡ false) where
     sends : (meta : Meta) (item' : Item Socket) (turned : Served) → SendsBy moves turn (Some p) x (record { meta = meta; socket = offering }) changed turned x' item'
@@ -265,7 +265,7 @@ module _ {D : Type 0} (moves : D → Move → D → Type 0) (turn : Option IpAdd
         subst (λ (waits : Bool). TurnsIf moves turn waits x let_in turned x' item') ready goes in
         asks let_in.meta item' turned asked.1 asked.0 asked.2 asked.3
 
-    item_turns : (meta : Meta) (o : Option (Item Socket)) (turned : Served) → is_waiting x.inner meta ≡ false
+    pub item_turns : (meta : Meta) (o : Option (Item Socket)) (turned : Served) → is_waiting x.inner meta ≡ false
         → ItemTurns moves turn (Some (record { meta = meta; socket = s })) x turned x' o → Offered turned o
     item_turns meta None turned ready goes = absurd goes
     item_turns meta (Some item') turned ready goes = turns meta item' turned ready goes

@@ -2,13 +2,18 @@
 use Rattle.std.proofs.Common.{◌≡◌, ℕ, zero, suc, Bool, true, false, ◌⊎◌, inl, inr, ℤ, List, [], ◌∷◌, ◌++◌, Option, Some, None, is_some, refl, sym, ap, ◌∙◌, subst}
 use Rattle.std.specs.Prelude.{slice_get}
 use Rattle.std.specs.List.{list_any}
+use Rattle.net_base.specs.Capabilities.{computes}
 use Rattle.net_base.specs.Device.{Move, Allowed, Emitted, Denied}
 use Rattle.ip_wire.specs.HardwareAddress.{HardwareAddress}
-use Rattle.iface_ingress.specs.Packet.{PacketValue}
+use Rattle.ip_wire.specs.Ip as Ips
+use Rattle.ip_wire.specs.IpAddress.{IpAddress}
+use Rattle.ip_wire.specs.IpRepr.{IpRepr}
+use Rattle.ip_wire.specs.IpRepr.TheVariants as Ip
+use Rattle.iface_ingress.specs.Packet.{PacketValue, PayloadValue, Bytes, ControlV4, ControlV6, Datagram, Segment, payload_written}
 use Rattle.iface_tables.specs.Inner.{InnerValue, at_instant}
-use Rattle.iface_tables.specs.Parking.{ParkedValue, empty_parking}
-use Rattle.iface_egress.specs.Departure.{Whole}
-use Rattle.iface_egress.specs.IsTransmitted.{WasSent, frame_len_of, frame_of, numbered}
+use Rattle.iface_tables.specs.Parking.{ParkedValue, empty_parking, parked_as}
+use Rattle.iface_egress.specs.Departure.{Whole, ether_for, link_header}
+use Rattle.iface_egress.specs.IsTransmitted.{WasSent, frame_len_of, frame_of, numbered, numbered_header}
 use Rattle.iface_egress.specs.Parked.{GoesOn, LeavesBy, ServesEach, ServesParked, lent, packet_in}
 use Rattle.iface_egress.specs.Parked as Parking
 use Rattle.iface_egress.specs.Plan.{plan_of}
@@ -29,7 +34,7 @@ use Rattle.interface.proofs.Parked.{HasLeft, left_by}
 use Rattle.interface.proofs.SameHost.{is_transmitted_same, same_parked, same_where}
 use Rattle.proof_stack.specs.Progress.Moves.{AreMoves, is_refused}
 use Rattle.proof_stack.specs.Progress.Parked.{GoesFromThere}
-use Rattle.proof_stack.specs.Progress.Queued.{Sends, SendsPacket, frame_under}
+use Rattle.proof_stack.specs.Progress.Queued.{Sends, SendsPacket, frame_under, with_ident}
 use Rattle.proof_stack.specs.Progress.Segments.{CanTransmit}
 use Rattle.proof_stack.proofs.Polls.AnyTurn.{Left, Moved, Refused, Through, cleared, each_through, left_through, pass_through}
 use Rattle.proof_stack.proofs.Polls.Passes.{clears_same}
@@ -215,3 +220,21 @@ pub step_goes : {D : Type 0} (moves : D → Move → D → Type 0) (t : ℤ) (s 
 step_goes {D} moves t s s' answer n k to many stands can step =
     goes_at moves k to (at_instant t s.host.inner) s.device step.0.sender.device s'.device (ap (λ (x : State D). x.device) step.2)
     (egress_goes moves k to (sending t s) n many stands can s.slots step.0 step.1)
+
+-- AS IT WOULD HAVE GONE, at once
+
+-- a number isn't among what a payload is written of
+written_as : (i : InnerValue) (h : IpRepr) (x : PayloadValue) → payload_written i.checksums h x ≡ payload_written i.checksums (numbered_header i h) x
+written_as i (Ip.Ipv4 v) (ControlV4 message bytes) = refl
+written_as i (Ip.Ipv4 v) (ControlV6 message bytes) = refl
+written_as i (Ip.Ipv4 v) (Bytes bytes) = refl
+written_as i (Ip.Ipv4 v) (Datagram header bytes) = refl
+written_as i (Ip.Ipv4 v) (Segment header bytes) = refl
+written_as i (Ip.Ipv6 v) x = refl
+
+pub same_frame_then : (i : InnerValue) (ident : ℕ) (to : HardwareAddress) (hop : IpAddress) (p : PacketValue)
+    → frame_under i ident to (packet_in (parked_as i.checksums hop p)) ≡ frame_under i ident to p
+same_frame_then i ident to hop p =
+    let j : InnerValue = with_ident i ident in
+    ap (λ (bytes : List ℕ). link_header j.hardware to (ether_for (numbered_header j p.header))
+    ++ (Ips.written (computes j.checksums.ipv4) (numbered_header j p.header) ++ bytes)) (written_as j p.header p.payload)

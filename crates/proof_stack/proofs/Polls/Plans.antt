@@ -1,5 +1,5 @@
 -- What is known where a packet's plan is to wait.
-use Rattle.std.proofs.Common.{◌≡◌, ◌+◌, Bool, true, false, if◌then◌else◌, ℤ, pos, ◌+ℤ◌, int_lt, Option, Some, None, refl, sym, ap, ◌∙◌, arith}
+use Rattle.std.proofs.Common.{◌≡◌, Bool, true, false, if◌then◌else◌, ℤ, pos, ◌+ℤ◌, int_lt, Option, Some, None, refl, sym, ap, ◌∙◌, arith}
 use Rattle.std.specs.Prelude.{nat_le}
 use Rattle.std.proofs.lemmas.Bool.{cond_both}
 use Rattle.ip_wire.specs.AddressTests.{is_multicast}

@@ -1,5 +1,5 @@
 -- What is known of a neighbour after a question for it: it isn't known, and for a second nobody is asked for.
-use Rattle.std.proofs.Common.{◌≡◌, ℕ, ◌+◌, Bool, true, false, not, ◌&&◌, if◌then◌else◌, cond, ℤ, pos, ◌+ℤ◌, int_lt, List, [], ◌∷◌, ◌++◌, length}
+use Rattle.std.proofs.Common.{◌≡◌, ℕ, Bool, true, false, not, ◌&&◌, if◌then◌else◌, cond, ℤ, pos, ◌+ℤ◌, int_lt, List, [], ◌∷◌, ◌++◌, length}
 use Rattle.std.proofs.Common.{Option, Some, None, refl, sym, ap, ◌∙◌, subst, arith}
 use Rattle.std.specs.Prelude.{nat_lt, find, position, remove}
 use Rattle.ip_wire.specs.AddressTests.{is_multicast}
@@ -157,7 +157,7 @@ module _ (c : CacheValue) (hop : IpAddress) (instant : ℤ) where
 
 -- LINKS
 
-not_found : (a : Answer) (via hop : IpAddress) → link_by a via ≡ Link.Unknown hop → (a ≡ Known.NotFound) × (via ≡ hop)
+pub not_found : (a : Answer) (via hop : IpAddress) → link_by a via ≡ Link.Unknown hop → (a ≡ Known.NotFound) × (via ≡ hop)
 not_found (Known.Found hardware) via hop is = absurd (let never : Link.Known hardware ≡ Link.Unknown hop = is in cc)
 not_found Known.RateLimited via hop is = absurd (let never : Link.Silent ≡ Link.Unknown hop = is in cc)
 not_found Known.Unanswered via hop is = absurd (let never : Link.Unanswered ≡ Link.Unknown hop = is in cc)

@@ -1,5 +1,5 @@
 -- Frames that wait at a device in order, and a poll that reads them.
-use Rattle.std.specs.Prelude.{◌≡◌, ℕ, ◌<◌, ℤ, true, false, List, [], ◌∷◌, ◌++◌, length}
+use Rattle.std.specs.Prelude.{◌≡◌, ℕ, ◌<◌, ℤ, true, false, List, ◌∷◌, ◌++◌, length}
 use Rattle.net_base.specs.Device.{Move, Took, Empty}
 use Rattle.net_base.specs.Packets.{contents, is_full_for}
 use Rattle.wire_ip.specs.declared.ip.repr.IpRepr.{IpRepr}

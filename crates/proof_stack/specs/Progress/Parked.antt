@@ -4,6 +4,7 @@ use Rattle.std.specs.List.{AllByRecursion, list_any}
 use Rattle.net_base.specs.Device.{Move}
 use Rattle.net_base.specs.Packets.{contents}
 use Rattle.ip_wire.specs.HardwareAddress.{HardwareAddress}
+use Rattle.ip_wire.specs.IpAddress.{IpAddress}
 use Rattle.socket_datagram.specs.Udp.{UdpValue}
 use Rattle.iface_ingress.specs.Packet.{PacketValue}
 use Rattle.iface_ingress.specs.Socket.{Socket}
@@ -12,6 +13,7 @@ use Rattle.iface_tables.specs.Inner.{InnerValue}
 use Rattle.iface_tables.specs.Parking.{ParkedValue, IsMeasured, header_of}
 use Rattle.iface_egress.specs.Set.{unmarked}
 use Rattle.iface_egress.specs.declared.socket_set.SocketStorage.{SocketStorage}
+use Rattle.proof_stack.specs.Progress.Exchanged.{AsksFor}
 use Rattle.proof_stack.specs.Progress.Moves.{AreMoves, is_refused}
 use Rattle.proof_stack.specs.Progress.Queued.{SendsPacket}
 
@@ -50,3 +52,11 @@ pub record GoesFromThere {D : Type 0} (moves : D → Move → D → Type 0) (i :
   pub all : List Move
   pub are : AreMoves moves all old new
   pub what : (list_any is_refused all ≡ true) ⊎ SendsPacket i to p all
+
+-- A NEIGHBOUR IS ASKED FOR
+
+-- of a step of the egress path: a question for this hop went, or the device refused
+pub record IsAskedForAtOnce {D : Type 0} (moves : D → Move → D → Type 0) (i : InnerValue) (hop : IpAddress) (old new : D) : Type 0 where
+  pub all : List Move
+  pub are : AreMoves moves all old new
+  pub what : (list_any is_refused all ≡ true) ⊎ AsksFor i hop all

@@ -5,12 +5,13 @@ ghost use Rattle.std.specs.List.{AllByRecursion};
 ghost use Rattle.net_base.specs.Packets.{contents};
 ghost use Rattle.ip_wire.specs.HardwareAddress.{HardwareAddress};
 ghost use Rattle.ip_wire.specs.Ip.{destination_of};
+ghost use Rattle.ip_wire.specs.IpAddress.{IpAddress};
 ghost use Rattle.socket_datagram.specs.Udp.{TakesDatagram, UdpValue, UdpSettings};
 ghost use Rattle.socket_datagram.specs.declared.udp.UdpMetadata.{UdpMetadata};
 ghost use Rattle.iface_ingress.specs.Packet.{PacketValue};
 ghost use Rattle.iface_ingress.specs.WellFormed.{IsWellFormed};
 ghost use Rattle.iface_tables.specs.Inner.{InnerValue, at_instant, context_of, mtu_to};
-ghost use Rattle.iface_tables.specs.Parking.{ParkedValue};
+ghost use Rattle.iface_tables.specs.Parking.{ParkedValue, parked_as};
 ghost use Rattle.iface_egress.specs.Departure.{Whole};
 ghost use Rattle.iface_egress.specs.IsTransmitted.{numbered};
 ghost use Rattle.iface_egress.specs.Parked.{packet_in};
@@ -21,7 +22,7 @@ ghost use Rattle.interface.specs.Polls.{Polls};
 ghost use Rattle.interface.specs.QuietPoll.{HasNoFrame};
 ghost use Rattle.interface.specs.State.{State};
 ghost use Rattle.proof_stack.specs.Progress.Parked.{GoesFromThere, LeavesQueue};
-ghost use Rattle.proof_stack.specs.Progress.Queued.{CanGo, HasWay, HasTurn, GoesAtOnce, GoesInTurn, with_ident, FindsDatagram};
+ghost use Rattle.proof_stack.specs.Progress.Queued.{CanGo, HasWay, HasTurn, GoesAtOnce, GoesInTurn, frame_under, with_ident, FindsDatagram};
 ghost use Rattle.proof_stack.specs.Progress.Segments.{CanTransmit};
 
 use net_base::Device;
@@ -68,14 +69,16 @@ pub fn no_queue_stands_still<D: Device>()
 
 /// Law: and a packet that waits beside the search for its next hop goes in one step of the egress path once the hardware address of that hop is
 /// known, whatever else waits, unless the device refuses in that step. It may leave its host, and fits one frame and the path to its
-/// destination.
+/// destination. Its frame is the one that the packet would have gone in at once.
 pub fn what_waits_goes_once_its_hop_is_known<D: Device>()
-    ensures { (t : ℤ) (s s' : State D) (answer : Option Bool) (n : ℕ) (k : ParkedValue) (to : HardwareAddress)
+    ensures goes { (t : ℤ) (s s' : State D) (answer : Option Bool) (n : ℕ) (k : ParkedValue) (to : HardwareAddress)
         → s.host.inner.host_requirements ≡ true
         → slice_get s.host.inner.parking.packets n ≡ Some k
         → CanTransmit (at_instant t s.host.inner) to (packet_in k)
         → EgressStep D.moves t s answer s'
         → GoesFromThere D.moves (at_instant t s.host.inner) to (packet_in k) s.device s'.device }
+    ensures frame { (i : InnerValue) (ident : ℕ) (to : HardwareAddress) (hop : IpAddress) (p : PacketValue)
+        → frame_under i ident to (packet_in (parked_as i.checksums hop p)) ≡ frame_under i ident to p }
 {}
 
 /// Law: another host of the same medium that is handed the frame of such a packet, whatever padding follows, reads the packet in its normal
