@@ -22,6 +22,7 @@ pub mod StillSources
 pub mod StillPlain
 pub mod StillRuns
 pub mod Damages
+pub mod AlongPolls
 pub mod SaidPolls
 pub mod SaidRuns
 pub mod PortMoves

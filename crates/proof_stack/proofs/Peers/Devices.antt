@@ -8,7 +8,7 @@ use Rattle.interface.specs.State.{State}
 use Rattle.lan.proofs.Worlds.Moves.Devices.{fragment_leaves, parked, slot_turns, same, takes}
 use Rattle.lan.proofs.Worlds.Moves.Frames.{IsNoTake}
 use Rattle.proof_stack.specs.PeerHost.Moved.{AreMoves, MovedTo}
-use Rattle.proof_stack.specs.PeerHost.Steps.{Step, Steps, Reaches}
+use Rattle.lan.specs.Worlds.PollSteps.{Step, Steps, Reaches}
 
 module _ {D : Type 0} (moves : D → Move → D → Type 0) (Q : D → Type 0) (keeps : (d d' : D) (m : Move) → moves d m d' → Q d → Q d') where
   quiet : (d d' : D) (m : Move) → IsNoTake m → moves d m d' → Q d → Q d'

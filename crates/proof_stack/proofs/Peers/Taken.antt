@@ -13,7 +13,7 @@ use Rattle.interface.specs.Polls.{Polls, begun}
 use Rattle.interface.specs.State.{State, at_device}
 use Rattle.interface.proofs.Keep.{polls_keep}
 use Rattle.proof_stack.specs.PeerHost.ReceivedPackets.{Came, IsPacket, whole_in}
-use Rattle.proof_stack.specs.PeerHost.Steps.{Step, Steps, Reaches}
+use Rattle.lan.specs.Worlds.PollSteps.{Step, Steps, Reaches}
 use Rattle.proof_stack.proofs.Peers.Place.{AtOr, HoldsAt, middle_holds}
 use Rattle.proof_stack.proofs.Peers.Arrivals.{IsOfPolls, brings_holds}
 use Rattle.proof_stack.proofs.Peers.Turns.{turn_holds}

@@ -45,7 +45,7 @@ use Rattle.interface.proofs.Runs.{receives_same}
 use Rattle.interface.proofs.SameHost.{serves_same, slot_same, same_where}
 use Rattle.interface.proofs.Settings.{settings_then}
 use Rattle.proof_stack.specs.PeerHost.ReceivedPackets.{Came}
-use Rattle.proof_stack.specs.PeerHost.Steps.{Reaches, Step, Steps}
+use Rattle.lan.specs.Worlds.PollSteps.{Reaches, Step, Steps}
 use Rattle.proof_stack.specs.Progress.Delivered.{IsExpected, hears, is_misframed_to, may_be_sender, reader_of}
 use Rattle.proof_stack.specs.Progress.Inbox.{IsReady}
 use Rattle.proof_stack.specs.Progress.Queued.{ports_of}

@@ -16,7 +16,7 @@ ghost use Rattle.iface_egress.specs.Meta.{has_waited};
 ghost use Rattle.interface.specs.Egress.{EgressStep};
 ghost use Rattle.interface.specs.State.{State};
 ghost use Rattle.interface.specs.Serve.{crowded_time};
-ghost use Rattle.proof_stack.specs.PeerHost.Steps.{Reaches};
+ghost use Rattle.lan.specs.Worlds.PollSteps.{Reaches};
 ghost use Rattle.proof_stack.specs.Progress.NeighborResolution.{HasToAsk, MayAsk};
 ghost use Rattle.proof_stack.specs.Progress.Exchanged.{IsStillFirst};
 ghost use Rattle.proof_stack.specs.Progress.Rounds.{IsOneOf};
