@@ -518,7 +518,7 @@ static void listeners(size_t tcp, size_t udp, size_t far)
     HOLDS(last == far);
     WANT(zv_tcp_abort(&two, far), ZV_OK);
     WANT(zv_listener_give_back(&two, listener, far), ZV_OK);
-    WANT(zv_listener_give_back(&two, listener, NOWHERE), ZV_OK);
+    WANT(zv_listener_give_back(&two, listener, NOWHERE), ZV_NO_SOCKET);
     turns();
     WANT(zv_listener_remove(&two, listener), ZV_OK);
     WANT(zv_socket_remove(&two, far), ZV_OK);
@@ -600,6 +600,73 @@ static void sockets(void)
     messages(icmp);
     packets(raw, far[2]);
     WANT(zv_udp_close(&one, udp), ZV_OK);
+}
+
+/* A socket that was removed has a number that no other gets: each slot counts its sockets, and a number is 2^32 times as many as there were,
+ * and the slot. */
+
+static size_t of_slot(size_t first, size_t removed)
+{
+    return ((removed << 32) | first);
+}
+
+/* Each call refuses it, also while another socket is in its slot. */
+static void old_refuses(size_t socket, size_t listener)
+{
+    fill();
+    streams_refuse(&one, socket, ZV_NO_SOCKET);
+    udp_refuses(&one, socket, ZV_NO_SOCKET);
+    icmp_refuses(&one, socket, ZV_NO_SOCKET);
+    raw_refuses(&one, socket, ZV_NO_SOCKET);
+    WANT(zv_listener_add(&one, listener, socket), ZV_NO_SOCKET);
+    WANT(zv_listener_add_keeper(&one, listener, socket), ZV_NO_SOCKET);
+    WANT(zv_listener_give_back(&one, listener, socket), ZV_NO_SOCKET);
+    WANT(zv_socket_remove(&one, socket), ZV_NO_SOCKET);
+    HOLDS(is_filled());
+}
+
+static void old_numbers(void)
+{
+    const zv_endpoint served = at(first, 9090);
+    size_t slot, socket, behind, listener, near;
+    WANT(zv_listener_new(&one, &any, 9090, &listener), ZV_OK);
+    WANT(zv_tcp_new(&one, 64, 64, &slot), ZV_OK);
+    WANT(zv_udp_new(&one, 1, 64, &behind), ZV_OK);
+    HOLDS(slot < 1000 && behind == slot + 1);
+    for (size_t i = 0; i < 5; i++) {
+        const size_t was = of_slot(slot, i);
+        WANT(zv_socket_remove(&one, was), ZV_OK);
+        old_refuses(was, listener);
+        socket = was;
+        switch (i) {
+        case 0: WANT(zv_udp_new(&one, 1, 64, &socket), ZV_OK); break;
+        case 1: WANT(zv_icmp_new(&one, 1, 64, &socket), ZV_OK); break;
+        case 2: WANT(zv_raw_new(&one, 4, 253, 1, 64, &socket), ZV_OK); break;
+        default: WANT(zv_tcp_new(&one, 64, 64, &socket), ZV_OK);
+        }
+        HOLDS(socket == of_slot(slot, i + 1));
+        for (size_t earlier = 0; earlier <= i; earlier++)
+            old_refuses(of_slot(slot, earlier), listener);
+        old_refuses(of_slot(slot, i + 2), listener);
+    }
+    WANT(zv_udp_bind(&one, behind, &any, 9090), ZV_OK);
+    WANT(zv_listener_add(&one, listener, socket), ZV_OK);
+    WANT(zv_tcp_new(&two, 64, 64, &near), ZV_OK);
+    turns();
+    WANT(zv_tcp_connect(&two, near, &served, &any, 5002), ZV_OK);
+    turns();
+    size_t accepted = 0;
+    WANT(zv_listener_accept(&one, listener, &accepted), ZV_OK);
+    HOLDS(accepted == of_slot(slot, 5));
+    WANT(zv_tcp_state(&one, accepted, &out.byte), ZV_OK);
+    HOLDS(out.byte == ZV_ESTABLISHED);
+    WANT(zv_tcp_abort(&one, accepted), ZV_OK);
+    WANT(zv_listener_give_back(&one, listener, slot), ZV_NO_SOCKET);
+    WANT(zv_listener_give_back(&one, listener, accepted), ZV_OK);
+    WANT(zv_listener_remove(&one, listener), ZV_OK);
+    WANT(zv_socket_remove(&one, accepted), ZV_OK);
+    WANT(zv_socket_remove(&one, behind), ZV_OK);
+    WANT(zv_socket_remove(&two, near), ZV_OK);
 }
 
 /* FRAMES */
@@ -718,6 +785,7 @@ int main(void)
     groups();
     set_up();
     sockets();
+    old_numbers();
     frames();
     leases();
     names();

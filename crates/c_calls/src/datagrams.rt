@@ -49,11 +49,11 @@ fn act_on(socket: &mut udp::Socket, act: Act) -> Result<(), Code>
 }
 
 /// Does a call that answers nothing but whether it was done.
-pub fn perform(sockets: &mut Slots, slot: usize, act: Act) -> Result<(), Code>
-    ensures answer { result ≡ answer_at as_udp (act_answer act) sockets.old slot }
-    ensures after { sockets.new ≡ after_at as_udp Kind.Udp (act_after act) sockets.old slot }
+pub fn perform(sockets: &mut Slots, number: usize, act: Act) -> Result<(), Code>
+    ensures answer { result ≡ answer_at as_udp (act_answer act) sockets.old number }
+    ensures after { sockets.new ≡ after_at as_udp Kind.Udp (act_after act) sockets.old number }
 {
-    match lent::<udp::Socket>(sockets, slot) {
+    match lent::<udp::Socket>(sockets, number) {
         Ok(socket) => act_on(socket, act),
         Err(code) => Err(code),
     }
@@ -62,14 +62,14 @@ pub fn perform(sockets: &mut Slots, slot: usize, act: Act) -> Result<(), Code>
 /// Queues a datagram.
 pub fn send(
     sockets: &mut Slots,
-    slot: usize,
+    number: usize,
     bytes: &[u8],
     metadata: UdpMetadata,
 ) -> Result<(), Code>
-    ensures answer { result ≡ answer_at as_udp (λ v. coded of_send (send_answer v metadata (length bytes.now))) sockets.old slot }
-    ensures after { sockets.new ≡ after_at as_udp Kind.Udp (λ v. send_after v metadata bytes.now) sockets.old slot }
+    ensures answer { result ≡ answer_at as_udp (λ v. coded of_send (send_answer v metadata (length bytes.now))) sockets.old number }
+    ensures after { sockets.new ≡ after_at as_udp Kind.Udp (λ v. send_after v metadata bytes.now) sockets.old number }
 {
-    match lent::<udp::Socket>(sockets, slot) {
+    match lent::<udp::Socket>(sockets, number) {
         Ok(socket) => queue(socket, bytes, metadata),
         Err(code) => Err(code),
     }
@@ -86,12 +86,12 @@ fn queue(socket: &mut udp::Socket, bytes: &[u8], metadata: UdpMetadata) -> Resul
 }
 
 /// Reads the first datagram to the front of the slice.
-pub fn recv(sockets: &mut Slots, slot: usize, out: &mut [u8]) -> Result<(usize, UdpMetadata), Code>
-    ensures answer { result ≡ answer_at as_udp (λ v. coded of_recv (recv_answer v (length out.old))) sockets.old slot }
-    ensures after { sockets.new ≡ after_at as_udp Kind.Udp (recv_after) sockets.old slot }
-    ensures read { out.new ≡ written_at as_udp recv_written out.old sockets.old slot }
+pub fn recv(sockets: &mut Slots, number: usize, out: &mut [u8]) -> Result<(usize, UdpMetadata), Code>
+    ensures answer { result ≡ answer_at as_udp (λ v. coded of_recv (recv_answer v (length out.old))) sockets.old number }
+    ensures after { sockets.new ≡ after_at as_udp Kind.Udp (recv_after) sockets.old number }
+    ensures read { out.new ≡ written_at as_udp recv_written out.old sockets.old number }
 {
-    match lent::<udp::Socket>(sockets, slot) {
+    match lent::<udp::Socket>(sockets, number) {
         Ok(socket) => read(socket, out),
         Err(code) => Err(code),
     }
@@ -120,27 +120,27 @@ impl Host {
     }
 
     /// Does a call that answers nothing but whether it was done.
-    pub fn udp_act(&mut self, slot: usize, act: Act) -> Result<(), Code>
-        ensures answer { result ≡ answer_at as_udp (act_answer act) self.old.slots slot }
-        ensures after { self.new ≡ record self.old { slots = after_at as_udp Kind.Udp (act_after act) self.old.slots slot } }
+    pub fn udp_act(&mut self, number: usize, act: Act) -> Result<(), Code>
+        ensures answer { result ≡ answer_at as_udp (act_answer act) self.old.slots number }
+        ensures after { self.new ≡ record self.old { slots = after_at as_udp Kind.Udp (act_after act) self.old.slots number } }
     {
-        perform(self.sockets(), slot, act)
+        perform(self.sockets(), number, act)
     }
 
     /// Queues a datagram.
-    pub fn udp_send(&mut self, slot: usize, bytes: &[u8], metadata: UdpMetadata) -> Result<(), Code>
-        ensures answer { result ≡ answer_at as_udp (λ v. coded of_send (send_answer v metadata (length bytes.now))) self.old.slots slot }
-        ensures after { self.new ≡ record self.old { slots = after_at as_udp Kind.Udp (λ v. send_after v metadata bytes.now) self.old.slots slot } }
+    pub fn udp_send(&mut self, number: usize, bytes: &[u8], metadata: UdpMetadata) -> Result<(), Code>
+        ensures answer { result ≡ answer_at as_udp (λ v. coded of_send (send_answer v metadata (length bytes.now))) self.old.slots number }
+        ensures after { self.new ≡ record self.old { slots = after_at as_udp Kind.Udp (λ v. send_after v metadata bytes.now) self.old.slots number } }
     {
-        send(self.sockets(), slot, bytes, metadata)
+        send(self.sockets(), number, bytes, metadata)
     }
 
     /// Reads the first datagram to the front of the slice.
-    pub fn udp_recv(&mut self, slot: usize, out: &mut [u8]) -> Result<(usize, UdpMetadata), Code>
-        ensures answer { result ≡ answer_at as_udp (λ v. coded of_recv (recv_answer v (length out.old))) self.old.slots slot }
-        ensures after { self.new ≡ record self.old { slots = after_at as_udp Kind.Udp (recv_after) self.old.slots slot } }
-        ensures read { out.new ≡ written_at as_udp recv_written out.old self.old.slots slot }
+    pub fn udp_recv(&mut self, number: usize, out: &mut [u8]) -> Result<(usize, UdpMetadata), Code>
+        ensures answer { result ≡ answer_at as_udp (λ v. coded of_recv (recv_answer v (length out.old))) self.old.slots number }
+        ensures after { self.new ≡ record self.old { slots = after_at as_udp Kind.Udp (recv_after) self.old.slots number } }
+        ensures read { out.new ≡ written_at as_udp recv_written out.old self.old.slots number }
     {
-        recv(self.sockets(), slot, out)
+        recv(self.sockets(), number, out)
     }
 }

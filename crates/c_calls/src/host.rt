@@ -10,7 +10,7 @@ ghost use Rattle.c_calls.specs.Codes.{of_fetch};
 use crate::backlogs::{is_in_backlog, refresh_all};
 use crate::code::{Code, of_fetch, of_new, of_push};
 use crate::link::FrameLink;
-use crate::slots::Slots;
+use crate::slots::{Slots, slot_of};
 use interface::{Config, Interface, Listener};
 use ip_wire::{EthernetAddress, HardwareAddress};
 use net_base::{ChecksumCapabilities, Device, DeviceCapabilities, Instant, Medium};
@@ -247,22 +247,22 @@ impl Host {
         self.counters
     }
 
-    /// Takes the socket at the slot out, and gives its memory back.
-    pub fn remove(&mut self, slot: usize) -> Result<(), Code>
-        ensures answer { result ≡ may_be_removed self.old slot }
-        ensures after { self.new ≡ removed_by (may_be_removed self.old slot) self.old slot }
+    /// Takes the socket of this number out, and gives its memory back. The number names nothing then.
+    pub fn remove(&mut self, socket: usize) -> Result<(), Code>
+        ensures answer { result ≡ may_be_removed self.old socket }
+        ensures after { self.new ≡ removed_by (may_be_removed self.old socket) self.old socket }
     {
-        if self.seen_sockets().is_free(slot) {
+        if self.seen_sockets().is_free(socket) {
             return Err(Code::NoSocket);
         }
-        if is_in_backlog(self.seen_listeners(), slot) {
+        if is_in_backlog(self.seen_listeners(), slot_of(socket)) {
             return Err(Code::InBacklog);
         }
-        self.sockets().give_up(slot);
+        self.sockets().give_up(socket);
         Ok(())
     }
 
-    /// Puts a socket at the first free slot.
+    /// Puts a socket at the first free slot, and answers its number.
     pub(crate) fn add<K: AnySocket + Drop>(&mut self, socket: K) -> Result<usize, Code>
         ensures { MakesSocket (K.upcast_of socket) self.old result self.new }
     {

@@ -12,30 +12,30 @@ use ip_wire::IpEndpoint;
 use sockets::tcp::{self, EndReason, State};
 
 /// The state of the connection.
-pub fn state(sockets: &Slots, slot: usize) -> Result<State, Code>
-    ensures { result ≡ answer_at as_tcp state_in sockets.now slot }
+pub fn state(sockets: &Slots, number: usize) -> Result<State, Code>
+    ensures { result ≡ answer_at as_tcp state_in sockets.now number }
 {
-    match seen::<tcp::Socket>(sockets, slot) {
+    match seen::<tcp::Socket>(sockets, number) {
         Ok(socket) => Ok(socket.state()),
         Err(code) => Err(code),
     }
 }
 
 /// Why the last connection ended, if one did and the socket is closed.
-pub fn end_reason(sockets: &Slots, slot: usize) -> Result<Option<EndReason>, Code>
-    ensures { TellsEnd (found_at as_tcp sockets.now slot) result }
+pub fn end_reason(sockets: &Slots, number: usize) -> Result<Option<EndReason>, Code>
+    ensures { TellsEnd (found_at as_tcp sockets.now number) result }
 {
-    match seen::<tcp::Socket>(sockets, slot) {
+    match seen::<tcp::Socket>(sockets, number) {
         Ok(socket) => Ok(socket.end_reason()),
         Err(code) => Err(code),
     }
 }
 
 /// The own endpoint of the connection and the remote's.
-pub fn ends(sockets: &Slots, slot: usize) -> Result<(IpEndpoint, IpEndpoint), Code>
-    ensures { result ≡ answer_at as_tcp ends_in sockets.now slot }
+pub fn ends(sockets: &Slots, number: usize) -> Result<(IpEndpoint, IpEndpoint), Code>
+    ensures { result ≡ answer_at as_tcp ends_in sockets.now number }
 {
-    match seen::<tcp::Socket>(sockets, slot) {
+    match seen::<tcp::Socket>(sockets, number) {
         Ok(socket) => both_ends(socket),
         Err(code) => Err(code),
     }
@@ -54,22 +54,22 @@ fn both_ends(socket: &tcp::Socket) -> Result<(IpEndpoint, IpEndpoint), Code>
 }
 
 /// How many bytes wait to be read, and how many are queued that aren't acknowledged.
-pub fn queues(sockets: &Slots, slot: usize) -> Result<(usize, usize), Code>
-    ensures { result ≡ answer_at as_tcp queues_in sockets.now slot }
+pub fn queues(sockets: &Slots, number: usize) -> Result<(usize, usize), Code>
+    ensures { result ≡ answer_at as_tcp queues_in sockets.now number }
 {
-    match seen::<tcp::Socket>(sockets, slot) {
+    match seen::<tcp::Socket>(sockets, number) {
         Ok(socket) => Ok((socket.recv_queue(), socket.send_queue())),
         Err(code) => Err(code),
     }
 }
 
 /// Lends the first waiting bytes, as many as lie after one another.
-pub fn peek(sockets: &Slots, slot: usize) -> Result<&[u8], Code>
+pub fn peek(sockets: &Slots, number: usize) -> Result<&[u8], Code>
     ensures { MatchResult result
-        (λ bytes. answer_at as_tcp peeked sockets.now slot ≡ Ok bytes.now)
-        (λ code. answer_at as_tcp peeked sockets.now slot ≡ Err code) }
+        (λ bytes. answer_at as_tcp peeked sockets.now number ≡ Ok bytes.now)
+        (λ code. answer_at as_tcp peeked sockets.now number ≡ Err code) }
 {
-    match seen::<tcp::Socket>(sockets, slot) {
+    match seen::<tcp::Socket>(sockets, number) {
         Ok(socket) => first_bytes(socket),
         Err(code) => Err(code),
     }
