@@ -36,6 +36,7 @@ static struct {
     zv_lease lease;
     zv_addresses found;
     const uint8_t *lent;
+    void *user;
 } out;
 
 static void fill(void)
@@ -138,6 +139,8 @@ static void hosts_without_host(zv_host *none)
     WANT(zv_poll_at(none, 0, &out.at), ZV_NO_HOST);
     WANT(zv_counters(none, &out.counts), ZV_NO_HOST);
     WANT(zv_socket_remove(none, 0), ZV_NO_HOST);
+    WANT(zv_socket_set_user(none, 0, bytes), ZV_NO_HOST);
+    WANT(zv_socket_user(none, 0, &out.user), ZV_NO_HOST);
     WANT(zv_dhcp_new(none, 1), ZV_NO_HOST);
     WANT(zv_dns_new(none, &any, &any, &any), ZV_NO_HOST);
     clients_refuse(none, ZV_NO_HOST);
@@ -159,6 +162,7 @@ static void streams_refuse(zv_host *host, size_t socket, uint32_t code)
     WANT(zv_tcp_end_reason(host, socket, &out.byte), code);
     WANT(zv_tcp_peer(host, socket, &out.local, &out.remote), code);
     WANT(zv_tcp_queues(host, socket, &out.count, &out.other), code);
+    WANT(zv_tcp_room(host, socket, &out.count), code);
     WANT(zv_tcp_set_timeout(host, socket, 1), code);
     WANT(zv_tcp_set_keep_alive(host, socket, 1), code);
     WANT(zv_tcp_set_ack_delay(host, socket, 1), code);
@@ -429,9 +433,18 @@ static void streams(size_t tcp, size_t far)
     WANT(zv_tcp_listen(&one, tcp, &any, 80), ZV_INVALID_STATE);
     WANT(zv_tcp_send(&one, tcp, bytes, 9, &out.count), ZV_INVALID_STATE);
     turns();
-    WANT(zv_tcp_send(&one, tcp, bytes, 3000, &out.count), ZV_OK);
+    WANT(zv_tcp_room(&one, tcp, &out.count), ZV_OK);
     HOLDS(out.count == 2048);
+    WANT(zv_tcp_send(&one, tcp, bytes, 48, &out.count), ZV_OK);
+    WANT(zv_tcp_room(&one, tcp, &out.count), ZV_OK);
+    HOLDS(out.count == 2000);
+    WANT(zv_tcp_send(&one, tcp, bytes + 48, 3000, &out.count), ZV_OK);
+    HOLDS(out.count == 2000);
+    WANT(zv_tcp_room(&one, tcp, &out.count), ZV_OK);
+    HOLDS(out.count == 0);
     turns();
+    WANT(zv_tcp_room(&one, tcp, &out.count), ZV_OK);
+    HOLDS(out.count == 2048);
     WANT(zv_tcp_queues(&two, far, &out.count, &out.other), ZV_OK);
     HOLDS(out.count == 2048 && out.other == 0);
     WANT(zv_tcp_peek(&two, far, &out.lent, &out.count), ZV_OK);
@@ -622,7 +635,16 @@ static void old_refuses(size_t socket, size_t listener)
     WANT(zv_listener_add_keeper(&one, listener, socket), ZV_NO_SOCKET);
     WANT(zv_listener_give_back(&one, listener, socket), ZV_NO_SOCKET);
     WANT(zv_socket_remove(&one, socket), ZV_NO_SOCKET);
+    WANT(zv_socket_set_user(&one, socket, bytes), ZV_NO_SOCKET);
+    WANT(zv_socket_user(&one, socket, &out.user), ZV_NO_SOCKET);
     HOLDS(is_filled());
+}
+
+static void *user_of(size_t socket)
+{
+    void *user = bytes;
+    WANT(zv_socket_user(&one, socket, &user), ZV_OK);
+    return user;
 }
 
 static void old_numbers(void)
@@ -632,7 +654,8 @@ static void old_numbers(void)
     WANT(zv_listener_new(&one, &any, 9090, &listener), ZV_OK);
     WANT(zv_tcp_new(&one, 64, 64, &slot), ZV_OK);
     WANT(zv_udp_new(&one, 1, 64, &behind), ZV_OK);
-    HOLDS(slot < 1000 && behind == slot + 1);
+    HOLDS(slot < 1000 && behind == slot + 1 && user_of(behind) == NULL);
+    WANT(zv_socket_set_user(&one, behind, &behind), ZV_OK);
     for (size_t i = 0; i < 5; i++) {
         const size_t was = of_slot(slot, i);
         WANT(zv_socket_remove(&one, was), ZV_OK);
@@ -645,6 +668,9 @@ static void old_numbers(void)
         default: WANT(zv_tcp_new(&one, 64, 64, &socket), ZV_OK);
         }
         HOLDS(socket == of_slot(slot, i + 1));
+        HOLDS(user_of(socket) == NULL);
+        WANT(zv_socket_set_user(&one, socket, bytes + i), ZV_OK);
+        HOLDS(user_of(socket) == bytes + i && user_of(behind) == &behind);
         for (size_t earlier = 0; earlier <= i; earlier++)
             old_refuses(of_slot(slot, earlier), listener);
         old_refuses(of_slot(slot, i + 2), listener);

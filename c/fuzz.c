@@ -190,6 +190,7 @@ static void call(zv_host *host, int which)
 {
     static uint8_t bytes[70000];
     static const uint8_t *lent;
+    void *user = NULL;
     uint8_t byte = 0;
     size_t count = 0, other = 0, socket = any_socket(host);
     size_t length = (size_t)choice(MOST);
@@ -220,6 +221,11 @@ static void call(zv_host *host, int which)
         code = zv_udp_recv(host, socket, bytes, length, &count, &remote, &address);
         if (code == ZV_OK && count > length)
             fail("more bytes than the buffer has", count);
+        break;
+    case 55:
+        code = zv_socket_set_user(host, socket, bytes + length);
+        if (code == ZV_OK ? zv_socket_user(host, socket, &user) != ZV_OK || user != bytes + length : zv_socket_user(host, socket, &user) != code)
+            fail("a socket has another pointer", length);
         break;
     case 11: code = zv_udp_set_hop_limit(host, socket, (uint8_t)choice(256)); break;
     case 12: code = zv_udp_close(host, socket); break;
@@ -261,7 +267,11 @@ static void call(zv_host *host, int which)
             fail("no such end", byte);
         break;
     case 29: code = zv_tcp_peer(host, socket, &local, &remote); break;
-    case 30: code = zv_tcp_queues(host, socket, &count, &other); break;
+    case 30:
+        code = zv_tcp_queues(host, socket, &count, &other);
+        if (code == ZV_OK && (zv_tcp_room(host, socket, &count) != ZV_OK || count + other > (size_t)1 << 30))
+            fail("more room than a buffer may have", count);
+        break;
     case 31: code = zv_tcp_set_timeout(host, socket, choice(4) == 0 ? any_number() : UINT64_MAX); break;
     case 32: code = zv_tcp_set_keep_alive(host, socket, any_number()); break;
     case 33: code = zv_tcp_set_ack_delay(host, socket, any_number()); break;

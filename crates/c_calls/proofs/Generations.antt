@@ -9,9 +9,9 @@ use Rattle.c_calls.specs.SlotsValue.{SlotsValue}
 use Rattle.c_calls.specs.declared.slots.Tag.{Tag}
 
 -- the slot has a tag of this generation
-record IsAt (tags : List Tag) (slot generation : ℕ) : Type 0 where
-  within : slot < length tags
-  at : (tag_at tags slot).generation ≡ generation
+pub record IsAt (tags : List Tag) (slot generation : ℕ) : Type 0 where
+  pub within : slot < length tags
+  pub at : (tag_at tags slot).generation ≡ generation
 
 same_number : (a b : ℕ) → (a == b) ≡ true → a ≡ b
 same_number a b h = grind (arith, h)

@@ -66,7 +66,18 @@ module _ (ps : SlotsValue) (n : ℕ) (current : is_current ps.tags n ≡ true) w
   put_current w =
       ap (λ b. put_by (storage_if b ps.sockets (slot_of n)) ps n w) current ∙ put_set w (slice_get ps.sockets (slot_of n))
 
--- a socket that the set of these slots lends, by a handle of the slot
+-- a socket that a set lends, by a handle
+module _ (set : SocketSet Socket) (h : ℕ) (r : Option (MutBor Socket)) (s : MutBor Socket) (is : r ≡ Some s) where
+  abbrev Holds : SocketSet Socket → Socket → Option (MutBor Socket) → Type 0
+  Holds new w r = OnSome r ((slots new ≡ set_at (slots set) h w) × (is_fixed new ≡ is_fixed set))
+
+  held : (new : SocketSet Socket) (w : Socket) → Holds new w r → slots new ≡ set_at (slots set) h w
+  held new w holds = (subst (Holds new w) is holds).0
+
+  pub unfixed : is_fixed set ≡ false → (new : SocketSet Socket) (w : Socket) → Holds new w r → is_fixed new ≡ false
+  unfixed grows new w holds = (subst (Holds new w) is holds).1 ∙ grows
+
+-- the set of these slots, by a handle of the slot
 module _ (set : SocketSet Socket) (ts : List Tag) (ps : SlotsValue) (same : record { sockets = slots set; tags = ts } ≡ ps) (h n : ℕ) (at : h ≡ slot_of n)
     (current : is_current ps.tags n ≡ true) (r : Option (MutBor Socket)) (s : MutBor Socket) (is : r ≡ Some s) where
   pub there : option_copied_mut r ≡ socket_at (slots set) h → socket_named ps n ≡ Some s.now
@@ -74,18 +85,12 @@ module _ (set : SocketSet Socket) (ts : List Tag) (ps : SlotsValue) (same : reco
       names ps n current ∙ sym (ap (λ (x : SlotsValue). socket_at x.sockets (slot_of n)) same) ∙ sym (ap (socket_at (slots set)) at) ∙ sym value
       ∙ ap (λ x. option_copied_mut x) is
 
-  abbrev Holds : SocketSet Socket → Socket → Option (MutBor Socket) → Type 0
-  Holds new w r = OnSome r ((slots new ≡ set_at (slots set) h w) × (is_fixed new ≡ is_fixed set))
-
-  pub lent_at : (new : SocketSet Socket) (w : Socket) → Holds new w r → record { sockets = slots new; tags = ts } ≡ put_at ps n w
+  pub lent_at : (new : SocketSet Socket) (w : Socket) → Holds set h r s is new w r → record { sockets = slots new; tags = ts } ≡ put_at ps n w
   lent_at new w holds =
       ap (λ (x : List (SocketStorage Socket)). record { sockets = x; tags = ts })
-      ((subst (Holds new w) is holds).0 ∙ ap (λ (k : ℕ). set_at (slots set) k w) at)
+      (held set h r s is new w holds ∙ ap (λ (k : ℕ). set_at (slots set) k w) at)
       ∙ ap (λ (x : SlotsValue). record x { sockets = set_at x.sockets (slot_of n) w }) same
       ∙ sym (put_current ps n current w)
-
-  pub unfixed : is_fixed set ≡ false → (new : SocketSet Socket) (w : Socket) → Holds new w r → is_fixed new ≡ false
-  unfixed grows new w holds = (subst (Holds new w) is holds).1 ∙ grows
 
 -- a socket that slots lend
 module _ (ps : SlotsValue) (n : ℕ) (r : Option (MutBor Socket)) (s : MutBor Socket) (is : r ≡ Some s) where

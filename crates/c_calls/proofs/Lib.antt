@@ -1,4 +1,6 @@
 pub mod Numbers
+pub mod Generations
+pub mod Named
 pub mod Lent
 pub mod Placed
 pub mod Making

@@ -17,7 +17,7 @@ use Rattle.c_calls.specs.Slots.{answer_at}
 use Rattle.c_calls.specs.declared.code.Code.{Code}
 use Rattle.c_calls.specs.declared.code.Code.TheVariants as Is
 use Rattle.c_calls.specs.Host.{StackValue}
-use Rattle.c_calls.specs.Numbers.{slot_of, number_of, socket_named, without_socket}
+use Rattle.c_calls.specs.Numbers.{slot_of, number_of, is_some_socket, socket_named, without_socket}
 use Rattle.c_calls.specs.SlotsValue.{SlotsValue}
 use Rattle.c_calls.specs.declared.backlogs.Role.{Role}
 use Rattle.c_calls.specs.declared.backlogs.Role.TheVariants as For
@@ -193,10 +193,6 @@ AcceptsFrom s n result s' =
 abbrev pub IsGivenBack : ℕ → Listener → Listener → Type 0
 IsGivenBack socket l l' =
     (l'.endpoint ≡ l.endpoint) × (l'.entries.items ≡ map (given_back (handle (slot_of socket))) l.entries.items) × (l'.keepers.items ≡ l.keepers.items)
-
-abbrev pub is_some_socket : Option Socket → Result (Unit {0}) Code
-is_some_socket None = Err Is.NoSocket
-is_some_socket (Some socket) = Ok tt
 
 abbrev pub GivenBack : Result (Unit {0}) Code → ℕ → Listener → Result (Unit {0}) Code → Option Listener → Type 0
 GivenBack (Err code) socket l result l' = (result ≡ Err code) × (l' ≡ Some l)

@@ -1,9 +1,11 @@
 -- The numbers of a host's sockets: a slot, and above it the generation of the socket in it.
 use Rattle.std.specs.Prelude.{ℕ, ◌+◌, ◌-◌, ◌*◌, ◌/◌, ◌%◌, ◌^◌, ◌==◌, Bool, true, false, List, [], ◌++◌, length, replicate, slice_get, slice_index_or, slice_set}
-use Rattle.std.specs.Prelude.{Option, None, Some}
+use Rattle.std.specs.Prelude.{Option, None, Some, Result, Ok, Err}
 use Rattle.interface.specs.Set.{free, set_in, socket_in}
 use Rattle.interface.specs.SocketStorage.{SocketStorage}
 use Rattle.sockets.specs.declared.socket.Socket.{Socket}
+use Rattle.c_calls.specs.declared.code.Code.{Code}
+use Rattle.c_calls.specs.declared.code.Code.TheVariants as Is
 use Rattle.c_calls.specs.declared.slots.Tag.{Tag}
 use Rattle.c_calls.specs.SlotsValue.{SlotsValue}
 
@@ -79,6 +81,29 @@ without_socket s slot = record {
   tags = slice_set s.tags slot (next_tag (tag_at s.tags slot));
 }
 
+-- THE USER'S
+
+-- whether there is a socket of the number
+abbrev pub is_some_socket : Option Socket → Result (Unit {0}) Code
+is_some_socket None = Err Is.NoSocket
+is_some_socket (Some socket) = Ok tt
+
+abbrev pub user_of : Option Socket → Tag → Result ℕ Code
+user_of None tag = Err Is.NoSocket
+user_of (Some socket) tag = Ok tag.user
+
+-- what the user set at the socket of this number
+abbrev pub user_at : SlotsValue → ℕ → Result ℕ Code
+user_at s number = user_of (socket_named s number) (tag_at s.tags (slot_of number))
+
 -- a number of the user's own at the slot
 abbrev pub with_user : SlotsValue → ℕ → ℕ → SlotsValue
 with_user s slot user = record s { tags = slice_set s.tags slot (record (tag_at s.tags slot) { user = user }) }
+
+abbrev pub user_set : Option Socket → SlotsValue → ℕ → ℕ → SlotsValue
+user_set None s slot user = s
+user_set (Some socket) s slot user = with_user s slot user
+
+-- the same at the socket of this number, if there is one
+abbrev pub with_user_at : SlotsValue → ℕ → ℕ → SlotsValue
+with_user_at s number user = user_set (socket_named s number) s (slot_of number) user

@@ -8,8 +8,8 @@ ghost use Rattle.sockets.specs.AnySocket.{as_tcp};
 ghost use Rattle.c_calls.specs.Slots.{answer_at};
 ghost use Rattle.c_calls.specs.Backlogs.{RefreshesAt, RefreshesAll, MakesListener, IsPut, listener_slot, is_there, without_listener, listener_at, has_slot};
 ghost use Rattle.c_calls.specs.Backlogs.{is_in_backlog, closed_in, may_be_taken, Takes, Has, HasEntry, HasKeeper, Grows, Grown, WhereThere, Accepted};
-ghost use Rattle.c_calls.specs.Backlogs.{GivenBack, IsGivenBack, AcceptsFrom, GivesBack, OnSlot, listener_refusal, is_some_socket};
-ghost use Rattle.c_calls.specs.Numbers.{socket_named};
+ghost use Rattle.c_calls.specs.Backlogs.{GivenBack, IsGivenBack, AcceptsFrom, GivesBack, OnSlot, OnListener, listener_refusal};
+ghost use Rattle.c_calls.specs.Numbers.{is_some_socket, number_of, socket_named};
 
 use crate::code::Code;
 use crate::host::Host;
@@ -212,28 +212,32 @@ impl Host {
     pub fn listener_accept(&mut self, listener: usize) -> Result<usize, Code>
         ensures { AcceptsFrom self.old listener result self.new }
     {
-        match accept_at(self.listeners(), listener) {
-            Ok(slot) => Ok(self.seen_sockets().number_of(slot)),
+        match self.accepted_slot(listener) {
+            Ok(slot) => Ok(self.number_at(slot)),
             Err(code) => Err(code),
         }
     }
 
-    /// Whether there is a socket of this number.
-    fn is_some_socket(&self, socket: usize) -> Result<(), Code>
-        ensures { result ≡ is_some_socket (socket_named self.now.slots socket) }
+    /// The slot of that socket.
+    fn accepted_slot(&mut self, listener: usize) -> Result<usize, Code>
+        ensures { OnListener Accepted (listener_at self.old.listeners listener) self.old listener result self.new }
     {
-        if self.seen_sockets().is_free(socket) {
-            Err(Code::NoSocket)
-        } else {
-            Ok(())
-        }
+        accept_at(self.listeners(), listener)
     }
+
+    /// The number of the socket in this slot.
+    fn number_at(&self, slot: usize) -> usize
+        ensures { result ≡ number_of self.now.slots.tags slot }
+    {
+        self.seen_sockets().number_of(slot)
+    }
+
 
     /// Takes an accepted socket back, which its user closed or aborted. It listens again when its connection has ended.
     pub fn listener_give_back(&mut self, listener: usize, socket: usize) -> Result<(), Code>
         ensures { GivesBack self.old listener socket result self.new }
     {
-        let there = self.is_some_socket(socket);
+        let there = self.seen_sockets().is_some_socket(socket);
         give_back_at(self.listeners(), listener, socket, there)
     }
 }

@@ -6,6 +6,7 @@ ghost use Rattle.c_calls.specs.Calls.{counted, NewHost, TakesFrame, fetched_from
 ghost use Rattle.c_calls.specs.Added.{MakesSocket};
 ghost use Rattle.c_calls.specs.Backlogs.{may_be_removed, removed_by};
 ghost use Rattle.c_calls.specs.Codes.{of_fetch};
+ghost use Rattle.c_calls.specs.Numbers.{is_some_socket, socket_named, user_at, with_user_at};
 
 use crate::backlogs::{is_in_backlog, refresh_all};
 use crate::code::{Code, of_fetch, of_new, of_push};
@@ -260,6 +261,21 @@ impl Host {
         }
         self.sockets().give_up(socket);
         Ok(())
+    }
+
+    /// What the user set at the socket, 0 before. The host makes nothing of it.
+    pub fn socket_user(&self, socket: usize) -> Result<usize, Code>
+        ensures { result ≡ user_at self.now.slots socket }
+    {
+        self.seen_sockets().user(socket)
+    }
+
+    /// Sets it.
+    pub fn socket_set_user(&mut self, socket: usize, user: usize) -> Result<(), Code>
+        ensures answer { result ≡ is_some_socket (socket_named self.old.slots socket) }
+        ensures after { self.new ≡ record self.old { slots = with_user_at self.old.slots socket user } }
+    {
+        self.sockets().set_user(socket, user)
     }
 
     /// Puts a socket at the first free slot, and answers its number.

@@ -3,7 +3,7 @@ ghost use Rattle.std.specs.Prelude.{◌≡◌, MatchResult, Ok, Err};
 ghost use Rattle.sockets.specs.AnySocket.{as_tcp};
 ghost use Rattle.c_calls.specs.Ends.{TellsEnd};
 ghost use Rattle.c_calls.specs.Slots.{answer_at, found_at};
-ghost use Rattle.c_calls.specs.Streams.{peeked, state_in, ends_in, queues_in};
+ghost use Rattle.c_calls.specs.Streams.{peeked, state_in, ends_in, queues_in, room_in};
 
 use crate::code::{Code, of_stream_recv};
 use crate::kinds::seen;
@@ -59,6 +59,16 @@ pub fn queues(sockets: &Slots, number: usize) -> Result<(usize, usize), Code>
 {
     match seen::<tcp::Socket>(sockets, number) {
         Ok(socket) => Ok((socket.recv_queue(), socket.send_queue())),
+        Err(code) => Err(code),
+    }
+}
+
+/// How many bytes more can be queued.
+pub fn room(sockets: &Slots, number: usize) -> Result<usize, Code>
+    ensures { result ≡ answer_at as_tcp room_in sockets.now number }
+{
+    match seen::<tcp::Socket>(sockets, number) {
+        Ok(socket) => Ok(socket.send_capacity() - socket.send_queue()),
         Err(code) => Err(code),
     }
 }

@@ -6,11 +6,13 @@ ghost use Rattle.interface.specs.Host.{host_at};
 ghost use Rattle.interface.specs.Inner.{at_instant};
 ghost use Rattle.interface.specs.Instant.{poll_instant};
 ghost use Rattle.interface.specs.Polls.{Polls};
+ghost use Rattle.interface.specs.Set.{slots, is_fixed};
 ghost use Rattle.interface.specs.State.{state};
 ghost use Rattle.net_base.specs.Time.{IsMoment};
 ghost use Rattle.c_calls.specs.Link.{LinkMove};
 ghost use Rattle.c_calls.specs.Added.{AddsSocket};
 ghost use Rattle.c_calls.specs.Numbers.{slot_of, generation_of, number_of, no_tag, no_slots, is_current, next_tag, tag_at, socket_named, without_socket};
+ghost use Rattle.c_calls.specs.Numbers.{is_some_socket, user_at, with_user_at};
 ghost use Rattle.c_calls.specs.BorrowEnds.{LendsSocket};
 
 use crate::code::Code;
@@ -140,6 +142,32 @@ fn retire(tags: &mut Vec<Tag>, slot: usize)
     }
 }
 
+/// The user sets a number of its own.
+fn mark(tags: &mut Vec<Tag>, slot: usize, user: usize)
+    ensures { tags.new.items ≡ slice_set tags.old.items slot (record (tag_at tags.old.items slot) { user = user }) }
+{
+    if slot < tags.len() {
+        tags[slot].user = user;
+    }
+}
+
+fn poll_set(
+    set: &mut SocketSet<Socket>,
+    now: Instant,
+    budget: u16,
+    interface: &mut Interface,
+    link: &mut FrameLink,
+) -> bool
+    requires { IsMoment now }
+    ensures polls { Polls LinkMove now budget (state link.old interface.old (slots set.old)) result (state link.new interface.new (slots set.new)) }
+    ensures fixed { is_fixed set.new ≡ is_fixed set.old }
+{
+    match interface.poll(now, link, set, budget) {
+        PollResult::None => false,
+        PollResult::SocketStateChanged => true,
+    }
+}
+
 impl Slots {
     /// No slots yet.
     pub fn new(alloc: Global) -> Slots
@@ -178,6 +206,40 @@ impl Slots {
         ensures { result ≡ is_none (socket_named self.now number) }
     {
         self.get(number).is_none()
+    }
+
+    /// Whether there is a socket of this number.
+    pub fn is_some_socket(&self, number: usize) -> Result<(), Code>
+        ensures { result ≡ is_some_socket (socket_named self.now number) }
+    {
+        if self.is_free(number) {
+            Err(Code::NoSocket)
+        } else {
+            Ok(())
+        }
+    }
+
+    /// What the user set at the socket of this number, 0 before.
+    pub fn user(&self, number: usize) -> Result<usize, Code>
+        ensures { result ≡ user_at self.now number }
+    {
+        if self.is_free(number) {
+            Err(Code::NoSocket)
+        } else {
+            Ok(tag_at(self.tags.as_slice(), slot_of(number)).user)
+        }
+    }
+
+    /// Sets it.
+    pub fn set_user(&mut self, number: usize, user: usize) -> Result<(), Code>
+        ensures answer { result ≡ is_some_socket (socket_named self.old number) }
+        ensures after { self.new ≡ with_user_at self.old number user }
+    {
+        if self.is_free(number) {
+            return Err(Code::NoSocket);
+        }
+        mark(&mut self.tags, slot_of(number), user);
+        Ok(())
     }
 
     /// The socket of this number.
@@ -222,10 +284,7 @@ impl Slots {
             (state link.new interface.new self.new.sockets) }
         ensures tags { self.new.tags ≡ self.old.tags }
     {
-        match interface.poll(now, link, &mut self.set, budget) {
-            PollResult::None => false,
-            PollResult::SocketStateChanged => true,
-        }
+        poll_set(&mut self.set, now, budget, interface, link)
     }
 
     /// When the interface wants to be polled, for its own sake or for that of a socket.

@@ -7,7 +7,7 @@ ghost use Rattle.c_calls.specs.Slots.{answer_at, found_at, after_at, written_at,
 ghost use Rattle.sockets.specs.Context.{ContextValue};
 ghost use Rattle.sockets.specs.TcpCalls.{connect_answer, connect_after, connect_draws, send_answer, send_after, recv_answer};
 ghost use Rattle.c_calls.specs.Codes.{coded, of_connect, of_stream_send, of_stream_recv};
-ghost use Rattle.c_calls.specs.Streams.{act_answer, act_after, read_after, read_written, done_answer, done_after, peeked, state_in, ends_in, queues_in};
+ghost use Rattle.c_calls.specs.Streams.{act_answer, act_after, read_after, read_written, done_answer, done_after, peeked, state_in, ends_in, queues_in, room_in};
 ghost use Rattle.interface.specs.Inner.{context_of, drawn};
 ghost use Rattle.interface.specs.Made.{with_inner};
 ghost use Rattle.c_calls.specs.Added.{MakesStream};
@@ -306,5 +306,12 @@ impl Host {
         ensures { result ≡ answer_at as_tcp queues_in self.now.slots number }
     {
         looks::queues(self.seen_sockets(), number)
+    }
+
+    /// How many bytes more can be queued.
+    pub fn tcp_room(&self, number: usize) -> Result<usize, Code>
+        ensures { result ≡ answer_at as_tcp room_in self.now.slots number }
+    {
+        looks::room(self.seen_sockets(), number)
     }
 }
