@@ -766,6 +766,8 @@ static void asked(const zv_endpoint *server)
     for (size_t i = 50; i < sizeof text; i += 51)
         text[i] = '.';
     WANT(zv_dns_ask(&one, text, 254, 4), ZV_NAME_TOO_LONG);
+    WANT(zv_dns_ask(&one, text, 256, 4), ZV_NAME_TOO_LONG);
+    WANT(zv_dns_ask(&one, text, SIZE_MAX, 4), ZV_NAME_TOO_LONG);
     WANT(zv_dns_ask(&one, (const uint8_t *)"a..b", 4, 4), ZV_INVALID_NAME);
     WANT(zv_dns_ask(&one, (const uint8_t *)"\xff", 1, 4), ZV_INVALID_NAME);
     WANT(zv_dns_ask(&one, text, 253, 5), ZV_BAD_ARGUMENT);

@@ -512,7 +512,7 @@ uint32_t zv_dhcp_poll_at(zv_host *host, int64_t *at);
 uint32_t zv_dns_new(zv_host *host, const zv_address *first, const zv_address *second, const zv_address *third);
 
 /* Asks for the addresses of family 4 or 6 that a name has, a text with dots between its labels. The result of the query before is
- * forgotten. ZV_BAD_ARGUMENT (family), ZV_QUERY_PENDING, ZV_NAME_TOO_LONG, ZV_INVALID_NAME. */
+ * forgotten. Of a text of more than 255 bytes none is read. ZV_BAD_ARGUMENT (family), ZV_QUERY_PENDING, ZV_NAME_TOO_LONG, ZV_INVALID_NAME. */
 uint32_t zv_dns_ask(zv_host *host, const uint8_t *name, size_t length, uint8_t family);
 
 /* Hands the client a datagram that a socket received: from where, and at which address and port. ZV_BAD_ARGUMENT. */

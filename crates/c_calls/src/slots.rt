@@ -137,7 +137,7 @@ fn retire(tags: &mut Vec<Tag>, slot: usize)
     if slot < tags.len() {
         tags[slot] = Tag {
             generation: tags[slot].generation.wrapping_add(1),
-            user: 0,
+            ..NO_TAG
         };
     }
 }
