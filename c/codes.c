@@ -373,6 +373,7 @@ static void set_up(void)
 static void datagrams(size_t udp, size_t far)
 {
     const zv_endpoint remote = at(second, 7), unspecified = at(nobody, 7), unported = at(second, 0), unnamed = at(any, 7);
+    const zv_endpoint six = at(ipv6(2), 7);
     WANT(zv_udp_bind(&one, udp, &unknown, 5000), ZV_BAD_ARGUMENT);
     WANT(zv_udp_bind(&one, udp, &any, 0), ZV_UNADDRESSABLE);
     WANT(zv_udp_send(&one, udp, bytes, 9, &remote, &any), ZV_UNADDRESSABLE);
@@ -387,7 +388,9 @@ static void datagrams(size_t udp, size_t far)
     WANT(zv_udp_recv(&two, far, out.bytes, 9, &out.count, &out.remote, &out.address), ZV_EMPTY);
     WANT(zv_udp_send(&one, udp, bytes, 0, &remote, &any), ZV_OK);
     WANT(zv_udp_send(&one, udp, bytes, 4068, &remote, &first), ZV_OK);
-    WANT(zv_udp_send(&one, udp, bytes, 4069, &remote, &any), ZV_FULL);
+    WANT(zv_udp_send(&one, udp, bytes, 4069, &remote, &any), ZV_TOO_LONG);
+    WANT(zv_udp_send(&one, udp, bytes, 4068, &remote, &any), ZV_FULL);
+    WANT(zv_udp_send(&one, udp, bytes, SIZE_MAX, &remote, &any), ZV_TOO_LONG);
     turns();
     WANT(zv_udp_recv(&two, far, out.bytes, 0, &out.count, &out.remote, &out.address), ZV_OK);
     HOLDS(out.count == 0 && out.remote.port == 5000 && memcmp(&out.remote.address, &first, sizeof first) == 0);
@@ -395,7 +398,9 @@ static void datagrams(size_t udp, size_t far)
     WANT(zv_udp_recv(&two, far, out.bytes, 4067, &out.count, &out.remote, &out.address), ZV_TRUNCATED);
     WANT(zv_udp_recv(&two, far, out.bytes, 4067, &out.count, &out.remote, &out.address), ZV_EMPTY);
     HOLDS(is_filled());
-    WANT(zv_udp_send(&one, udp, bytes, 4069, &remote, &any), ZV_OK);
+    WANT(zv_udp_send(&one, udp, bytes, 4069, &remote, &any), ZV_TOO_LONG);
+    WANT(zv_udp_send(&one, udp, bytes, 4048, &six, &any), ZV_OK);
+    WANT(zv_udp_send(&one, udp, bytes, 4049, &six, &any), ZV_TOO_LONG);
     turns();
     WANT(zv_udp_recv(&two, far, out.bytes, 4096, &out.count, &out.remote, &out.address), ZV_EMPTY);
     WANT(zv_udp_set_hop_limit(&one, udp, 0), ZV_OK);

@@ -55,7 +55,7 @@ enum {
     ZV_TRUNCATED = 11,    /* the datagram is longer than the buffer, and is gone */
     ZV_FINISHED = 12,     /* the remote has closed its way, and all that it sent was read */
     ZV_TOO_SHORT = 13,    /* what is to go, a frame or a client's message, is longer than the buffer, and stays */
-    ZV_TOO_LONG = 14,     /* the frame is longer than 65,549 bytes, or a stream's buffer than 2^30 */
+    ZV_TOO_LONG = 14,     /* the frame is longer than 65,549 bytes, a stream's buffer than 2^30, or the datagram than can be sent */
     ZV_TABLE_FULL = 15,   /* there are four addresses or routes already, or sixteen listeners */
     ZV_NOT_FOUND = 16,    /* the address or the route isn't there */
     ZV_MEDIUM = 17,       /* the medium has other hardware addresses */
@@ -260,9 +260,9 @@ uint32_t zv_udp_new(zv_host *host, size_t packets, size_t bytes, size_t *socket)
 uint32_t zv_udp_bind(zv_host *host, size_t socket, const zv_address *address, uint16_t port);
 
 /* Queues a datagram, which a poll sends. It goes from the own address `local`; with zv_any from the one that the socket is bound to, or
- * that the host chooses. One that is longer than a frame takes goes in pieces over IPv4, if it has at most 4,068 bytes; a longer one is
- * dropped later, in silence, and so is one for which there is no own address of its family.
- * ZV_BAD_ARGUMENT, ZV_UNADDRESSABLE (the socket is unbound, or the remote's port 0 or its address unspecified), ZV_FULL. */
+ * that the host chooses. One that is longer than a frame takes goes in fragments, if it has at most 4,068 bytes over IPv4 and 4,048 over IPv6;
+ * a longer one is refused. One for which there is no own address of its family is dropped later, in silence. ZV_TOO_LONG, ZV_BAD_ARGUMENT,
+ * ZV_UNADDRESSABLE (the socket is unbound, or the remote's port 0 or its address unspecified), ZV_FULL. */
 uint32_t zv_udp_send(zv_host *host, size_t socket, const uint8_t *bytes, size_t length, const zv_endpoint *remote, const zv_address *local);
 
 /* Copies the first datagram to the buffer; says its length, where it came from, and the own address that it was sent to. One that is

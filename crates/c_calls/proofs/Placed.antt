@@ -125,7 +125,7 @@ module _ {V : Type 0} (as_kind : Socket → Option V) where
       kept_item slot None got is h = refl
       kept_item slot (Some item) got is h =
           sym (subst (λ (o : Option (Item Socket)). slice_set ps.sockets (slot_of n) (record { inner = o }) ≡ ps.sockets) is
-              (same_slot ps.sockets (slot_of n) slot got))
+          (same_slot ps.sockets (slot_of n) slot got))
           ∙ ap (λ (s : Socket). slice_set ps.sockets (slot_of n) (with_socket item s)) (kept_kind item.socket (as_kind item.socket) h)
 
       kept_in : (o : Option (SocketStorage Socket)) → storage_at ps n ≡ o → in_found o ≡ Err code → ps ≡ after_in as_kind of_kind after ps n o

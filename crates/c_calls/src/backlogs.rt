@@ -232,7 +232,6 @@ impl Host {
         self.seen_sockets().number_of(slot)
     }
 
-
     /// Takes an accepted socket back, which its user closed or aborted. It listens again when its connection has ended.
     pub fn listener_give_back(&mut self, listener: usize, socket: usize) -> Result<(), Code>
         ensures { GivesBack self.old listener socket result self.new }

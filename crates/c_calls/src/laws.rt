@@ -1,11 +1,17 @@
 //! What the numbers of sockets are for.
-ghost use Rattle.std.specs.Prelude.{◌≡◌, ℕ, ℤ, ◌^◌, ◌<◌, ◌≤◌, Bool, true, false, List, Some, Ok};
-ghost use Rattle.sockets.specs.AnySocket.{as_tcp, as_udp, as_icmp, as_raw};
+ghost use Rattle.std.specs.Prelude.{◌≡◌, ℕ, ℤ, ◌+◌, ◌^◌, ◌<◌, ◌≤◌, Bool, true, false, List, Some, Ok};
+ghost use Rattle.iface_egress.specs.Plan.{plan_to, total_len};
+ghost use Rattle.iface_egress.specs.declared.plan.Plan.TheVariants as Way;
+ghost use Rattle.ip_wire.specs.HardwareAddress.{HardwareAddress};
+ghost use Rattle.ip_wire.specs.Ip.{destination_of};
+ghost use Rattle.ip_wire.specs.IpRepr.{IpRepr};
+ghost use Rattle.sockets.specs.AnySocket.{as_tcp};
 ghost use Rattle.sockets.specs.TcpValue.{TcpValue};
 ghost use Rattle.sockets.specs.declared.socket.Socket.{Socket};
 ghost use Rattle.sockets.specs.declared.socket.Socket.TheVariants as Kind;
 ghost use Rattle.c_calls.specs.Added.{MakesSocket};
 ghost use Rattle.c_calls.specs.Calls.{PollsAt};
+ghost use Rattle.c_calls.specs.Datagrams.{datagram_room, headers_len};
 ghost use Rattle.c_calls.specs.Generations.{Event, behind, removals};
 ghost use Rattle.c_calls.specs.Host.{StackValue};
 ghost use Rattle.c_calls.specs.Numbers.{is_current, slot_of, socket_named};
@@ -39,4 +45,14 @@ pub fn calls_leave_numbers()
     ensures polls { (now : ℤ) (budget : ℕ) (s s' : StackValue) (changed : Bool)
         → PollsAt now budget s (Ok changed) s'
         → s'.slots.tags ≡ s.slots.tags }
+{}
+
+/// Law: a datagram that is refused for its length is dropped on every path, whatever frames it carries: with its headers it is longer than a
+/// frame, and than what goes in fragments.
+pub fn what_is_too_long_never_leaves()
+    ensures { (s : StackValue) (to : HardwareAddress) (mtu : ℕ) (busy : Bool) (header : IpRepr) (length : ℕ)
+        → datagram_room s (destination_of header) < length
+        → total_len header ≡ headers_len (destination_of header) + length
+        → mtu ≤ s.host.inner.mtu
+        → plan_to to mtu busy header ≡ Way.Drop }
 {}

@@ -243,7 +243,13 @@ impl Host {
           slots = after_at as_tcp Kind.Tcp (λ v. connect_after (context_of self.old.host.inner) v remote local) self.old.slots number;
         } }
     {
-        connect(&mut self.sockets, number, &mut self.interface, remote, local)
+        connect(
+            &mut self.sockets,
+            number,
+            &mut self.interface,
+            remote,
+            local,
+        )
     }
 
     /// Queues as many of the bytes as there is room for, and answers how many.

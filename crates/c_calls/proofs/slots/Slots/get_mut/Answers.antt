@@ -7,7 +7,7 @@ use Rattle.c_calls.proofs.slots.Slots.get_mut.Goals as goal
 pub invariant_of-self-lent : goal.invariant_of-self-lent
 invariant_of-self-lent c =
     λ w. unfixed c.self.inside.set c.at.result.0 c.get_mut.result c.in-Some.socket c.in-Some.is c.self.invariant (c.get_mut.follows.lender w) w
-        (c.get_mut.follows.holds w)
+    (c.get_mut.follows.holds w)
 
 pub returns-in-Some : goal.returns-in-Some
 returns-in-Some c =
