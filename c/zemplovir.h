@@ -81,7 +81,7 @@ static inline const char *zv_strerror(uint32_t code)
     case ZV_HAS_HOST: return "a host behind the handle already";
     case ZV_MEMORY: return "out of memory";
     case ZV_BAD_ARGUMENT: return "bad argument";
-    case ZV_NO_SOCKET: return "no socket at the place";
+    case ZV_NO_SOCKET: return "no socket of this number";
     case ZV_WRONG_KIND: return "a socket of another kind at the place";
     case ZV_INVALID_STATE: return "invalid state";
     case ZV_UNADDRESSABLE: return "unaddressable";

@@ -289,7 +289,7 @@ impl Interface {
 
     /// The number that was set at the socket, 0 before.
     pub fn user(&mut self, handle: SocketHandle) -> Result<usize> {
-        let mut user: ffi::User = std::ptr::null_mut();
+        let mut user: ffi::User = core::ptr::null_mut();
         done(unsafe { ffi::zv_socket_user(&mut self.host, handle.0, &mut user) })?;
         Ok(user as usize)
     }
