@@ -2,7 +2,7 @@ use Rattle.std.proofs.Common.{◌≡◌, Result, Ok, sym, ap, ◌∙◌}
 use Rattle.c_calls.specs.Backlogs.{numbered}
 use Rattle.c_calls.specs.Host.{StackValue}
 use Rattle.c_calls.specs.Numbers.{number_of}
-use Rattle.c_calls.proofs.backlogs.Host.listener_accept.Goals as goal
+use Rattle.c_calls.proofs.host.Host.listener_accept.Goals as goal
 
 pub returns-in-Ok : goal.returns-in-Ok
 returns-in-Ok c = (
