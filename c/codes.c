@@ -36,6 +36,7 @@ static struct {
     zv_lease lease;
     zv_addresses found;
     const uint8_t *lent;
+    void *user;
 } out;
 
 static void fill(void)
@@ -138,6 +139,8 @@ static void hosts_without_host(zv_host *none)
     WANT(zv_poll_at(none, 0, &out.at), ZV_NO_HOST);
     WANT(zv_counters(none, &out.counts), ZV_NO_HOST);
     WANT(zv_socket_remove(none, 0), ZV_NO_HOST);
+    WANT(zv_socket_set_user(none, 0, bytes), ZV_NO_HOST);
+    WANT(zv_socket_user(none, 0, &out.user), ZV_NO_HOST);
     WANT(zv_dhcp_new(none, 1), ZV_NO_HOST);
     WANT(zv_dns_new(none, &any, &any, &any), ZV_NO_HOST);
     clients_refuse(none, ZV_NO_HOST);
@@ -159,6 +162,7 @@ static void streams_refuse(zv_host *host, size_t socket, uint32_t code)
     WANT(zv_tcp_end_reason(host, socket, &out.byte), code);
     WANT(zv_tcp_peer(host, socket, &out.local, &out.remote), code);
     WANT(zv_tcp_queues(host, socket, &out.count, &out.other), code);
+    WANT(zv_tcp_room(host, socket, &out.count), code);
     WANT(zv_tcp_set_timeout(host, socket, 1), code);
     WANT(zv_tcp_set_keep_alive(host, socket, 1), code);
     WANT(zv_tcp_set_ack_delay(host, socket, 1), code);
@@ -369,6 +373,7 @@ static void set_up(void)
 static void datagrams(size_t udp, size_t far)
 {
     const zv_endpoint remote = at(second, 7), unspecified = at(nobody, 7), unported = at(second, 0), unnamed = at(any, 7);
+    const zv_endpoint six = at(ipv6(2), 7);
     WANT(zv_udp_bind(&one, udp, &unknown, 5000), ZV_BAD_ARGUMENT);
     WANT(zv_udp_bind(&one, udp, &any, 0), ZV_UNADDRESSABLE);
     WANT(zv_udp_send(&one, udp, bytes, 9, &remote, &any), ZV_UNADDRESSABLE);
@@ -383,7 +388,9 @@ static void datagrams(size_t udp, size_t far)
     WANT(zv_udp_recv(&two, far, out.bytes, 9, &out.count, &out.remote, &out.address), ZV_EMPTY);
     WANT(zv_udp_send(&one, udp, bytes, 0, &remote, &any), ZV_OK);
     WANT(zv_udp_send(&one, udp, bytes, 4068, &remote, &first), ZV_OK);
-    WANT(zv_udp_send(&one, udp, bytes, 4069, &remote, &any), ZV_FULL);
+    WANT(zv_udp_send(&one, udp, bytes, 4069, &remote, &any), ZV_TOO_LONG);
+    WANT(zv_udp_send(&one, udp, bytes, 4068, &remote, &any), ZV_FULL);
+    WANT(zv_udp_send(&one, udp, bytes, SIZE_MAX, &remote, &any), ZV_TOO_LONG);
     turns();
     WANT(zv_udp_recv(&two, far, out.bytes, 0, &out.count, &out.remote, &out.address), ZV_OK);
     HOLDS(out.count == 0 && out.remote.port == 5000 && memcmp(&out.remote.address, &first, sizeof first) == 0);
@@ -391,7 +398,9 @@ static void datagrams(size_t udp, size_t far)
     WANT(zv_udp_recv(&two, far, out.bytes, 4067, &out.count, &out.remote, &out.address), ZV_TRUNCATED);
     WANT(zv_udp_recv(&two, far, out.bytes, 4067, &out.count, &out.remote, &out.address), ZV_EMPTY);
     HOLDS(is_filled());
-    WANT(zv_udp_send(&one, udp, bytes, 4069, &remote, &any), ZV_OK);
+    WANT(zv_udp_send(&one, udp, bytes, 4069, &remote, &any), ZV_TOO_LONG);
+    WANT(zv_udp_send(&one, udp, bytes, 4048, &six, &any), ZV_OK);
+    WANT(zv_udp_send(&one, udp, bytes, 4049, &six, &any), ZV_TOO_LONG);
     turns();
     WANT(zv_udp_recv(&two, far, out.bytes, 4096, &out.count, &out.remote, &out.address), ZV_EMPTY);
     WANT(zv_udp_set_hop_limit(&one, udp, 0), ZV_OK);
@@ -429,9 +438,18 @@ static void streams(size_t tcp, size_t far)
     WANT(zv_tcp_listen(&one, tcp, &any, 80), ZV_INVALID_STATE);
     WANT(zv_tcp_send(&one, tcp, bytes, 9, &out.count), ZV_INVALID_STATE);
     turns();
-    WANT(zv_tcp_send(&one, tcp, bytes, 3000, &out.count), ZV_OK);
+    WANT(zv_tcp_room(&one, tcp, &out.count), ZV_OK);
     HOLDS(out.count == 2048);
+    WANT(zv_tcp_send(&one, tcp, bytes, 48, &out.count), ZV_OK);
+    WANT(zv_tcp_room(&one, tcp, &out.count), ZV_OK);
+    HOLDS(out.count == 2000);
+    WANT(zv_tcp_send(&one, tcp, bytes + 48, 3000, &out.count), ZV_OK);
+    HOLDS(out.count == 2000);
+    WANT(zv_tcp_room(&one, tcp, &out.count), ZV_OK);
+    HOLDS(out.count == 0);
     turns();
+    WANT(zv_tcp_room(&one, tcp, &out.count), ZV_OK);
+    HOLDS(out.count == 2048);
     WANT(zv_tcp_queues(&two, far, &out.count, &out.other), ZV_OK);
     HOLDS(out.count == 2048 && out.other == 0);
     WANT(zv_tcp_peek(&two, far, &out.lent, &out.count), ZV_OK);
@@ -518,7 +536,7 @@ static void listeners(size_t tcp, size_t udp, size_t far)
     HOLDS(last == far);
     WANT(zv_tcp_abort(&two, far), ZV_OK);
     WANT(zv_listener_give_back(&two, listener, far), ZV_OK);
-    WANT(zv_listener_give_back(&two, listener, NOWHERE), ZV_OK);
+    WANT(zv_listener_give_back(&two, listener, NOWHERE), ZV_NO_SOCKET);
     turns();
     WANT(zv_listener_remove(&two, listener), ZV_OK);
     WANT(zv_socket_remove(&two, far), ZV_OK);
@@ -602,6 +620,86 @@ static void sockets(void)
     WANT(zv_udp_close(&one, udp), ZV_OK);
 }
 
+/* A socket that was removed has a number that no other gets: each slot counts its sockets, and a number is 2^32 times as many as there were,
+ * and the slot. */
+
+static size_t of_slot(size_t first, size_t removed)
+{
+    return ((removed << 32) | first);
+}
+
+/* Each call refuses it, also while another socket is in its slot. */
+static void old_refuses(size_t socket, size_t listener)
+{
+    fill();
+    streams_refuse(&one, socket, ZV_NO_SOCKET);
+    udp_refuses(&one, socket, ZV_NO_SOCKET);
+    icmp_refuses(&one, socket, ZV_NO_SOCKET);
+    raw_refuses(&one, socket, ZV_NO_SOCKET);
+    WANT(zv_listener_add(&one, listener, socket), ZV_NO_SOCKET);
+    WANT(zv_listener_add_keeper(&one, listener, socket), ZV_NO_SOCKET);
+    WANT(zv_listener_give_back(&one, listener, socket), ZV_NO_SOCKET);
+    WANT(zv_socket_remove(&one, socket), ZV_NO_SOCKET);
+    WANT(zv_socket_set_user(&one, socket, bytes), ZV_NO_SOCKET);
+    WANT(zv_socket_user(&one, socket, &out.user), ZV_NO_SOCKET);
+    HOLDS(is_filled());
+}
+
+static void *user_of(size_t socket)
+{
+    void *user = bytes;
+    WANT(zv_socket_user(&one, socket, &user), ZV_OK);
+    return user;
+}
+
+static void old_numbers(void)
+{
+    const zv_endpoint served = at(first, 9090);
+    size_t slot, socket, behind, listener, near;
+    WANT(zv_listener_new(&one, &any, 9090, &listener), ZV_OK);
+    WANT(zv_tcp_new(&one, 64, 64, &slot), ZV_OK);
+    WANT(zv_udp_new(&one, 1, 64, &behind), ZV_OK);
+    HOLDS(slot < 1000 && behind == slot + 1 && user_of(behind) == NULL);
+    WANT(zv_socket_set_user(&one, behind, &behind), ZV_OK);
+    for (size_t i = 0; i < 5; i++) {
+        const size_t was = of_slot(slot, i);
+        WANT(zv_socket_remove(&one, was), ZV_OK);
+        old_refuses(was, listener);
+        socket = was;
+        switch (i) {
+        case 0: WANT(zv_udp_new(&one, 1, 64, &socket), ZV_OK); break;
+        case 1: WANT(zv_icmp_new(&one, 1, 64, &socket), ZV_OK); break;
+        case 2: WANT(zv_raw_new(&one, 4, 253, 1, 64, &socket), ZV_OK); break;
+        default: WANT(zv_tcp_new(&one, 64, 64, &socket), ZV_OK);
+        }
+        HOLDS(socket == of_slot(slot, i + 1));
+        HOLDS(user_of(socket) == NULL);
+        WANT(zv_socket_set_user(&one, socket, bytes + i), ZV_OK);
+        HOLDS(user_of(socket) == bytes + i && user_of(behind) == &behind);
+        for (size_t earlier = 0; earlier <= i; earlier++)
+            old_refuses(of_slot(slot, earlier), listener);
+        old_refuses(of_slot(slot, i + 2), listener);
+    }
+    WANT(zv_udp_bind(&one, behind, &any, 9090), ZV_OK);
+    WANT(zv_listener_add(&one, listener, socket), ZV_OK);
+    WANT(zv_tcp_new(&two, 64, 64, &near), ZV_OK);
+    turns();
+    WANT(zv_tcp_connect(&two, near, &served, &any, 5002), ZV_OK);
+    turns();
+    size_t accepted = 0;
+    WANT(zv_listener_accept(&one, listener, &accepted), ZV_OK);
+    HOLDS(accepted == of_slot(slot, 5));
+    WANT(zv_tcp_state(&one, accepted, &out.byte), ZV_OK);
+    HOLDS(out.byte == ZV_ESTABLISHED);
+    WANT(zv_tcp_abort(&one, accepted), ZV_OK);
+    WANT(zv_listener_give_back(&one, listener, slot), ZV_NO_SOCKET);
+    WANT(zv_listener_give_back(&one, listener, accepted), ZV_OK);
+    WANT(zv_listener_remove(&one, listener), ZV_OK);
+    WANT(zv_socket_remove(&one, accepted), ZV_OK);
+    WANT(zv_socket_remove(&one, behind), ZV_OK);
+    WANT(zv_socket_remove(&two, near), ZV_OK);
+}
+
 /* FRAMES */
 
 static void frames(void)
@@ -673,6 +771,8 @@ static void asked(const zv_endpoint *server)
     for (size_t i = 50; i < sizeof text; i += 51)
         text[i] = '.';
     WANT(zv_dns_ask(&one, text, 254, 4), ZV_NAME_TOO_LONG);
+    WANT(zv_dns_ask(&one, text, 256, 4), ZV_NAME_TOO_LONG);
+    WANT(zv_dns_ask(&one, text, SIZE_MAX, 4), ZV_NAME_TOO_LONG);
     WANT(zv_dns_ask(&one, (const uint8_t *)"a..b", 4, 4), ZV_INVALID_NAME);
     WANT(zv_dns_ask(&one, (const uint8_t *)"\xff", 1, 4), ZV_INVALID_NAME);
     WANT(zv_dns_ask(&one, text, 253, 5), ZV_BAD_ARGUMENT);
@@ -718,6 +818,7 @@ int main(void)
     groups();
     set_up();
     sockets();
+    old_numbers();
     frames();
     leases();
     names();

@@ -65,6 +65,9 @@ static uint64_t any_number(void)
 /* The host that the next calls are of. */
 static int caller;
 
+/* The number that the next or the present socket of each slot has, and that of the last one that was removed from it. */
+static size_t numbers[HOSTS][SOCKETS], removed[HOSTS][SOCKETS];
+
 /* An address, mostly that of the other host. */
 static zv_address any_address(void)
 {
@@ -119,6 +122,10 @@ static int64_t clock_of[HOSTS];
 
 static void make(zv_host *host, int which)
 {
+    for (size_t i = 0; which >= 0 && i < SOCKETS; i++) {
+        numbers[which][i] = i;
+        removed[which][i] = SIZE_MAX;
+    }
     zv_settings settings = {
         .medium = (uint8_t)(choice(16) == 0 ? choice(256) : which < 0 ? choice(3) : ZV_ETHERNET),
         .hardware = {2, 0, 0, 0, 0, (uint8_t)(which + 1)},
@@ -135,14 +142,47 @@ static void make(zv_host *host, int which)
     check(zv_address_add(host, &other, 64));
 }
 
-/* The place of a TCP socket, from this one on, if there is one. */
-static size_t stream_from(zv_host *host, size_t place)
+/* The number of a TCP socket, from this slot on, if there is one. */
+static size_t stream_from(zv_host *host, size_t slot)
 {
     uint8_t state;
     for (size_t i = 0; i < SOCKETS; i++)
-        if (zv_tcp_state(host, (place + i) % SOCKETS, &state) == ZV_OK)
-            return (place + i) % SOCKETS;
-    return place;
+        if (zv_tcp_state(host, numbers[caller][(slot + i) % SOCKETS], &state) == ZV_OK)
+            return numbers[caller][(slot + i) % SOCKETS];
+    return slot;
+}
+
+/* A socket was made, or removed: its number is that of its slot. */
+static void made(uint32_t code, size_t number)
+{
+    const size_t slot = number % ((size_t)1 << 32);
+    if (code == ZV_OK && slot < SOCKETS && number != numbers[caller][slot])
+        fail("a socket has another number", number);
+}
+
+static void was_removed(uint32_t code, size_t number)
+{
+    const size_t slot = number % ((size_t)1 << 32);
+    if (code != ZV_OK || slot >= SOCKETS)
+        return;
+    if (number != numbers[caller][slot])
+        fail("a socket was removed by another number", number);
+    removed[caller][slot] = number;
+    numbers[caller][slot] = number + ((size_t)1 << 32);
+}
+
+/* A number of a socket: mostly that of one that there is. */
+static size_t any_socket(zv_host *host)
+{
+    uint8_t state;
+    const size_t slot = (size_t)choice(SOCKETS);
+    if (choice(32) == 0)
+        return any_size();
+    if (choice(8) != 0)
+        return numbers[caller][slot];
+    if (zv_tcp_state(host, removed[caller][slot], &state) == ZV_OK)
+        fail("a socket that was removed has a state", removed[caller][slot]);
+    return removed[caller][slot];
 }
 
 /* One call, of any kind. */
@@ -150,8 +190,9 @@ static void call(zv_host *host, int which)
 {
     static uint8_t bytes[70000];
     static const uint8_t *lent;
+    void *user = NULL;
     uint8_t byte = 0;
-    size_t count = 0, other = 0, socket = choice(32) == 0 ? any_size() : (size_t)choice(SOCKETS);
+    size_t count = 0, other = 0, socket = any_socket(host);
     size_t length = (size_t)choice(MOST);
     int64_t at = 0;
     zv_endpoint remote = any_endpoint(), local = any_endpoint();
@@ -163,7 +204,7 @@ static void call(zv_host *host, int which)
     uint32_t code = ZV_OK;
     const uint64_t what = choice(72);
     if (((what > 13 && what < 40) || what > 65) && choice(8) != 0)
-        socket = stream_from(host, socket);
+        socket = stream_from(host, (size_t)choice(SOCKETS));
     if (choice(64) == 0)
         length = choice(sizeof bytes);
     for (size_t i = 0; i < 8 && i < length; i++)
@@ -173,7 +214,7 @@ static void call(zv_host *host, int which)
     case 1: code = zv_address_remove(host, &address); break;
     case 2: code = zv_route_add(host, &network, (uint8_t)choice(140), &address); break;
     case 3: code = zv_route_remove(host, &network, (uint8_t)choice(140)); break;
-    case 4: code = zv_udp_new(host, choice(16), some_size(), &count); break;
+    case 4: code = zv_udp_new(host, choice(16), some_size(), &count), made(code, count); break;
     case 5: code = zv_udp_bind(host, socket, &own, own_port()); break;
     case 6: case 7: case 8: code = zv_udp_send(host, socket, bytes, length, &remote, &own); break;
     case 9: case 10:
@@ -181,9 +222,14 @@ static void call(zv_host *host, int which)
         if (code == ZV_OK && count > length)
             fail("more bytes than the buffer has", count);
         break;
+    case 55:
+        code = zv_socket_set_user(host, socket, bytes + length);
+        if (code == ZV_OK ? zv_socket_user(host, socket, &user) != ZV_OK || user != bytes + length : zv_socket_user(host, socket, &user) != code)
+            fail("a socket has another pointer", length);
+        break;
     case 11: code = zv_udp_set_hop_limit(host, socket, (uint8_t)choice(256)); break;
     case 12: code = zv_udp_close(host, socket); break;
-    case 13: code = zv_tcp_new(host, choice(32) == 0 ? any_size() : some_size(), some_size(), &count); break;
+    case 13: code = zv_tcp_new(host, choice(32) == 0 ? any_size() : some_size(), some_size(), &count), made(code, count); break;
     case 14: case 15: code = zv_tcp_listen(host, socket, &own, own_port()); break;
     case 16: case 17: case 66: case 67:
         if (zv_tcp_state(host, socket, &byte) == ZV_OK && byte == ZV_LISTEN && choice(4) != 0)
@@ -221,7 +267,11 @@ static void call(zv_host *host, int which)
             fail("no such end", byte);
         break;
     case 29: code = zv_tcp_peer(host, socket, &local, &remote); break;
-    case 30: code = zv_tcp_queues(host, socket, &count, &other); break;
+    case 30:
+        code = zv_tcp_queues(host, socket, &count, &other);
+        if (code == ZV_OK && (zv_tcp_room(host, socket, &count) != ZV_OK || count + other > (size_t)1 << 30))
+            fail("more room than a buffer may have", count);
+        break;
     case 31: code = zv_tcp_set_timeout(host, socket, choice(4) == 0 ? any_number() : UINT64_MAX); break;
     case 32: code = zv_tcp_set_keep_alive(host, socket, any_number()); break;
     case 33: code = zv_tcp_set_ack_delay(host, socket, any_number()); break;
@@ -231,20 +281,34 @@ static void call(zv_host *host, int which)
     case 37: code = zv_tcp_set_congestion_control(host, socket, (uint8_t)choice(3)); break;
     case 38: code = zv_tcp_set_timestamps(host, socket, (uint8_t)choice(2), (uint32_t)any_number()); break;
     case 39: code = zv_tcp_pause_synack(host, socket, choice(8) == 0); break;
-    case 40: code = choice(2) ? zv_icmp_new(host, choice(8), some_size(), &count) : zv_icmp_bind(host, socket, (uint16_t)choice(8)); break;
+    case 40:
+        if (choice(2))
+            code = zv_icmp_new(host, choice(8), some_size(), &count), made(code, count);
+        else
+            code = zv_icmp_bind(host, socket, (uint16_t)choice(8));
+        break;
     case 41: code = zv_icmp_send(host, socket, bytes, length, &address); break;
     case 42: code = zv_icmp_recv(host, socket, bytes, length, &count, &address); break;
     case 43:
         code = zv_raw_new(host, (uint8_t)(choice(4) == 0 ? choice(256) : 4), (uint16_t)choice(300), choice(8), some_size(), &count);
+        made(code, count);
         break;
     case 44: bytes[0] = 0x45; code = zv_raw_send(host, socket, bytes, length); break;
     case 45: code = zv_raw_recv(host, socket, bytes, length, &count); break;
     case 46:
-        code = choice(8) == 0 ? zv_socket_remove(host, socket) : zv_counters(host, &counts);
+        if (choice(8) == 0)
+            code = zv_socket_remove(host, socket), was_removed(code, socket);
+        else
+            code = zv_counters(host, &counts);
         break;
     case 47: code = zv_listener_new(host, &own, own_port(), &count); break;
     case 48: case 49: code = zv_listener_add(host, choice(4), socket); break;
-    case 50: code = choice(4) ? zv_listener_accept(host, choice(4), &count) : zv_listener_add_keeper(host, choice(4), socket); break;
+    case 50:
+        if (choice(4))
+            code = zv_listener_accept(host, choice(4), &count), made(code, count);
+        else
+            code = zv_listener_add_keeper(host, choice(4), socket);
+        break;
     case 51: code = choice(16) ? zv_listener_give_back(host, choice(4), socket) : zv_listener_remove(host, any_size()); break;
     case 52:
         code = choice(2) ? zv_icmp_bind_udp(host, socket, &own, own_port()) : zv_icmp_bind_tcp(host, socket, &own, own_port());

@@ -167,6 +167,7 @@ static void set_up(zv_host *host)
 static void set_sockets(zv_host *host, size_t udp, size_t tcp, size_t icmp)
 {
     size_t count, queued, errors;
+    void *user;
     uint8_t state;
     DO(zv_udp_set_hop_limit(host, udp, 9));
     DO(zv_icmp_set_hop_limit(host, icmp, 9));
@@ -191,6 +192,9 @@ static void set_sockets(zv_host *host, size_t udp, size_t tcp, size_t icmp)
     DO(zv_tcp_state(host, tcp, &state));
     DO(zv_tcp_end_reason(host, tcp, &state));
     DO(zv_tcp_queues(host, tcp, &count, &queued));
+    DO(zv_tcp_room(host, tcp, &count));
+    DO(zv_socket_set_user(host, tcp, &count));
+    DO(zv_socket_user(host, tcp, &user));
 }
 
 /* The clients ask, and nobody answers. */

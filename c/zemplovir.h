@@ -11,7 +11,8 @@
  *   answer     ZV_OK, or why not. After any other code nothing has changed, and nothing is written behind the pointers, but where a call
  *              says so.
  *   moments    Microseconds, from 0 to 2^61, after a start that the program chooses. They shouldn't go back.
- *   sockets    The number of a place in the host. A place is used again once its socket is removed.
+ *   sockets    A number: a place in the host, and 2^32 times how many sockets that place had before. Once a socket is removed every call
+ *              answers ZV_NO_SOCKET to its number, also while another socket is in its place; the number comes back after 2^32 others.
  *   memory     Taken by malloc when a host or a socket is made, and for frames: once frames have been as many and as long as they
  *              become, no more. It is given back by zv_socket_remove and zv_host_free.
  */
@@ -45,8 +46,8 @@ enum {
     ZV_HAS_HOST = 2,      /* the handle has a host already */
     ZV_MEMORY = 3,        /* malloc gave none */
     ZV_BAD_ARGUMENT = 4,  /* a family, a prefix or a medium that there isn't, or addresses of two families */
-    ZV_NO_SOCKET = 5,     /* the place has no socket */
-    ZV_WRONG_KIND = 6,    /* the socket there is of another kind */
+    ZV_NO_SOCKET = 5,     /* no socket has the number */
+    ZV_WRONG_KIND = 6,    /* the socket is of another kind */
     ZV_INVALID_STATE = 7, /* the socket's state doesn't take the call */
     ZV_UNADDRESSABLE = 8, /* a port is 0, an address unspecified, the socket unbound, or no own address is of the family */
     ZV_FULL = 9,          /* no room: in the socket's queue, or among the frames that wait */
@@ -54,7 +55,7 @@ enum {
     ZV_TRUNCATED = 11,    /* the datagram is longer than the buffer, and is gone */
     ZV_FINISHED = 12,     /* the remote has closed its way, and all that it sent was read */
     ZV_TOO_SHORT = 13,    /* what is to go, a frame or a client's message, is longer than the buffer, and stays */
-    ZV_TOO_LONG = 14,     /* the frame is longer than 65,549 bytes, or a stream's buffer than 2^30 */
+    ZV_TOO_LONG = 14,     /* the frame is longer than 65,549 bytes, a stream's buffer than 2^30, or the datagram than can be sent */
     ZV_TABLE_FULL = 15,   /* there are four addresses or routes already, or sixteen listeners */
     ZV_NOT_FOUND = 16,    /* the address or the route isn't there */
     ZV_MEDIUM = 17,       /* the medium has other hardware addresses */
@@ -80,7 +81,7 @@ static inline const char *zv_strerror(uint32_t code)
     case ZV_HAS_HOST: return "a host behind the handle already";
     case ZV_MEMORY: return "out of memory";
     case ZV_BAD_ARGUMENT: return "bad argument";
-    case ZV_NO_SOCKET: return "no socket at the place";
+    case ZV_NO_SOCKET: return "no socket of this number";
     case ZV_WRONG_KIND: return "a socket of another kind at the place";
     case ZV_INVALID_STATE: return "invalid state";
     case ZV_UNADDRESSABLE: return "unaddressable";
@@ -240,13 +241,18 @@ uint32_t zv_poll_at(zv_host *host, int64_t now, int64_t *at);
 /* What the host has counted since it was made. */
 uint32_t zv_counters(zv_host *host, zv_counts *counters);
 
-/* Gives the memory of a socket of any kind back. Its place is free for the next one. A connection ends without a word to the remote:
+/* Gives the memory of a socket of any kind back. Its number is no other's. A connection ends without a word to the remote:
  * close or abort it, and poll, before. One that a listener has stays. ZV_NO_SOCKET, ZV_IN_BACKLOG. */
 uint32_t zv_socket_remove(zv_host *host, size_t socket);
 
+/* A pointer of the program's own at a socket of any kind, to find what belongs to the socket. Nothing is read behind it. A new socket has a null
+ * pointer. ZV_NO_SOCKET. */
+uint32_t zv_socket_set_user(zv_host *host, size_t socket, void *user);
+uint32_t zv_socket_user(zv_host *host, size_t socket, void **user);
+
 /* UDP. Each call with a socket may answer ZV_NO_SOCKET and ZV_WRONG_KIND. */
 
-/* Makes a socket with room for so many datagrams, of so many bytes together, each way, and says its place. ZV_MEMORY. */
+/* Makes a socket with room for so many datagrams, of so many bytes together, each way, and says its number. ZV_MEMORY. */
 uint32_t zv_udp_new(zv_host *host, size_t packets, size_t bytes, size_t *socket);
 
 /* Binds the socket to a port, of one own address or, with zv_any, of all. ZV_BAD_ARGUMENT, ZV_UNADDRESSABLE (port 0), ZV_INVALID_STATE
@@ -254,9 +260,9 @@ uint32_t zv_udp_new(zv_host *host, size_t packets, size_t bytes, size_t *socket)
 uint32_t zv_udp_bind(zv_host *host, size_t socket, const zv_address *address, uint16_t port);
 
 /* Queues a datagram, which a poll sends. It goes from the own address `local`; with zv_any from the one that the socket is bound to, or
- * that the host chooses. One that is longer than a frame takes goes in pieces over IPv4, if it has at most 4,068 bytes; a longer one is
- * dropped later, in silence, and so is one for which there is no own address of its family.
- * ZV_BAD_ARGUMENT, ZV_UNADDRESSABLE (the socket is unbound, or the remote's port 0 or its address unspecified), ZV_FULL. */
+ * that the host chooses. One that is longer than a frame takes goes in fragments, if it has at most 4,068 bytes over IPv4 and 4,048 over IPv6;
+ * a longer one is refused. One for which there is no own address of its family is dropped later, in silence. ZV_TOO_LONG, ZV_BAD_ARGUMENT,
+ * ZV_UNADDRESSABLE (the socket is unbound, or the remote's port 0 or its address unspecified), ZV_FULL. */
 uint32_t zv_udp_send(zv_host *host, size_t socket, const uint8_t *bytes, size_t length, const zv_endpoint *remote, const zv_address *local);
 
 /* Copies the first datagram to the buffer; says its length, where it came from, and the own address that it was sent to. One that is
@@ -297,7 +303,7 @@ enum {
     ZV_END_ABORTED = 6      /* it was aborted here */
 };
 
-/* Makes a closed socket with room for so many bytes each way, and says its place. ZV_MEMORY, ZV_TOO_LONG. */
+/* Makes a closed socket with room for so many bytes each way, and says its number. ZV_MEMORY, ZV_TOO_LONG. */
 uint32_t zv_tcp_new(zv_host *host, size_t received, size_t queued, size_t *socket);
 
 /* Waits for a connection to a port, of one own address or, with zv_any, of any. The socket itself becomes the connection: to serve
@@ -345,6 +351,9 @@ uint32_t zv_tcp_peer(zv_host *host, size_t socket, zv_endpoint *local, zv_endpoi
 
 /* How many bytes wait to be read, and how many are queued that aren't acknowledged. */
 uint32_t zv_tcp_queues(zv_host *host, size_t socket, size_t *received, size_t *queued);
+
+/* How many bytes more can be queued: zv_tcp_send takes at most so many. */
+uint32_t zv_tcp_room(zv_host *host, size_t socket, size_t *room);
 
 /* SETTINGS of TCP. They stay as they are when the socket is opened again. */
 
@@ -412,7 +421,8 @@ uint32_t zv_listener_add_keeper(zv_host *host, size_t listener, size_t socket);
 /* Says the socket whose connection has waited for longest. ZV_EMPTY. */
 uint32_t zv_listener_accept(zv_host *host, size_t listener, size_t *socket);
 
-/* Takes an accepted socket back, which was closed or aborted: it listens again when its connection has ended. Another socket is let be. */
+/* Takes an accepted socket back, which was closed or aborted: it listens again when its connection has ended. Another socket is let be.
+ * ZV_NO_SOCKET. */
 uint32_t zv_listener_give_back(zv_host *host, size_t listener, size_t socket);
 
 /* Gives the listener up. Its sockets stay as they are. */
@@ -502,7 +512,7 @@ uint32_t zv_dhcp_poll_at(zv_host *host, int64_t *at);
 uint32_t zv_dns_new(zv_host *host, const zv_address *first, const zv_address *second, const zv_address *third);
 
 /* Asks for the addresses of family 4 or 6 that a name has, a text with dots between its labels. The result of the query before is
- * forgotten. ZV_BAD_ARGUMENT (family), ZV_QUERY_PENDING, ZV_NAME_TOO_LONG, ZV_INVALID_NAME. */
+ * forgotten. Of a text of more than 255 bytes none is read. ZV_BAD_ARGUMENT (family), ZV_QUERY_PENDING, ZV_NAME_TOO_LONG, ZV_INVALID_NAME. */
 uint32_t zv_dns_ask(zv_host *host, const uint8_t *name, size_t length, uint8_t family);
 
 /* Hands the client a datagram that a socket received: from where, and at which address and port. ZV_BAD_ARGUMENT. */
@@ -588,6 +598,7 @@ ZV_MUST_LOOK(zv_trace_line);
 ZV_MUST_LOOK(zv_poll);
 ZV_MUST_LOOK(zv_poll_at);
 ZV_MUST_LOOK(zv_counters);
+ZV_MUST_LOOK(zv_socket_user);
 ZV_MUST_LOOK(zv_udp_new);
 ZV_MUST_LOOK(zv_udp_bind);
 ZV_MUST_LOOK(zv_udp_recv);
@@ -601,6 +612,7 @@ ZV_MUST_LOOK(zv_tcp_state);
 ZV_MUST_LOOK(zv_tcp_end_reason);
 ZV_MUST_LOOK(zv_tcp_peer);
 ZV_MUST_LOOK(zv_tcp_queues);
+ZV_MUST_LOOK(zv_tcp_room);
 ZV_MUST_LOOK(zv_listener_new);
 ZV_MUST_LOOK(zv_listener_add);
 ZV_MUST_LOOK(zv_listener_add_keeper);

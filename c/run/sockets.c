@@ -506,6 +506,8 @@ static ssize_t send_datagram(struct run_file *it, const void *bytes, size_t leng
     run_turn();
     if (code == ZV_FULL)
         return errno = EAGAIN, -1;
+    if (code == ZV_TOO_LONG)
+        return errno = EMSGSIZE, -1;
     return code == ZV_OK ? (ssize_t)length : (errno = ENETUNREACH, -1);
 }
 

@@ -37,7 +37,7 @@ errors! {
     2 HasHost "a host behind the handle already"
     3 Memory "out of memory"
     4 BadArgument "bad argument"
-    5 NoSocket "no socket at the place"
+    5 NoSocket "no socket of this handle"
     6 WrongKind "a socket of another kind at the place"
     7 InvalidState "invalid state"
     8 Unaddressable "unaddressable"

@@ -1,6 +1,9 @@
 //! The calls of the static library, as `c/zemplovir.h` declares them.
 use core::ffi::c_void;
 
+/// A pointer of the user's, behind which nothing is read.
+pub type User = *mut c_void;
+
 #[repr(C)]
 pub struct Host {
     pub inside: *mut c_void,
@@ -99,6 +102,8 @@ extern "C" {
     pub fn zv_poll_at(host: *mut Host, now: i64, at: *mut i64) -> u32;
     pub fn zv_counters(host: *mut Host, counters: *mut Counters) -> u32;
     pub fn zv_socket_remove(host: *mut Host, socket: usize) -> u32;
+    pub fn zv_socket_set_user(host: *mut Host, socket: usize, user: User) -> u32;
+    pub fn zv_socket_user(host: *mut Host, socket: usize, user: *mut User) -> u32;
     pub fn zv_udp_new(host: *mut Host, packets: usize, bytes: usize, socket: *mut usize) -> u32;
     pub fn zv_udp_bind(host: *mut Host, socket: usize, address: *const Address, port: u16) -> u32;
     pub fn zv_udp_send(
@@ -139,6 +144,7 @@ extern "C" {
     pub fn zv_tcp_end_reason(host: *mut Host, socket: usize, reason: *mut u8) -> u32;
     pub fn zv_tcp_peer(host: *mut Host, socket: usize, local: *mut Endpoint, remote: *mut Endpoint) -> u32;
     pub fn zv_tcp_queues(host: *mut Host, socket: usize, received: *mut usize, queued: *mut usize) -> u32;
+    pub fn zv_tcp_room(host: *mut Host, socket: usize, room: *mut usize) -> u32;
     pub fn zv_tcp_set_timeout(host: *mut Host, socket: usize, micros: u64) -> u32;
     pub fn zv_tcp_set_keep_alive(host: *mut Host, socket: usize, micros: u64) -> u32;
     pub fn zv_tcp_set_ack_delay(host: *mut Host, socket: usize, micros: u64) -> u32;

@@ -277,9 +277,21 @@ impl Interface {
         Ok(counters)
     }
 
-    /// Gives the memory of a socket of any kind back.
+    /// Gives the memory of a socket of any kind back. Its handle names no other socket: every call answers `Error::NoSocket` to it.
     pub fn remove(&mut self, handle: SocketHandle) -> Result<()> {
         done(unsafe { ffi::zv_socket_remove(&mut self.host, handle.0) })
+    }
+
+    /// Sets a number of the program's own at a socket of any kind, as an index of what belongs to it.
+    pub fn set_user(&mut self, handle: SocketHandle, user: usize) -> Result<()> {
+        done(unsafe { ffi::zv_socket_set_user(&mut self.host, handle.0, user as ffi::User) })
+    }
+
+    /// The number that was set at the socket, 0 before.
+    pub fn user(&mut self, handle: SocketHandle) -> Result<usize> {
+        let mut user: ffi::User = core::ptr::null_mut();
+        done(unsafe { ffi::zv_socket_user(&mut self.host, handle.0, &mut user) })?;
+        Ok(user as usize)
     }
 
     fn made(&mut self, make: impl FnOnce(*mut ffi::Host, *mut usize) -> u32) -> Result<SocketHandle> {

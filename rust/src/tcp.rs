@@ -210,6 +210,13 @@ impl Socket<'_> {
         Ok((received, queued))
     }
 
+    /// How many bytes more can be queued.
+    pub fn room(&mut self) -> Result<usize> {
+        let mut room = 0;
+        done(unsafe { ffi::zv_tcp_room(&mut self.interface.host, self.handle.0, &mut room) })?;
+        Ok(room)
+    }
+
     /// How long the remote may be silent while something waits for it; `None` for ever.
     pub fn set_timeout(&mut self, limit: Option<Duration>) -> Result<()> {
         done(unsafe { ffi::zv_tcp_set_timeout(&mut self.interface.host, self.handle.0, micros(limit)) })

@@ -281,3 +281,21 @@ fn settings_of_a_host_and_of_a_connection_are_taken() {
     let stream = pair.first.add_tcp(64, 64).unwrap();
     assert_eq!(pair.first.tcp(stream).set_fine_timer(true), Ok(()));
 }
+
+#[test]
+fn a_handle_names_one_socket() {
+    let mut pair = Pair::new(true);
+    let old = pair.first.add_udp(1, 64).unwrap();
+    pair.first.set_user(old, 7).unwrap();
+    assert_eq!(pair.first.user(old), Ok(7));
+    pair.first.remove(old).unwrap();
+    let next = pair.first.add_tcp(64, 48).unwrap();
+    assert_ne!(old, next);
+    assert_eq!(pair.first.user(old), Err(Error::NoSocket));
+    assert_eq!(pair.first.set_user(old, 8), Err(Error::NoSocket));
+    assert_eq!(pair.first.udp(old).bind(7), Err(Error::NoSocket));
+    assert_eq!(pair.first.tcp(old).state(), Err(Error::NoSocket));
+    assert_eq!(pair.first.remove(old), Err(Error::NoSocket));
+    assert_eq!(pair.first.user(next), Ok(0));
+    assert_eq!(pair.first.tcp(next).room(), Ok(48));
+}

@@ -1,3 +1,7 @@
+pub mod Numbers
+pub mod Generations
+pub mod Named
+pub mod TooLong
 pub mod Lent
 pub mod Placed
 pub mod Making

@@ -11,6 +11,7 @@ use Rattle.c_calls.specs.Calls.{NewHost, NewHostUnless, config_of, device_of, in
 use Rattle.c_calls.specs.Codes.{of_new}
 use Rattle.c_calls.specs.Host.{StackValue}
 use Rattle.c_calls.specs.Link.{unused}
+use Rattle.c_calls.specs.Numbers.{no_slots}
 use Rattle.c_calls.specs.declared.host.Settings.{Settings}
 
 same_error : {e e' : NewError} → ◌≡◌ {A = Result HostValue NewError} (Err e) (Err e') → e ≡ e'
@@ -45,7 +46,7 @@ made_by settings now config device r h s configured described is made_so same =
     given same
 
 pub is_fresh : (settings : Settings) (now : ℤ) (s : StackValue) → s.link ≡ unused (device_of settings) settings.frames
-    → s.host ≡ new_host (config_of settings) (device_of settings) now → s.slots ≡ [] → s.listeners ≡ [] → s.dhcp ≡ None → s.dns ≡ None
+    → s.host ≡ new_host (config_of settings) (device_of settings) now → s.slots ≡ no_slots → s.listeners ≡ [] → s.dhcp ≡ None → s.dns ≡ None
     → s.counters ≡ none_counted → s ≡ initial_host settings now
 is_fresh settings now s link host slots listeners dhcp dns counters =
     λ k. record { link = link k; host = host k; slots = slots k; listeners = listeners k; dhcp = dhcp k; dns = dns k; counters = counters k }

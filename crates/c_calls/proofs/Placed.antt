@@ -2,14 +2,17 @@
 use Rattle.std.proofs.Common.{◌≡◌, ℕ, Bool, true, false, List, Option, None, Some, Result, Ok, Err, refl, sym, ap, subst, ◌∙◌}
 use Rattle.std.specs.Prelude.{slice_get, slice_set, is_ok, MatchResult, OnErr}
 use Rattle.std.specs.Borrow.{MutBor}
-use Rattle.interface.specs.Set.{set_at, set_by, set_in, with_socket}
+use Rattle.interface.specs.Set.{set_in, with_socket}
 use Rattle.interface.specs.Item.{Item}
 use Rattle.interface.specs.SocketStorage.{SocketStorage}
 use Rattle.iface_egress.proofs.Lent.{same_slot}
 use Rattle.sockets.specs.declared.socket.Socket.{Socket}
 use Rattle.c_calls.specs.Slots.{found_at, answer_of_kind, answer_of_item, answer_in, answer_at, after_of_kind, after_item, after_in, after_at}
 use Rattle.c_calls.specs.Slots.{written_of_kind, written_of_item, written_in, written_at, draws_of_kind, draws_of_item, draws_in, draws_at}
+use Rattle.c_calls.specs.Numbers.{put_at, put_by, slot_of, storage_at}
+use Rattle.c_calls.specs.SlotsValue.{SlotsValue}
 use Rattle.c_calls.specs.declared.code.Code.{Code}
+use Rattle.c_calls.proofs.Numbers.{stored}
 
 module _ {V : Type 0} (as_kind : Socket → Option V) where
   abbrev kind_found : Option V → Result V Code
@@ -22,7 +25,7 @@ module _ {V : Type 0} (as_kind : Socket → Option V) where
   in_found = answer_in as_kind (λ v. Ok v)
 
   -- WHERE A SOCKET WAS FOUND
-  module _ (ps : List (SocketStorage Socket)) (n : ℕ) (v : V) where
+  module _ (ps : SlotsValue) (n : ℕ) (v : V) where
     module _ {A : Type 0} (answer : V → Result A Code) where
       answered_kind : (k : Option V) → kind_found k ≡ Ok v → answer v ≡ answer_of_kind as_kind answer k
       answered_kind None h = cc
@@ -38,25 +41,26 @@ module _ {V : Type 0} (as_kind : Socket → Option V) where
 
       -- the call answers what it answers of that socket
       pub answered : found_at as_kind ps n ≡ Ok v → answer v ≡ answer_at as_kind answer ps n
-      answered h = answered_in (slice_get ps n) h
+      answered h = answered_in (storage_at ps n) h
 
     module _ (of_kind : V → Socket) (after : V → V) where
       became_kind : (socket : Socket) (k : Option V) → kind_found k ≡ Ok v → of_kind (after v) ≡ after_of_kind as_kind of_kind after socket k
       became_kind socket None h = cc
       became_kind socket (Some w) h = cc
 
-      became_item : (o : Option (Item Socket)) → item_found o ≡ Ok v → set_in o ps n (of_kind (after v)) ≡ after_item as_kind of_kind after ps n o
+      became_item : (o : Option (Item Socket)) → item_found o ≡ Ok v →
+          set_in o ps.sockets (slot_of n) (of_kind (after v)) ≡ after_item as_kind of_kind after ps.sockets (slot_of n) o
       became_item None h = refl
       became_item (Some item) h =
-          ap (λ (s : Socket). slice_set ps n (with_socket item s)) (became_kind item.socket (as_kind item.socket) h)
+          ap (λ (s : Socket). slice_set ps.sockets (slot_of n) (with_socket item s)) (became_kind item.socket (as_kind item.socket) h)
 
-      became_in : (o : Option (SocketStorage Socket)) → in_found o ≡ Ok v → set_by o ps n (of_kind (after v)) ≡ after_in as_kind of_kind after ps n o
+      became_in : (o : Option (SocketStorage Socket)) → in_found o ≡ Ok v → put_by o ps n (of_kind (after v)) ≡ after_in as_kind of_kind after ps n o
       became_in None h = refl
-      became_in (Some slot) h = became_item slot.inner h
+      became_in (Some slot) h = ap (λ (x : List (SocketStorage Socket)). record ps { sockets = x }) (became_item slot.inner h)
 
       -- the slot has the socket that the call leaves
-      pub became : found_at as_kind ps n ≡ Ok v → set_at ps n (of_kind (after v)) ≡ after_at as_kind of_kind after ps n
-      became h = became_in (slice_get ps n) h
+      pub became : found_at as_kind ps n ≡ Ok v → put_at ps n (of_kind (after v)) ≡ after_at as_kind of_kind after ps n
+      became h = became_in (storage_at ps n) h
 
     module _ (writes : V → List ℕ → List ℕ) (out : List ℕ) where
       written_kind : (k : Option V) → kind_found k ≡ Ok v → writes v out ≡ written_of_kind as_kind writes out k
@@ -73,7 +77,7 @@ module _ {V : Type 0} (as_kind : Socket → Option V) where
 
       -- the buffer has what is read of that socket
       pub written : found_at as_kind ps n ≡ Ok v → writes v out ≡ written_at as_kind writes out ps n
-      written h = written_by (slice_get ps n) h
+      written h = written_by (storage_at ps n) h
 
     module _ (draws : V → Bool) where
       drew_kind : (k : Option V) → kind_found k ≡ Ok v → draws v ≡ draws_of_kind as_kind draws k
@@ -90,10 +94,10 @@ module _ {V : Type 0} (as_kind : Socket → Option V) where
 
       -- a random word is drawn where the call of that socket draws one
       pub drew : found_at as_kind ps n ≡ Ok v → draws v ≡ draws_at as_kind draws ps n
-      drew h = drew_in (slice_get ps n) h
+      drew h = drew_in (storage_at ps n) h
 
   -- WHERE NONE WAS
-  module _ (ps : List (SocketStorage Socket)) (n : ℕ) (code : Code) where
+  module _ (ps : SlotsValue) (n : ℕ) (code : Code) where
     module _ {A : Type 0} (answer : V → Result A Code) where
       refused_kind : (k : Option V) → kind_found k ≡ Err code → Err code ≡ answer_of_kind as_kind answer k
       refused_kind None h = cc
@@ -109,27 +113,29 @@ module _ {V : Type 0} (as_kind : Socket → Option V) where
 
       -- the call says so
       pub refused : found_at as_kind ps n ≡ Err code → Err code ≡ answer_at as_kind answer ps n
-      refused h = refused_in (slice_get ps n) h
+      refused h = refused_in (storage_at ps n) h
 
     module _ (of_kind : V → Socket) (after : V → V) where
       kept_kind : (socket : Socket) (k : Option V) → kind_found k ≡ Err code → socket ≡ after_of_kind as_kind of_kind after socket k
       kept_kind socket None h = refl
       kept_kind socket (Some w) h = cc
 
-      kept_item : (slot : SocketStorage Socket) (o : Option (Item Socket)) → slice_get ps n ≡ Some slot → slot.inner ≡ o → item_found o ≡ Err code →
-          ps ≡ after_item as_kind of_kind after ps n o
+      kept_item : (slot : SocketStorage Socket) (o : Option (Item Socket)) → slice_get ps.sockets (slot_of n) ≡ Some slot → slot.inner ≡ o →
+          item_found o ≡ Err code → ps.sockets ≡ after_item as_kind of_kind after ps.sockets (slot_of n) o
       kept_item slot None got is h = refl
       kept_item slot (Some item) got is h =
-          sym (subst (λ (o : Option (Item Socket)). slice_set ps n (record { inner = o }) ≡ ps) is (same_slot ps n slot got))
-          ∙ ap (λ (s : Socket). slice_set ps n (with_socket item s)) (kept_kind item.socket (as_kind item.socket) h)
+          sym (subst (λ (o : Option (Item Socket)). slice_set ps.sockets (slot_of n) (record { inner = o }) ≡ ps.sockets) is
+          (same_slot ps.sockets (slot_of n) slot got))
+          ∙ ap (λ (s : Socket). slice_set ps.sockets (slot_of n) (with_socket item s)) (kept_kind item.socket (as_kind item.socket) h)
 
-      kept_in : (o : Option (SocketStorage Socket)) → slice_get ps n ≡ o → in_found o ≡ Err code → ps ≡ after_in as_kind of_kind after ps n o
+      kept_in : (o : Option (SocketStorage Socket)) → storage_at ps n ≡ o → in_found o ≡ Err code → ps ≡ after_in as_kind of_kind after ps n o
       kept_in None got h = refl
-      kept_in (Some slot) got h = kept_item slot slot.inner got refl h
+      kept_in (Some slot) got h =
+          ap (λ (x : List (SocketStorage Socket)). record ps { sockets = x }) (kept_item slot slot.inner (stored ps n slot got) refl h)
 
       -- the slots stay as they are
       pub kept : found_at as_kind ps n ≡ Err code → ps ≡ after_at as_kind of_kind after ps n
-      kept h = kept_in (slice_get ps n) refl h
+      kept h = kept_in (storage_at ps n) refl h
 
     module _ (writes : V → List ℕ → List ℕ) (out : List ℕ) where
       unwritten_kind : (k : Option V) → kind_found k ≡ Err code → out ≡ written_of_kind as_kind writes out k
@@ -146,7 +152,7 @@ module _ {V : Type 0} (as_kind : Socket → Option V) where
 
       -- the buffer has what it had
       pub unwritten : found_at as_kind ps n ≡ Err code → out ≡ written_at as_kind writes out ps n
-      unwritten h = unwritten_in (slice_get ps n) h
+      unwritten h = unwritten_in (storage_at ps n) h
 
     module _ (draws : V → Bool) where
       undrawn_kind : (k : Option V) → kind_found k ≡ Err code → false ≡ draws_of_kind as_kind draws k
@@ -163,10 +169,10 @@ module _ {V : Type 0} (as_kind : Socket → Option V) where
 
       -- no random word is drawn
       pub undrawn : found_at as_kind ps n ≡ Err code → false ≡ draws_at as_kind draws ps n
-      undrawn h = undrawn_in (slice_get ps n) h
+      undrawn h = undrawn_in (storage_at ps n) h
 
 -- what a look for the socket at a slot said, by a reference of either kind
-module _ {V : Type 0} (as_kind : Socket → Option V) (ps : List (SocketStorage Socket)) (n : ℕ) where
+module _ {V : Type 0} (as_kind : Socket → Option V) (ps : SlotsValue) (n : ℕ) where
   pub found_of : (r : Result (MutBor V) Code) (s : MutBor V) → r ≡ Ok s
       → MatchResult r (λ s. found_at as_kind ps n ≡ Ok s.now) (λ code. found_at as_kind ps n ≡ Err code) → found_at as_kind ps n ≡ Ok s.now
   found_of r s is h =
@@ -178,12 +184,12 @@ module _ {V : Type 0} (as_kind : Socket → Option V) (ps : List (SocketStorage 
       subst (λ (x : Result (MutBor V) Code). MatchResult x (λ s. found_at as_kind ps n ≡ Ok s.now) (λ code. found_at as_kind ps n ≡ Err code)) is h
 
 -- WHAT IS LEFT of slots of which a socket was lent, and of such without it
-module _ {V : Type 0} (as_kind : Socket → Option V) (of_kind : V → Socket) (after : V → V) (set new : List (SocketStorage Socket)) (n : ℕ) where
+module _ {V : Type 0} (as_kind : Socket → Option V) (of_kind : V → Socket) (after : V → V) (set new : SlotsValue) (n : ℕ) where
   -- the socket that was found is left as the call leaves it
   pub left : (r : Result (MutBor V) Code) (s : MutBor V) (w : V) → found_at as_kind set n ≡ Ok s.now → r ≡ Ok s → w ≡ after s.now →
-      (is_ok r ≡ true → new ≡ set_at set n (of_kind w)) → new ≡ after_at as_kind of_kind after set n
+      (is_ok r ≡ true → new ≡ put_at set n (of_kind w)) → new ≡ after_at as_kind of_kind after set n
   left r s w found is was_sent holds =
-      holds (ap (λ x. is_ok x) is) ∙ ap (λ (x : V). set_at set n (of_kind x)) was_sent ∙ became as_kind set n s.now of_kind after found
+      holds (ap (λ x. is_ok x) is) ∙ ap (λ (x : V). put_at set n (of_kind x)) was_sent ∙ became as_kind set n s.now of_kind after found
 
   pub unchanged : (r : Result (MutBor V) Code) (code : Code) → found_at as_kind set n ≡ Err code → r ≡ Err code
       → OnErr r (new ≡ set) → new ≡ after_at as_kind of_kind after set n

@@ -1,5 +1,5 @@
 -- A socket that is added to a host.
-use Rattle.std.specs.Prelude.{◌≡◌, ℕ, ◌^◌, nat_lt, ◌||◌, if◌then◌else◌, List, [], ◌∷◌, ◌++◌, length, slice_set, replicate, Option, None, Some, Result, Ok, Err}
+use Rattle.std.specs.Prelude.{◌≡◌, ℕ, ◌^◌, ◌<◌, nat_lt, ◌||◌, if◌then◌else◌, List, [], ◌∷◌, ◌++◌, length, slice_set, replicate, Option, None, Some, Result, Ok, Err}
 use Rattle.std.specs.Prelude.{MatchResult}
 use Rattle.net_base.specs.Packets.{packets_in}
 use Rattle.net_base.specs.Ring.{ring}
@@ -17,6 +17,8 @@ use Rattle.sockets.specs.declared.socket.Socket.TheVariants as Kind
 use Rattle.c_calls.specs.declared.code.Code.{Code}
 use Rattle.c_calls.specs.declared.code.Code.TheVariants as Is
 use Rattle.c_calls.specs.Host.{StackValue}
+use Rattle.c_calls.specs.Numbers.{most_slots, number_of, tags_for}
+use Rattle.c_calls.specs.SlotsValue.{SlotsValue}
 
 abbrev pub slot_by : Option ℕ → List (SocketStorage Socket) → ℕ
 slot_by None slots = length slots
@@ -33,18 +35,26 @@ added_by (Some slot) slots socket = slice_set slots slot (unmarked socket)
 abbrev pub added : List (SocketStorage Socket) → Socket → List (SocketStorage Socket)
 added slots socket = added_by (free_slot slots) slots socket
 
-abbrev pub with_socket : StackValue → Socket → StackValue
-with_socket s socket = record s { slots = added s.slots socket }
+abbrev pub slots_with : SlotsValue → Socket → SlotsValue
+slots_with s socket = record { sockets = added s.sockets socket; tags = tags_for (length s.sockets) s.tags }
+
+-- the number of the next socket, of slots that there may be one more of
+abbrev pub IsNext : SlotsValue → ℕ → Type 0
+IsNext s number =
+    (length s.sockets < most_slots) × (number ≡ number_of (tags_for (length s.sockets) s.tags) (slot_in s.sockets))
 
 -- a socket comes to the first free slot, or there is no memory for it and the slots stay as they are
-abbrev pub AddsSocket : Socket → List (SocketStorage Socket) → Result ℕ Code → List (SocketStorage Socket) → Type 0
-AddsSocket socket slots result slots' =
-    MatchResult result (λ slot. (slot ≡ slot_in slots) × (slots' ≡ added slots socket)) (λ code. (code ≡ Is.Memory) × (slots' ≡ slots))
+abbrev pub AddsSocket : Socket → SlotsValue → Result ℕ Code → SlotsValue → Type 0
+AddsSocket socket s result s' =
+    MatchResult result (λ number. IsNext s number × (s' ≡ slots_with s socket)) (λ code. (code ≡ Is.Memory) × (s' ≡ s))
+
+abbrev pub with_socket : StackValue → Socket → StackValue
+with_socket s socket = record s { slots = slots_with s.slots socket }
 
 -- so does one of a host, of which nothing else changes
 abbrev pub MakesSocket : Socket → StackValue → Result ℕ Code → StackValue → Type 0
 MakesSocket socket s result s' =
-    MatchResult result (λ slot. (slot ≡ slot_in s.slots) × (s' ≡ with_socket s socket)) (λ code. (code ≡ Is.Memory) × (s' ≡ s))
+    MatchResult result (λ number. IsNext s.slots number × (s' ≡ with_socket s socket)) (λ code. (code ≡ Is.Memory) × (s' ≡ s))
 
 -- sockets as they are made
 

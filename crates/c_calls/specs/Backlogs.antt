@@ -4,7 +4,6 @@ use Rattle.std.specs.Prelude.{None, Some, is_none, Result, Ok, Err, MatchResult}
 use Rattle.std.specs.List.{list_any}
 use Rattle.std.specs.Option.{MatchOption}
 use Rattle.ip_wire.specs.IpListenEndpoint.{IpListenEndpoint}
-use Rattle.interface.specs.Set.{free, socket_at}
 use Rattle.interface.specs.SocketHandle.{SocketHandle}
 use Rattle.interface.specs.SocketStorage.{SocketStorage}
 use Rattle.sockets.specs.AnySocket.{as_tcp}
@@ -18,6 +17,8 @@ use Rattle.c_calls.specs.Slots.{answer_at}
 use Rattle.c_calls.specs.declared.code.Code.{Code}
 use Rattle.c_calls.specs.declared.code.Code.TheVariants as Is
 use Rattle.c_calls.specs.Host.{StackValue}
+use Rattle.c_calls.specs.Numbers.{slot_of, number_of, is_some_socket, socket_named, without_socket}
+use Rattle.c_calls.specs.SlotsValue.{SlotsValue}
 use Rattle.c_calls.specs.declared.backlogs.Role.{Role}
 use Rattle.c_calls.specs.declared.backlogs.Role.TheVariants as For
 
@@ -117,9 +118,9 @@ abbrev pub unless_held : Bool → Result (Unit {0}) Code → Result (Unit {0}) C
 unless_held held (Err code) = Err code
 unless_held held (Ok u) = if held then Err Is.InBacklog else Ok tt
 
--- whether the socket may be taken: there is one at the slot, of TCP, closed, and in no backlog
+-- whether the socket may be taken: there is one of this number, of TCP, closed, and in no backlog
 abbrev pub may_be_taken : StackValue → ℕ → Result (Unit {0}) Code
-may_be_taken s socket = unless_held (is_in_backlog s.listeners socket) (answer_at as_tcp closed_in s.slots socket)
+may_be_taken s socket = unless_held (is_in_backlog s.listeners (slot_of socket)) (answer_at as_tcp closed_in s.slots socket)
 
 abbrev pub handle : ℕ → SocketHandle
 handle n = record { 0 = n }
@@ -130,11 +131,11 @@ IsSame l l' = (l'.endpoint ≡ l.endpoint) × (l'.entries.items ≡ l.entries.it
 
 abbrev pub HasEntry : ℕ → Listener → Listener → Type 0
 HasEntry socket l l' =
-    (l'.endpoint ≡ l.endpoint) × (l'.entries.items ≡ l.entries.items ++ initial_entry (handle socket) ∷ []) × (l'.keepers.items ≡ l.keepers.items)
+    (l'.endpoint ≡ l.endpoint) × (l'.entries.items ≡ l.entries.items ++ initial_entry (handle (slot_of socket)) ∷ []) × (l'.keepers.items ≡ l.keepers.items)
 
 abbrev pub HasKeeper : ℕ → Listener → Listener → Type 0
 HasKeeper socket l l' =
-    (l'.endpoint ≡ l.endpoint) × (l'.entries.items ≡ l.entries.items) × (l'.keepers.items ≡ l.keepers.items ++ handle socket ∷ [])
+    (l'.endpoint ≡ l.endpoint) × (l'.entries.items ≡ l.entries.items) × (l'.keepers.items ≡ l.keepers.items ++ handle (slot_of socket) ∷ [])
 
 -- what becomes of a listener that takes the socket in
 abbrev pub Has : Role → ℕ → Listener → Listener → Type 0
@@ -172,27 +173,35 @@ Takes Changes s n socket result s' = OnListener (Grown Changes (may_be_taken s s
 
 -- ACCEPTING
 
+abbrev pub numbered : SlotsValue → Result ℕ Code → Result ℕ Code
+numbered s (Ok slot) = Ok (number_of s.tags slot)
+numbered s (Err code) = Err code
+
 -- the connection that has waited for longest is its user's
 abbrev pub AcceptsOne : Option SocketHandle → Listener → Listener → Type 0
 AcceptsOne h l l' = Accepts l.entries.items h l'.entries.items × (l'.endpoint ≡ l.endpoint) × (l'.keepers.items ≡ l.keepers.items)
 
 abbrev pub Accepted : Listener → Result ℕ Code → Option Listener → Type 0
 Accepted l result l' = MatchOption l' ⊥ (λ l'.
-    MatchResult result (λ n. AcceptsOne (Some (handle n)) l l') (λ code. (code ≡ Is.Empty) × AcceptsOne None l l'))
+    MatchResult result (λ slot. AcceptsOne (Some (handle slot)) l l') (λ code. (code ≡ Is.Empty) × AcceptsOne None l l'))
 
+-- what is answered is the number of the socket at that slot
 abbrev pub AcceptsFrom : StackValue → ℕ → Result ℕ Code → StackValue → Type 0
-AcceptsFrom s n result s' = OnListener Accepted (listener_at s.listeners n) s n result s'
+AcceptsFrom s n result s' =
+    (slot : Result ℕ Code) × OnListener Accepted (listener_at s.listeners n) s n slot s' × (result ≡ numbered s.slots slot)
 
 abbrev pub IsGivenBack : ℕ → Listener → Listener → Type 0
 IsGivenBack socket l l' =
-    (l'.endpoint ≡ l.endpoint) × (l'.entries.items ≡ map (given_back (handle socket)) l.entries.items) × (l'.keepers.items ≡ l.keepers.items)
+    (l'.endpoint ≡ l.endpoint) × (l'.entries.items ≡ map (given_back (handle (slot_of socket))) l.entries.items) × (l'.keepers.items ≡ l.keepers.items)
 
-abbrev pub GivenBack : ℕ → Listener → Result (Unit {0}) Code → Option Listener → Type 0
-GivenBack socket l result l' = MatchOption l' ⊥ (λ l'. (result ≡ Ok tt) × IsGivenBack socket l l')
+abbrev pub GivenBack : Result (Unit {0}) Code → ℕ → Listener → Result (Unit {0}) Code → Option Listener → Type 0
+GivenBack (Err code) socket l result l' = (result ≡ Err code) × (l' ≡ Some l)
+GivenBack (Ok u) socket l result l' = MatchOption l' ⊥ (λ l'. (result ≡ Ok tt) × IsGivenBack socket l l')
 
 -- an accepted socket ends, and listens again when its connection has ended
 abbrev pub GivesBack : StackValue → ℕ → ℕ → Result (Unit {0}) Code → StackValue → Type 0
-GivesBack s n socket result s' = OnListener (GivenBack socket) (listener_at s.listeners n) s n result s'
+GivesBack s n socket result s' =
+    OnListener (GivenBack (is_some_socket (socket_named s.slots socket)) socket) (listener_at s.listeners n) s n result s'
 
 -- A SOCKET THAT IS REMOVED
 
@@ -200,10 +209,10 @@ abbrev pub removed_answer : Bool → Option Socket → Result (Unit {0}) Code
 removed_answer held None = Err Is.NoSocket
 removed_answer held (Some socket) = if held then Err Is.InBacklog else Ok tt
 
--- whether the socket at the slot may go: there is one, and no listener has it
+-- whether the socket may go: there is one of this number, and no listener has it
 abbrev pub may_be_removed : StackValue → ℕ → Result (Unit {0}) Code
-may_be_removed s n = removed_answer (is_in_backlog s.listeners n) (socket_at s.slots n)
+may_be_removed s n = removed_answer (is_in_backlog s.listeners (slot_of n)) (socket_named s.slots n)
 
 abbrev pub removed_by : Result (Unit {0}) Code → StackValue → ℕ → StackValue
 removed_by (Err code) s n = s
-removed_by (Ok u) s n = record s { slots = slice_set s.slots n free }
+removed_by (Ok u) s n = record s { slots = without_socket s.slots (slot_of n) }

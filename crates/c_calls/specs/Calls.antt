@@ -30,6 +30,7 @@ use Rattle.interface.specs.Backlog.Calls.{micros_of}
 use Rattle.c_calls.specs.Backlogs.{RefreshesAll}
 use Rattle.c_calls.specs.Codes.{of_new, of_push, of_fetch}
 use Rattle.c_calls.specs.Host.{StackValue}
+use Rattle.c_calls.specs.Numbers.{no_slots}
 use Rattle.c_calls.specs.declared.host.Counters.{Counters}
 use Rattle.c_calls.specs.declared.host.Settings.{Settings}
 
@@ -105,7 +106,7 @@ abbrev pub initial_host : Settings → ℤ → StackValue
 initial_host settings now = record {
   link = unused (device_of settings) settings.frames;
   host = new_host (config_of settings) (device_of settings) now;
-  slots = [];
+  slots = no_slots;
   listeners = [];
   dhcp = None;
   dns = None;
@@ -127,8 +128,9 @@ NewHost settings now result =
 abbrev pub PollsAndListens : ℤ → ℕ → StackValue → Bool → StackValue → Type 0
 PollsAndListens now budget s changed s' =
     (polled : List (SocketStorage Socket))
-    × Polls LinkMove now budget (state s.link s.host s.slots) changed (state s'.link s'.host polled)
-    × RefreshesAll (micros_of now) s.listeners polled s'.listeners s'.slots
+    × Polls LinkMove now budget (state s.link s.host s.slots.sockets) changed (state s'.link s'.host polled)
+    × RefreshesAll (micros_of now) s.listeners polled s'.listeners s'.slots.sockets
+    × (s'.slots.tags ≡ s.slots.tags)
     × (s'.counters ≡ record s.counters { polls = counted s.counters.polls })
 
 abbrev pub PollsAt : ℤ → ℕ → StackValue → Result Bool Code → StackValue → Type 0
@@ -139,5 +141,5 @@ PollsAt now budget s result s' =
 abbrev pub AsksAt : ℤ → StackValue → Result (Option ℤ) Code → StackValue → Type 0
 AsksAt now s result s' =
     MatchResult result
-    (λ at. IsMoment now × (at ≡ poll_instant (at_instant now s.host.inner) s.host.left s.slots) × (s' ≡ record s { host = host_at now s.host }))
+    (λ at. IsMoment now × (at ≡ poll_instant (at_instant now s.host.inner) s.host.left s.slots.sockets) × (s' ≡ record s { host = host_at now s.host }))
     (λ code. (code ≡ Is.Moment) × (IsMoment now → ⊥) × (s' ≡ s))

@@ -1,5 +1,7 @@
 pub mod Link
 pub mod Codes
+pub mod SlotsValue
+pub mod Numbers
 pub mod Slots
 pub mod BorrowEnds
 pub mod Streams
@@ -14,6 +16,7 @@ pub mod Host
 pub mod Calls
 pub mod Tables
 pub mod Added
+pub mod Generations
 pub mod Backlogs
 pub mod Configuring
 pub use Rattle.tcp_state.specs.declared.end_reason.EndReason

@@ -41,6 +41,10 @@ query_made servers host_requirements = Some (Dns.with_host_requirements (Dns.mad
 abbrev pub Asked : ContextValue → List ℕ → DnsQueryType → DnsValue → Result (Unit {0}) Code → DnsValue → Type 0
 Asked cx name kind v result v' = (own : Result (Unit {0}) StartQueryError) × Starts cx v name kind own v' × (result ≡ coded of_start own)
 
+-- of a longer name no byte is looked at: it has at most 253, and a dot may stand behind them
+abbrev pub most_name : ℕ
+most_name = 255
+
 abbrev pub Asks : ContextValue → List ℕ → DnsQueryType → Option DnsValue → Result (Unit {0}) Code → Option DnsValue → Type 0
 Asks cx name kind None result client = (result ≡ Err Is.NoClient) × (client ≡ None)
 Asks cx name kind (Some v) result client = (v' : DnsValue) × Asked cx name kind v result v' × (client ≡ Some v')

@@ -1,11 +1,13 @@
 -- What a call for a socket of one kind makes of the slots of a host.
-use Rattle.std.specs.Prelude.{ℕ, Bool, false, List, slice_get, slice_set, Option, None, Some, Result, Ok, Err}
+use Rattle.std.specs.Prelude.{ℕ, Bool, false, List, slice_set, Option, None, Some, Result, Ok, Err}
 use Rattle.interface.specs.Set.{with_socket}
 use Rattle.interface.specs.Item.{Item}
 use Rattle.interface.specs.SocketStorage.{SocketStorage}
 use Rattle.sockets.specs.declared.socket.Socket.{Socket}
 use Rattle.c_calls.specs.declared.code.Code.{Code}
 use Rattle.c_calls.specs.declared.code.Code.TheVariants as Is
+use Rattle.c_calls.specs.Numbers.{slot_of, storage_at}
+use Rattle.c_calls.specs.SlotsValue.{SlotsValue}
 
 module _ {V : Type 0} (as_kind : Socket → Option V) where
   -- WHAT IS ANSWERED
@@ -27,12 +29,12 @@ module _ {V : Type 0} (as_kind : Socket → Option V) where
     answer_in None = Err Is.NoSocket
     answer_in (Some slot) = answer_of_item slot.inner
 
-    -- a slot without a socket hasn't it either
-    abbrev pub answer_at : List (SocketStorage Socket) → ℕ → Result A Code
-    answer_at slots n = answer_in (slice_get slots n)
+    -- a slot without a socket hasn't it either, nor has what names no slot
+    abbrev pub answer_at : SlotsValue → ℕ → Result A Code
+    answer_at slots n = answer_in (storage_at slots n)
 
-  -- the socket of the kind at the slot
-  abbrev pub found_at : List (SocketStorage Socket) → ℕ → Result V Code
+  -- the socket of the kind of this number
+  abbrev pub found_at : SlotsValue → ℕ → Result V Code
   found_at = answer_at (λ v. Ok v)
 
   -- WHAT IS LEFT
@@ -50,13 +52,13 @@ module _ {V : Type 0} (as_kind : Socket → Option V) where
     after_item slots n None = slots
     after_item slots n (Some item) = slice_set slots n (with_socket item (after_of item.socket))
 
-    abbrev pub after_in : List (SocketStorage Socket) → ℕ → Option (SocketStorage Socket) → List (SocketStorage Socket)
+    abbrev pub after_in : SlotsValue → ℕ → Option (SocketStorage Socket) → SlotsValue
     after_in slots n None = slots
-    after_in slots n (Some slot) = after_item slots n slot.inner
+    after_in slots n (Some slot) = record slots { sockets = after_item slots.sockets (slot_of n) slot.inner }
 
-    -- the socket at the slot is what the call leaves of it, and each other is as it was
-    abbrev pub after_at : List (SocketStorage Socket) → ℕ → List (SocketStorage Socket)
-    after_at slots n = after_in slots n (slice_get slots n)
+    -- the socket of this number is what the call leaves of it, and each other is as it was
+    abbrev pub after_at : SlotsValue → ℕ → SlotsValue
+    after_at slots n = after_in slots n (storage_at slots n)
 
   -- WHAT STANDS IN A BUFFER that the call reads to: nothing is written where there is no socket of its kind
   module _ (written : V → List ℕ → List ℕ) (out : List ℕ) where
@@ -75,8 +77,8 @@ module _ {V : Type 0} (as_kind : Socket → Option V) where
     written_in None = out
     written_in (Some slot) = written_of_item slot.inner
 
-    abbrev pub written_at : List (SocketStorage Socket) → ℕ → List ℕ
-    written_at slots n = written_in (slice_get slots n)
+    abbrev pub written_at : SlotsValue → ℕ → List ℕ
+    written_at slots n = written_in (storage_at slots n)
 
   -- WHETHER A RANDOM WORD IS DRAWN
   module _ (draws : V → Bool) where
@@ -95,5 +97,5 @@ module _ {V : Type 0} (as_kind : Socket → Option V) where
     draws_in None = false
     draws_in (Some slot) = draws_of_item slot.inner
 
-    abbrev pub draws_at : List (SocketStorage Socket) → ℕ → Bool
-    draws_at slots n = draws_in (slice_get slots n)
+    abbrev pub draws_at : SlotsValue → ℕ → Bool
+    draws_at slots n = draws_in (storage_at slots n)

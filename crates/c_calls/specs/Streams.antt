@@ -99,3 +99,7 @@ ends_in v = ends (local_in v.tcb.names.pair) (remote_in v.tcb.names.pair)
 -- how many bytes wait to be read, and how many are queued that aren't acknowledged
 abbrev pub queues_in : TcpValue → Result (ℕ × ℕ) Code
 queues_in v = Ok (length v.received.waiting, queued_in v)
+
+-- how many bytes more can be queued
+abbrev pub room_in : TcpValue → Result ℕ Code
+room_in v = Ok (length v.queued.free)

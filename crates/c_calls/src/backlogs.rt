@@ -8,12 +8,13 @@ ghost use Rattle.sockets.specs.AnySocket.{as_tcp};
 ghost use Rattle.c_calls.specs.Slots.{answer_at};
 ghost use Rattle.c_calls.specs.Backlogs.{RefreshesAt, RefreshesAll, MakesListener, IsPut, listener_slot, is_there, without_listener, listener_at, has_slot};
 ghost use Rattle.c_calls.specs.Backlogs.{is_in_backlog, closed_in, may_be_taken, Takes, Has, HasEntry, HasKeeper, Grows, Grown, WhereThere, Accepted};
-ghost use Rattle.c_calls.specs.Backlogs.{GivenBack, AcceptsFrom, GivesBack, OnSlot, listener_refusal};
+ghost use Rattle.c_calls.specs.Backlogs.{GivenBack, IsGivenBack, AcceptsFrom, GivesBack, OnSlot, OnListener, listener_refusal};
+ghost use Rattle.c_calls.specs.Numbers.{is_some_socket, number_of, socket_named};
 
 use crate::code::Code;
 use crate::host::Host;
 use crate::looks;
-use crate::slots::Slots;
+use crate::slots::{Slots, slot_of};
 use interface::listener::Entry;
 use interface::{Listener, SocketHandle};
 use ip_wire::IpListenEndpoint;
@@ -33,7 +34,8 @@ enum Role {
 }
 
 fn refresh_one(listener: &mut Option<Listener>, sockets: &mut Slots, now: Instant)
-    ensures seen { RefreshesAt (micros_of now) listener.old sockets.old listener.new sockets.new }
+    ensures seen { RefreshesAt (micros_of now) listener.old sockets.old.sockets listener.new sockets.new.sockets }
+    ensures tags { sockets.new.tags ≡ sockets.old.tags }
 {
     match listener {
         Some(listener) => listener.refresh(&mut sockets.set, now),
@@ -43,7 +45,8 @@ fn refresh_one(listener: &mut Option<Listener>, sockets: &mut Slots, now: Instan
 
 /// Each listener in turn sees how far its sockets came.
 pub(crate) fn refresh_all(listeners: &mut [Option<Listener>], sockets: &mut Slots, now: Instant)
-    ensures seen { RefreshesAll (micros_of now) listeners.old sockets.old listeners.new sockets.new }
+    ensures seen { RefreshesAll (micros_of now) listeners.old sockets.old.sockets listeners.new sockets.new.sockets }
+    ensures tags { sockets.new.tags ≡ sockets.old.tags }
 {
     if let Some((first, rest)) = listeners.split_first_mut() {
         refresh_one(first, sockets, now);
@@ -166,13 +169,13 @@ impl Host {
         Ok(())
     }
 
-    /// Whether the socket at the slot may be taken into a backlog.
+    /// Whether the socket may be taken into a backlog.
     fn may_be_taken(&self, socket: usize) -> Result<(), Code>
         ensures { result ≡ may_be_taken self.now socket }
     {
         match looks::state(self.seen_sockets(), socket) {
             Ok(State::Closed) => {
-                if is_in_backlog(self.seen_listeners(), socket) {
+                if is_in_backlog(self.seen_listeners(), slot_of(socket)) {
                     Err(Code::InBacklog)
                 } else {
                     Ok(())
@@ -205,25 +208,43 @@ impl Host {
         take_at(self.listeners(), listener, socket, role, taken)
     }
 
-    /// The place of the socket whose connection has waited for longest. It is its user's until `listener_give_back`.
+    /// The number of the socket whose connection has waited for longest. It is its user's until `listener_give_back`.
     pub fn listener_accept(&mut self, listener: usize) -> Result<usize, Code>
         ensures { AcceptsFrom self.old listener result self.new }
     {
+        match self.accepted_slot(listener) {
+            Ok(slot) => Ok(self.number_at(slot)),
+            Err(code) => Err(code),
+        }
+    }
+
+    /// The slot of that socket.
+    fn accepted_slot(&mut self, listener: usize) -> Result<usize, Code>
+        ensures { OnListener Accepted (listener_at self.old.listeners listener) self.old listener result self.new }
+    {
         accept_at(self.listeners(), listener)
+    }
+
+    /// The number of the socket in this slot.
+    fn number_at(&self, slot: usize) -> usize
+        ensures { result ≡ number_of self.now.slots.tags slot }
+    {
+        self.seen_sockets().number_of(slot)
     }
 
     /// Takes an accepted socket back, which its user closed or aborted. It listens again when its connection has ended.
     pub fn listener_give_back(&mut self, listener: usize, socket: usize) -> Result<(), Code>
         ensures { GivesBack self.old listener socket result self.new }
     {
-        give_back_at(self.listeners(), listener, socket)
+        let there = self.seen_sockets().is_some_socket(socket);
+        give_back_at(self.listeners(), listener, socket, there)
     }
 }
 
 fn added(listener: &mut Listener, socket: usize, role: Role) -> Result<(), Code>
     ensures { Grows (Has role socket) listener.old result listener.new }
 {
-    let handle = SocketHandle::at(socket);
+    let handle = SocketHandle::at(slot_of(socket));
     match role {
         Role::Entry => match listener.add(handle) {
             Ok(()) => Ok(()),
@@ -291,14 +312,27 @@ fn accept_at(listeners: &mut Vec<Option<Listener>>, listener: usize) -> Result<u
     accept_of(&mut listeners[listener])
 }
 
-fn give_back_to(listener: &mut Option<Listener>, socket: usize) -> Result<(), Code>
-    ensures { WhereThere (GivenBack socket) listener.old result listener.new }
+fn give_back(listener: &mut Listener, socket: usize)
+    ensures { IsGivenBack socket listener.old listener.new }
+{
+    listener.give_back(SocketHandle::at(slot_of(socket)));
+}
+
+fn give_back_to(
+    listener: &mut Option<Listener>,
+    socket: usize,
+    there: Result<(), Code>,
+) -> Result<(), Code>
+    ensures { WhereThere (GivenBack there socket) listener.old result listener.new }
 {
     match listener {
-        Some(listener) => {
-            listener.give_back(SocketHandle::at(socket));
-            Ok(())
-        }
+        Some(listener) => match there {
+            Ok(()) => {
+                give_back(listener, socket);
+                Ok(())
+            }
+            Err(code) => Err(code),
+        },
         None => Err(Code::NoListener),
     }
 }
@@ -308,11 +342,12 @@ fn give_back_at(
     listeners: &mut Vec<Option<Listener>>,
     listener: usize,
     socket: usize,
+    there: Result<(), Code>,
 ) -> Result<(), Code>
-    ensures { OnSlot (GivenBack socket) (listener_at listeners.old.items listener) listeners.old.items listener result listeners.new.items }
+    ensures { OnSlot (GivenBack there socket) (listener_at listeners.old.items listener) listeners.old.items listener result listeners.new.items }
 {
     if listener >= listeners.len() {
         return Err(Code::NoListener);
     }
-    give_back_to(&mut listeners[listener], socket)
+    give_back_to(&mut listeners[listener], socket, there)
 }

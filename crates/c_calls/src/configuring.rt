@@ -1,10 +1,10 @@
 //! Calls of the clients of DHCP and DNS. UDP sockets of the host carry their datagrams: what one received is handed to its client, and
 //! what the client has to send is queued at the socket.
-ghost use Rattle.std.specs.Prelude.{◌≡◌, Err};
+ghost use Rattle.std.specs.Prelude.{◌≡◌, ◌<◌, ◌≤◌, length, Err};
 ghost use Rattle.std.specs.Str.{IsUtf8};
 ghost use Rattle.c_calls.specs.Leases.{dhcp_answer, dhcp_made, told_answer, told_after};
 ghost use Rattle.c_calls.specs.Leases as Leases;
-ghost use Rattle.c_calls.specs.Names.{query_made, found_answer, found_after};
+ghost use Rattle.c_calls.specs.Names.{query_made, found_answer, found_after, most_name};
 ghost use Rattle.c_calls.specs.Names as Names;
 ghost use Rattle.c_calls.specs.Configuring.{LeaseArrives, LeaseGoes, AsksName, AnswerArrives, QueryGoes};
 
@@ -83,8 +83,9 @@ impl Host {
 
     /// Asks for the addresses of a name, which is a text with dots between its labels. A query that is begun draws two random words.
     pub fn dns_ask(&mut self, name: &[u8], kind: DnsQueryType) -> Result<(), Code>
-        ensures payload { (IsUtf8 name.now → ⊥) → (result ≡ Err Code.InvalidName) × (self.new ≡ self.old) }
-        ensures asks { IsUtf8 name.now → AsksName name.now kind self.old result self.new }
+        ensures long { most_name < length name.now → (result ≡ Err Code.NameTooLong) × (self.new ≡ self.old) }
+        ensures payload { length name.now ≤ most_name → (IsUtf8 name.now → ⊥) → (result ≡ Err Code.InvalidName) × (self.new ≡ self.old) }
+        ensures asks { length name.now ≤ most_name → IsUtf8 name.now → AsksName name.now kind self.old result self.new }
     {
         names::start(&mut self.dns, &mut self.interface, name, kind)
     }

@@ -43,22 +43,22 @@ fn act_on(socket: &mut icmp::Socket, act: Act) -> Result<(), Code>
 }
 
 /// Does a call that answers nothing but whether it was done.
-pub fn perform(sockets: &mut Slots, slot: usize, act: Act) -> Result<(), Code>
-    ensures answer { result ≡ answer_at as_icmp (act_answer act) sockets.old slot }
-    ensures after { sockets.new ≡ after_at as_icmp Kind.Icmp (act_after act) sockets.old slot }
+pub fn perform(sockets: &mut Slots, number: usize, act: Act) -> Result<(), Code>
+    ensures answer { result ≡ answer_at as_icmp (act_answer act) sockets.old number }
+    ensures after { sockets.new ≡ after_at as_icmp Kind.Icmp (act_after act) sockets.old number }
 {
-    match lent::<icmp::Socket>(sockets, slot) {
+    match lent::<icmp::Socket>(sockets, number) {
         Ok(socket) => act_on(socket, act),
         Err(code) => Err(code),
     }
 }
 
 /// Queues a message.
-pub fn send(sockets: &mut Slots, slot: usize, bytes: &[u8], remote: IpAddress) -> Result<(), Code>
-    ensures answer { result ≡ answer_at as_icmp (λ v. coded of_send (send_answer v remote (length bytes.now))) sockets.old slot }
-    ensures after { sockets.new ≡ after_at as_icmp Kind.Icmp (λ v. send_after v remote bytes.now) sockets.old slot }
+pub fn send(sockets: &mut Slots, number: usize, bytes: &[u8], remote: IpAddress) -> Result<(), Code>
+    ensures answer { result ≡ answer_at as_icmp (λ v. coded of_send (send_answer v remote (length bytes.now))) sockets.old number }
+    ensures after { sockets.new ≡ after_at as_icmp Kind.Icmp (λ v. send_after v remote bytes.now) sockets.old number }
 {
-    match lent::<icmp::Socket>(sockets, slot) {
+    match lent::<icmp::Socket>(sockets, number) {
         Ok(socket) => queue(socket, bytes, remote),
         Err(code) => Err(code),
     }
@@ -75,12 +75,12 @@ fn queue(socket: &mut icmp::Socket, bytes: &[u8], remote: IpAddress) -> Result<(
 }
 
 /// Reads the first message to the front of the slice.
-pub fn recv(sockets: &mut Slots, slot: usize, out: &mut [u8]) -> Result<(usize, IpAddress), Code>
-    ensures answer { result ≡ answer_at as_icmp (λ v. coded of_recv (recv_answer v (length out.old))) sockets.old slot }
-    ensures after { sockets.new ≡ after_at as_icmp Kind.Icmp (recv_after) sockets.old slot }
-    ensures read { out.new ≡ written_at as_icmp recv_written out.old sockets.old slot }
+pub fn recv(sockets: &mut Slots, number: usize, out: &mut [u8]) -> Result<(usize, IpAddress), Code>
+    ensures answer { result ≡ answer_at as_icmp (λ v. coded of_recv (recv_answer v (length out.old))) sockets.old number }
+    ensures after { sockets.new ≡ after_at as_icmp Kind.Icmp (recv_after) sockets.old number }
+    ensures read { out.new ≡ written_at as_icmp recv_written out.old sockets.old number }
 {
-    match lent::<icmp::Socket>(sockets, slot) {
+    match lent::<icmp::Socket>(sockets, number) {
         Ok(socket) => read(socket, out),
         Err(code) => Err(code),
     }
@@ -109,27 +109,27 @@ impl Host {
     }
 
     /// Does a call that answers nothing but whether it was done.
-    pub fn icmp_act(&mut self, slot: usize, act: Act) -> Result<(), Code>
-        ensures answer { result ≡ answer_at as_icmp (act_answer act) self.old.slots slot }
-        ensures after { self.new ≡ record self.old { slots = after_at as_icmp Kind.Icmp (act_after act) self.old.slots slot } }
+    pub fn icmp_act(&mut self, number: usize, act: Act) -> Result<(), Code>
+        ensures answer { result ≡ answer_at as_icmp (act_answer act) self.old.slots number }
+        ensures after { self.new ≡ record self.old { slots = after_at as_icmp Kind.Icmp (act_after act) self.old.slots number } }
     {
-        perform(self.sockets(), slot, act)
+        perform(self.sockets(), number, act)
     }
 
     /// Queues a message. Its checksum is written when it is sent.
-    pub fn icmp_send(&mut self, slot: usize, bytes: &[u8], remote: IpAddress) -> Result<(), Code>
-        ensures answer { result ≡ answer_at as_icmp (λ v. coded of_send (send_answer v remote (length bytes.now))) self.old.slots slot }
-        ensures after { self.new ≡ record self.old { slots = after_at as_icmp Kind.Icmp (λ v. send_after v remote bytes.now) self.old.slots slot } }
+    pub fn icmp_send(&mut self, number: usize, bytes: &[u8], remote: IpAddress) -> Result<(), Code>
+        ensures answer { result ≡ answer_at as_icmp (λ v. coded of_send (send_answer v remote (length bytes.now))) self.old.slots number }
+        ensures after { self.new ≡ record self.old { slots = after_at as_icmp Kind.Icmp (λ v. send_after v remote bytes.now) self.old.slots number } }
     {
-        send(self.sockets(), slot, bytes, remote)
+        send(self.sockets(), number, bytes, remote)
     }
 
     /// Reads the first message to the front of the slice.
-    pub fn icmp_recv(&mut self, slot: usize, out: &mut [u8]) -> Result<(usize, IpAddress), Code>
-        ensures answer { result ≡ answer_at as_icmp (λ v. coded of_recv (recv_answer v (length out.old))) self.old.slots slot }
-        ensures after { self.new ≡ record self.old { slots = after_at as_icmp Kind.Icmp (recv_after) self.old.slots slot } }
-        ensures read { out.new ≡ written_at as_icmp recv_written out.old self.old.slots slot }
+    pub fn icmp_recv(&mut self, number: usize, out: &mut [u8]) -> Result<(usize, IpAddress), Code>
+        ensures answer { result ≡ answer_at as_icmp (λ v. coded of_recv (recv_answer v (length out.old))) self.old.slots number }
+        ensures after { self.new ≡ record self.old { slots = after_at as_icmp Kind.Icmp (recv_after) self.old.slots number } }
+        ensures read { out.new ≡ written_at as_icmp recv_written out.old self.old.slots number }
     {
-        recv(self.sockets(), slot, out)
+        recv(self.sockets(), number, out)
     }
 }

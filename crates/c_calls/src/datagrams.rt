@@ -6,7 +6,7 @@ ghost use Rattle.c_calls.specs.Slots.{answer_at, after_at, written_at};
 ghost use Rattle.socket_datagram.specs.Udp.{send_answer, send_after};
 ghost use Rattle.socket_datagram.specs.SocketValue.{recv_answer, recv_after, recv_written};
 ghost use Rattle.c_calls.specs.Codes.{coded, of_send, of_recv};
-ghost use Rattle.c_calls.specs.Datagrams.{act_answer, act_after};
+ghost use Rattle.c_calls.specs.Datagrams.{act_answer, act_after, headers_len, room_in, datagram_room, sent_answer, sent_after, queued_answer, queued_after};
 ghost use Rattle.c_calls.specs.Added.{MakesSocket, new_udp};
 
 use crate::code::{Code, of_bind, of_recv, of_send};
@@ -14,8 +14,29 @@ use crate::host::Host;
 use crate::kinds::lent;
 use crate::made::{limit_of, queues};
 use crate::slots::Slots;
-use ip_wire::IpListenEndpoint;
+use ip_wire::{IpAddress, IpListenEndpoint};
+use sockets::Context;
 use sockets::udp::{self, UdpMetadata};
+
+/// The longest packet that goes in fragments, with its header.
+const LONGEST_CUT: usize = 4096;
+
+/// How many bytes the headers before a datagram have.
+fn headers_len(remote: &IpAddress) -> usize
+    ensures { result ≡ headers_len remote.now }
+{
+    match remote {
+        IpAddress::Ipv4(_) => 28,
+        IpAddress::Ipv6(_) => 48,
+    }
+}
+
+/// How many bytes a datagram to this address has at most, where a frame carries an IP packet of so many.
+fn room_in(mtu: usize, remote: &IpAddress) -> usize
+    ensures { result ≡ room_in mtu remote.now }
+{
+    mtu.max(LONGEST_CUT) - headers_len(remote)
+}
 
 /// A call that answers nothing but whether it was done.
 #[derive(Clone, Copy)]
@@ -49,11 +70,11 @@ fn act_on(socket: &mut udp::Socket, act: Act) -> Result<(), Code>
 }
 
 /// Does a call that answers nothing but whether it was done.
-pub fn perform(sockets: &mut Slots, slot: usize, act: Act) -> Result<(), Code>
-    ensures answer { result ≡ answer_at as_udp (act_answer act) sockets.old slot }
-    ensures after { sockets.new ≡ after_at as_udp Kind.Udp (act_after act) sockets.old slot }
+pub fn perform(sockets: &mut Slots, number: usize, act: Act) -> Result<(), Code>
+    ensures answer { result ≡ answer_at as_udp (act_answer act) sockets.old number }
+    ensures after { sockets.new ≡ after_at as_udp Kind.Udp (act_after act) sockets.old number }
 {
-    match lent::<udp::Socket>(sockets, slot) {
+    match lent::<udp::Socket>(sockets, number) {
         Ok(socket) => act_on(socket, act),
         Err(code) => Err(code),
     }
@@ -62,14 +83,14 @@ pub fn perform(sockets: &mut Slots, slot: usize, act: Act) -> Result<(), Code>
 /// Queues a datagram.
 pub fn send(
     sockets: &mut Slots,
-    slot: usize,
+    number: usize,
     bytes: &[u8],
     metadata: UdpMetadata,
 ) -> Result<(), Code>
-    ensures answer { result ≡ answer_at as_udp (λ v. coded of_send (send_answer v metadata (length bytes.now))) sockets.old slot }
-    ensures after { sockets.new ≡ after_at as_udp Kind.Udp (λ v. send_after v metadata bytes.now) sockets.old slot }
+    ensures answer { result ≡ answer_at as_udp (λ v. coded of_send (send_answer v metadata (length bytes.now))) sockets.old number }
+    ensures after { sockets.new ≡ after_at as_udp Kind.Udp (λ v. send_after v metadata bytes.now) sockets.old number }
 {
-    match lent::<udp::Socket>(sockets, slot) {
+    match lent::<udp::Socket>(sockets, number) {
         Ok(socket) => queue(socket, bytes, metadata),
         Err(code) => Err(code),
     }
@@ -86,12 +107,16 @@ fn queue(socket: &mut udp::Socket, bytes: &[u8], metadata: UdpMetadata) -> Resul
 }
 
 /// Reads the first datagram to the front of the slice.
-pub fn recv(sockets: &mut Slots, slot: usize, out: &mut [u8]) -> Result<(usize, UdpMetadata), Code>
-    ensures answer { result ≡ answer_at as_udp (λ v. coded of_recv (recv_answer v (length out.old))) sockets.old slot }
-    ensures after { sockets.new ≡ after_at as_udp Kind.Udp (recv_after) sockets.old slot }
-    ensures read { out.new ≡ written_at as_udp recv_written out.old sockets.old slot }
+pub fn recv(
+    sockets: &mut Slots,
+    number: usize,
+    out: &mut [u8],
+) -> Result<(usize, UdpMetadata), Code>
+    ensures answer { result ≡ answer_at as_udp (λ v. coded of_recv (recv_answer v (length out.old))) sockets.old number }
+    ensures after { sockets.new ≡ after_at as_udp Kind.Udp (recv_after) sockets.old number }
+    ensures read { out.new ≡ written_at as_udp recv_written out.old sockets.old number }
 {
-    match lent::<udp::Socket>(sockets, slot) {
+    match lent::<udp::Socket>(sockets, number) {
         Ok(socket) => read(socket, out),
         Err(code) => Err(code),
     }
@@ -120,27 +145,54 @@ impl Host {
     }
 
     /// Does a call that answers nothing but whether it was done.
-    pub fn udp_act(&mut self, slot: usize, act: Act) -> Result<(), Code>
-        ensures answer { result ≡ answer_at as_udp (act_answer act) self.old.slots slot }
-        ensures after { self.new ≡ record self.old { slots = after_at as_udp Kind.Udp (act_after act) self.old.slots slot } }
+    pub fn udp_act(&mut self, number: usize, act: Act) -> Result<(), Code>
+        ensures answer { result ≡ answer_at as_udp (act_answer act) self.old.slots number }
+        ensures after { self.new ≡ record self.old { slots = after_at as_udp Kind.Udp (act_after act) self.old.slots number } }
     {
-        perform(self.sockets(), slot, act)
+        perform(self.sockets(), number, act)
     }
 
-    /// Queues a datagram.
-    pub fn udp_send(&mut self, slot: usize, bytes: &[u8], metadata: UdpMetadata) -> Result<(), Code>
-        ensures answer { result ≡ answer_at as_udp (λ v. coded of_send (send_answer v metadata (length bytes.now))) self.old.slots slot }
-        ensures after { self.new ≡ record self.old { slots = after_at as_udp Kind.Udp (λ v. send_after v metadata bytes.now) self.old.slots slot } }
+    /// How many bytes a datagram to this address has at most.
+    fn datagram_room(&self, remote: &IpAddress) -> usize
+        ensures { result ≡ datagram_room self.now remote.now }
     {
-        send(self.sockets(), slot, bytes, metadata)
+        room_in(self.seen_interface().ip_mtu(), remote)
+    }
+
+    /// Queues a datagram. One that is longer than any frame or set of fragments carries is refused.
+    pub fn udp_send(
+        &mut self,
+        number: usize,
+        bytes: &[u8],
+        metadata: UdpMetadata,
+    ) -> Result<(), Code>
+        ensures answer { result ≡ sent_answer self.old number metadata bytes.now }
+        ensures after { self.new ≡ sent_after self.old number metadata bytes.now }
+    {
+        if bytes.len() > self.datagram_room(&metadata.endpoint.addr) {
+            return Err(Code::TooLong);
+        }
+        self.queue_datagram(number, bytes, metadata)
+    }
+
+    fn queue_datagram(
+        &mut self,
+        number: usize,
+        bytes: &[u8],
+        metadata: UdpMetadata,
+    ) -> Result<(), Code>
+        ensures answer { result ≡ queued_answer self.old number metadata bytes.now }
+        ensures after { self.new ≡ queued_after self.old number metadata bytes.now }
+    {
+        send(self.sockets(), number, bytes, metadata)
     }
 
     /// Reads the first datagram to the front of the slice.
-    pub fn udp_recv(&mut self, slot: usize, out: &mut [u8]) -> Result<(usize, UdpMetadata), Code>
-        ensures answer { result ≡ answer_at as_udp (λ v. coded of_recv (recv_answer v (length out.old))) self.old.slots slot }
-        ensures after { self.new ≡ record self.old { slots = after_at as_udp Kind.Udp (recv_after) self.old.slots slot } }
-        ensures read { out.new ≡ written_at as_udp recv_written out.old self.old.slots slot }
+    pub fn udp_recv(&mut self, number: usize, out: &mut [u8]) -> Result<(usize, UdpMetadata), Code>
+        ensures answer { result ≡ answer_at as_udp (λ v. coded of_recv (recv_answer v (length out.old))) self.old.slots number }
+        ensures after { self.new ≡ record self.old { slots = after_at as_udp Kind.Udp (recv_after) self.old.slots number } }
+        ensures read { out.new ≡ written_at as_udp recv_written out.old self.old.slots number }
     {
-        recv(self.sockets(), slot, out)
+        recv(self.sockets(), number, out)
     }
 }

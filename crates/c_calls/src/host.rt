@@ -6,11 +6,12 @@ ghost use Rattle.c_calls.specs.Calls.{counted, NewHost, TakesFrame, fetched_from
 ghost use Rattle.c_calls.specs.Added.{MakesSocket};
 ghost use Rattle.c_calls.specs.Backlogs.{may_be_removed, removed_by};
 ghost use Rattle.c_calls.specs.Codes.{of_fetch};
+ghost use Rattle.c_calls.specs.Numbers.{is_some_socket, socket_named, user_at, with_user_at};
 
 use crate::backlogs::{is_in_backlog, refresh_all};
 use crate::code::{Code, of_fetch, of_new, of_push};
 use crate::link::FrameLink;
-use crate::slots::Slots;
+use crate::slots::{Slots, slot_of};
 use interface::{Config, Interface, Listener};
 use ip_wire::{EthernetAddress, HardwareAddress};
 use net_base::{ChecksumCapabilities, Device, DeviceCapabilities, Instant, Medium};
@@ -247,22 +248,37 @@ impl Host {
         self.counters
     }
 
-    /// Takes the socket at the slot out, and gives its memory back.
-    pub fn remove(&mut self, slot: usize) -> Result<(), Code>
-        ensures answer { result ≡ may_be_removed self.old slot }
-        ensures after { self.new ≡ removed_by (may_be_removed self.old slot) self.old slot }
+    /// Takes the socket of this number out, and gives its memory back. The number names nothing then.
+    pub fn remove(&mut self, socket: usize) -> Result<(), Code>
+        ensures answer { result ≡ may_be_removed self.old socket }
+        ensures after { self.new ≡ removed_by (may_be_removed self.old socket) self.old socket }
     {
-        if self.seen_sockets().is_free(slot) {
+        if self.seen_sockets().is_free(socket) {
             return Err(Code::NoSocket);
         }
-        if is_in_backlog(self.seen_listeners(), slot) {
+        if is_in_backlog(self.seen_listeners(), slot_of(socket)) {
             return Err(Code::InBacklog);
         }
-        self.sockets().give_up(slot);
+        self.sockets().give_up(socket);
         Ok(())
     }
 
-    /// Puts a socket at the first free slot.
+    /// What the user set at the socket, 0 before. The host makes nothing of it.
+    pub fn socket_user(&self, socket: usize) -> Result<usize, Code>
+        ensures { result ≡ user_at self.now.slots socket }
+    {
+        self.seen_sockets().user(socket)
+    }
+
+    /// Sets it.
+    pub fn socket_set_user(&mut self, socket: usize, user: usize) -> Result<(), Code>
+        ensures answer { result ≡ is_some_socket (socket_named self.old.slots socket) }
+        ensures after { self.new ≡ record self.old { slots = with_user_at self.old.slots socket user } }
+    {
+        self.sockets().set_user(socket, user)
+    }
+
+    /// Puts a socket at the first free slot, and answers its number.
     pub(crate) fn add<K: AnySocket + Drop>(&mut self, socket: K) -> Result<usize, Code>
         ensures { MakesSocket (K.upcast_of socket) self.old result self.new }
     {

@@ -15,6 +15,7 @@ pub mod control;
 pub mod datagrams;
 mod host;
 mod kinds;
+pub mod laws;
 pub mod leases;
 pub mod link;
 pub mod looks;

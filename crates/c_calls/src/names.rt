@@ -1,10 +1,10 @@
 //! Calls of a client of DNS.
-ghost use Rattle.std.specs.Prelude.{◌≡◌, Err, is_ok, if◌then◌else◌};
+ghost use Rattle.std.specs.Prelude.{◌≡◌, ◌<◌, ◌≤◌, length, Err, is_ok, if◌then◌else◌};
 ghost use Rattle.std.specs.Str.{IsUtf8};
 ghost use Rattle.sockets.specs.DnsValue.{result_of, told};
 ghost use Rattle.c_calls.specs.Codes.{coded};
 ghost use Rattle.c_calls.specs.Names.{query_made, of_start, of_result, Asks, Asked, TakesAnswer, AnswerTaken, SendsQuery, QuerySent, sent_answer, sent_after};
-ghost use Rattle.c_calls.specs.Names.{found_answer, found_after, due_answer};
+ghost use Rattle.c_calls.specs.Names.{found_answer, found_after, due_answer, most_name};
 
 use crate::carrying::{Sending, carry, headers};
 use crate::code::Code;
@@ -72,8 +72,28 @@ fn ask_of<C: Context>(
     }
 }
 
-/// Asks for the addresses of a name, which is a text with dots between its labels.
+/// The most bytes of a name, with dots between its labels and one behind them, that are looked at.
+const MOST_NAME: usize = 255;
+
+/// Asks for the addresses of a name, which is a text with dots between its labels. Of one that is too long no byte is read.
 pub fn start<C: Context>(
+    client: &mut Option<Socket>,
+    cx: &mut C,
+    name: &[u8],
+    kind: DnsQueryType,
+) -> Result<(), Code>
+    ensures long { most_name < length name.now → (result ≡ Err Code.NameTooLong) × (client.new ≡ client.old) }
+    ensures payload { length name.now ≤ most_name → (IsUtf8 name.now → ⊥) → (result ≡ Err Code.InvalidName) × (client.new ≡ client.old) }
+    ensures asks { length name.now ≤ most_name → IsUtf8 name.now → Asks (C.context cx.old) name.now kind client.old result client.new }
+    ensures drawn { cx.new ≡ (if is_ok result then C.drawn (C.drawn cx.old) else cx.old) }
+{
+    if name.len() > MOST_NAME {
+        return Err(Code::NameTooLong);
+    }
+    start_bytes(client, cx, name, kind)
+}
+
+fn start_bytes<C: Context>(
     client: &mut Option<Socket>,
     cx: &mut C,
     name: &[u8],

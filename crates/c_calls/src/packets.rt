@@ -17,11 +17,11 @@ use ip_wire::{IpProtocol, IpVersion};
 use sockets::raw;
 
 /// Queues a packet with its IP header.
-pub fn send(sockets: &mut Slots, slot: usize, bytes: &[u8]) -> Result<(), Code>
-    ensures answer { result ≡ answer_at as_raw (λ v. coded of_raw_send (send_answer v (length bytes.now))) sockets.old slot }
-    ensures after { sockets.new ≡ after_at as_raw Kind.Raw (λ v. send_after v bytes.now) sockets.old slot }
+pub fn send(sockets: &mut Slots, number: usize, bytes: &[u8]) -> Result<(), Code>
+    ensures answer { result ≡ answer_at as_raw (λ v. coded of_raw_send (send_answer v (length bytes.now))) sockets.old number }
+    ensures after { sockets.new ≡ after_at as_raw Kind.Raw (λ v. send_after v bytes.now) sockets.old number }
 {
-    match lent::<raw::Socket>(sockets, slot) {
+    match lent::<raw::Socket>(sockets, number) {
         Ok(socket) => queue(socket, bytes),
         Err(code) => Err(code),
     }
@@ -38,12 +38,12 @@ fn queue(socket: &mut raw::Socket, bytes: &[u8]) -> Result<(), Code>
 }
 
 /// Reads the first packet to the front of the slice.
-pub fn recv(sockets: &mut Slots, slot: usize, out: &mut [u8]) -> Result<usize, Code>
-    ensures answer { result ≡ answer_at as_raw (λ v. coded of_recv (counted (recv_answer v (length out.old)))) sockets.old slot }
-    ensures after { sockets.new ≡ after_at as_raw Kind.Raw (recv_after) sockets.old slot }
-    ensures read { out.new ≡ written_at as_raw recv_written out.old sockets.old slot }
+pub fn recv(sockets: &mut Slots, number: usize, out: &mut [u8]) -> Result<usize, Code>
+    ensures answer { result ≡ answer_at as_raw (λ v. coded of_recv (counted (recv_answer v (length out.old)))) sockets.old number }
+    ensures after { sockets.new ≡ after_at as_raw Kind.Raw (recv_after) sockets.old number }
+    ensures read { out.new ≡ written_at as_raw recv_written out.old sockets.old number }
 {
-    match lent::<raw::Socket>(sockets, slot) {
+    match lent::<raw::Socket>(sockets, number) {
         Ok(socket) => read(socket, out),
         Err(code) => Err(code),
     }
@@ -78,19 +78,19 @@ impl Host {
     }
 
     /// Queues a packet with its IP header.
-    pub fn raw_send(&mut self, slot: usize, bytes: &[u8]) -> Result<(), Code>
-        ensures answer { result ≡ answer_at as_raw (λ v. coded of_raw_send (send_answer v (length bytes.now))) self.old.slots slot }
-        ensures after { self.new ≡ record self.old { slots = after_at as_raw Kind.Raw (λ v. send_after v bytes.now) self.old.slots slot } }
+    pub fn raw_send(&mut self, number: usize, bytes: &[u8]) -> Result<(), Code>
+        ensures answer { result ≡ answer_at as_raw (λ v. coded of_raw_send (send_answer v (length bytes.now))) self.old.slots number }
+        ensures after { self.new ≡ record self.old { slots = after_at as_raw Kind.Raw (λ v. send_after v bytes.now) self.old.slots number } }
     {
-        send(self.sockets(), slot, bytes)
+        send(self.sockets(), number, bytes)
     }
 
     /// Reads the first packet to the front of the slice, and answers its length.
-    pub fn raw_recv(&mut self, slot: usize, out: &mut [u8]) -> Result<usize, Code>
-        ensures answer { result ≡ answer_at as_raw (λ v. coded of_recv (counted (recv_answer v (length out.old)))) self.old.slots slot }
-        ensures after { self.new ≡ record self.old { slots = after_at as_raw Kind.Raw (recv_after) self.old.slots slot } }
-        ensures read { out.new ≡ written_at as_raw recv_written out.old self.old.slots slot }
+    pub fn raw_recv(&mut self, number: usize, out: &mut [u8]) -> Result<usize, Code>
+        ensures answer { result ≡ answer_at as_raw (λ v. coded of_recv (counted (recv_answer v (length out.old)))) self.old.slots number }
+        ensures after { self.new ≡ record self.old { slots = after_at as_raw Kind.Raw (recv_after) self.old.slots number } }
+        ensures read { out.new ≡ written_at as_raw recv_written out.old self.old.slots number }
     {
-        recv(self.sockets(), slot, out)
+        recv(self.sockets(), number, out)
     }
 }

@@ -7,7 +7,7 @@ ghost use Rattle.c_calls.specs.Slots.{answer_at, found_at, after_at, written_at,
 ghost use Rattle.sockets.specs.Context.{ContextValue};
 ghost use Rattle.sockets.specs.TcpCalls.{connect_answer, connect_after, connect_draws, send_answer, send_after, recv_answer};
 ghost use Rattle.c_calls.specs.Codes.{coded, of_connect, of_stream_send, of_stream_recv};
-ghost use Rattle.c_calls.specs.Streams.{act_answer, act_after, read_after, read_written, done_answer, done_after, peeked, state_in, ends_in, queues_in};
+ghost use Rattle.c_calls.specs.Streams.{act_answer, act_after, read_after, read_written, done_answer, done_after, peeked, state_in, ends_in, queues_in, room_in};
 ghost use Rattle.interface.specs.Inner.{context_of, drawn};
 ghost use Rattle.interface.specs.Made.{with_inner};
 ghost use Rattle.c_calls.specs.Added.{MakesStream};
@@ -85,11 +85,11 @@ fn act_on(socket: &mut tcp::Socket, act: Act) -> Result<(), Code>
 }
 
 /// Does a call that answers nothing but whether it was done.
-pub fn perform(sockets: &mut Slots, slot: usize, act: Act) -> Result<(), Code>
-    ensures answer { result ≡ answer_at as_tcp (act_answer act) sockets.old slot }
-    ensures after { sockets.new ≡ after_at as_tcp Kind.Tcp (act_after act) sockets.old slot }
+pub fn perform(sockets: &mut Slots, number: usize, act: Act) -> Result<(), Code>
+    ensures answer { result ≡ answer_at as_tcp (act_answer act) sockets.old number }
+    ensures after { sockets.new ≡ after_at as_tcp Kind.Tcp (act_after act) sockets.old number }
 {
-    match lent::<tcp::Socket>(sockets, slot) {
+    match lent::<tcp::Socket>(sockets, number) {
         Ok(socket) => act_on(socket, act),
         Err(code) => Err(code),
     }
@@ -98,16 +98,16 @@ pub fn perform(sockets: &mut Slots, slot: usize, act: Act) -> Result<(), Code>
 /// Opens a connection to a remote. A connection that is opened draws a random word from the context.
 pub fn connect<C: Context>(
     sockets: &mut Slots,
-    slot: usize,
+    number: usize,
     cx: &mut C,
     remote: IpEndpoint,
     local: IpListenEndpoint,
 ) -> Result<(), Code>
-    ensures answer { result ≡ answer_at as_tcp (λ v. coded of_connect (connect_answer (C.context cx.old) v remote local)) sockets.old slot }
-    ensures after { sockets.new ≡ after_at as_tcp Kind.Tcp (λ v. connect_after (C.context cx.old) v remote local) sockets.old slot }
-    ensures drawn { cx.new ≡ (if draws_at as_tcp (λ v. connect_draws (C.context cx.old) v remote local) sockets.old slot then C.drawn cx.old else cx.old) }
+    ensures answer { result ≡ answer_at as_tcp (λ v. coded of_connect (connect_answer (C.context cx.old) v remote local)) sockets.old number }
+    ensures after { sockets.new ≡ after_at as_tcp Kind.Tcp (λ v. connect_after (C.context cx.old) v remote local) sockets.old number }
+    ensures drawn { cx.new ≡ (if draws_at as_tcp (λ v. connect_draws (C.context cx.old) v remote local) sockets.old number then C.drawn cx.old else cx.old) }
 {
-    match lent::<tcp::Socket>(sockets, slot) {
+    match lent::<tcp::Socket>(sockets, number) {
         Ok(socket) => open(socket, cx, remote, local),
         Err(code) => Err(code),
     }
@@ -130,11 +130,11 @@ fn open<C: Context>(
 }
 
 /// Queues as many of the bytes as there is room for, and answers how many.
-pub fn send(sockets: &mut Slots, slot: usize, bytes: &[u8]) -> Result<usize, Code>
-    ensures answer { result ≡ answer_at as_tcp (λ v. coded of_stream_send (send_answer v (length bytes.now))) sockets.old slot }
-    ensures after { sockets.new ≡ after_at as_tcp Kind.Tcp (λ v. send_after v bytes.now) sockets.old slot }
+pub fn send(sockets: &mut Slots, number: usize, bytes: &[u8]) -> Result<usize, Code>
+    ensures answer { result ≡ answer_at as_tcp (λ v. coded of_stream_send (send_answer v (length bytes.now))) sockets.old number }
+    ensures after { sockets.new ≡ after_at as_tcp Kind.Tcp (λ v. send_after v bytes.now) sockets.old number }
 {
-    match lent::<tcp::Socket>(sockets, slot) {
+    match lent::<tcp::Socket>(sockets, number) {
         Ok(socket) => queue(socket, bytes),
         Err(code) => Err(code),
     }
@@ -151,12 +151,12 @@ fn queue(socket: &mut tcp::Socket, bytes: &[u8]) -> Result<usize, Code>
 }
 
 /// Reads waiting bytes to the front of the slice, and answers how many.
-pub fn recv(sockets: &mut Slots, slot: usize, out: &mut [u8]) -> Result<usize, Code>
-    ensures answer { result ≡ answer_at as_tcp (λ v. coded of_stream_recv (recv_answer v (length out.old))) sockets.old slot }
-    ensures after { sockets.new ≡ after_at as_tcp Kind.Tcp (λ v. read_after v (length out.old)) sockets.old slot }
-    ensures read { out.new ≡ written_at as_tcp read_written out.old sockets.old slot }
+pub fn recv(sockets: &mut Slots, number: usize, out: &mut [u8]) -> Result<usize, Code>
+    ensures answer { result ≡ answer_at as_tcp (λ v. coded of_stream_recv (recv_answer v (length out.old))) sockets.old number }
+    ensures after { sockets.new ≡ after_at as_tcp Kind.Tcp (λ v. read_after v (length out.old)) sockets.old number }
+    ensures read { out.new ≡ written_at as_tcp read_written out.old sockets.old number }
 {
-    match lent::<tcp::Socket>(sockets, slot) {
+    match lent::<tcp::Socket>(sockets, number) {
         Ok(socket) => read(socket, out),
         Err(code) => Err(code),
     }
@@ -174,11 +174,11 @@ fn read(socket: &mut tcp::Socket, out: &mut [u8]) -> Result<usize, Code>
 }
 
 /// Gives up the first waiting bytes, at most so many and as many as lie after one another. Answers how many.
-pub fn done(sockets: &mut Slots, slot: usize, count: usize) -> Result<usize, Code>
-    ensures answer { result ≡ answer_at as_tcp (done_answer count) sockets.old slot }
-    ensures after { sockets.new ≡ after_at as_tcp Kind.Tcp (done_after count) sockets.old slot }
+pub fn done(sockets: &mut Slots, number: usize, count: usize) -> Result<usize, Code>
+    ensures answer { result ≡ answer_at as_tcp (done_answer count) sockets.old number }
+    ensures after { sockets.new ≡ after_at as_tcp Kind.Tcp (done_after count) sockets.old number }
 {
-    match lent::<tcp::Socket>(sockets, slot) {
+    match lent::<tcp::Socket>(sockets, number) {
         Ok(socket) => give_up(socket, count),
         Err(code) => Err(code),
     }
@@ -221,90 +221,103 @@ impl Host {
     }
 
     /// Does a call that answers nothing but whether it was done.
-    pub fn tcp_act(&mut self, slot: usize, act: Act) -> Result<(), Code>
-        ensures answer { result ≡ answer_at as_tcp (act_answer act) self.old.slots slot }
-        ensures after { self.new ≡ record self.old { slots = after_at as_tcp Kind.Tcp (act_after act) self.old.slots slot } }
+    pub fn tcp_act(&mut self, number: usize, act: Act) -> Result<(), Code>
+        ensures answer { result ≡ answer_at as_tcp (act_answer act) self.old.slots number }
+        ensures after { self.new ≡ record self.old { slots = after_at as_tcp Kind.Tcp (act_after act) self.old.slots number } }
     {
-        perform(self.sockets(), slot, act)
+        perform(self.sockets(), number, act)
     }
 
     /// Opens a connection to a remote, from a port of one own address or of the one that the host chooses.
     pub fn tcp_connect(
         &mut self,
-        slot: usize,
+        number: usize,
         remote: IpEndpoint,
         local: IpListenEndpoint,
     ) -> Result<(), Code>
         ensures answer { result ≡
-            answer_at as_tcp (λ v. coded of_connect (connect_answer (context_of self.old.host.inner) v remote local)) self.old.slots slot }
+            answer_at as_tcp (λ v. coded of_connect (connect_answer (context_of self.old.host.inner) v remote local)) self.old.slots number }
         ensures after { self.new ≡ record self.old {
-          host = if draws_at as_tcp (λ v. connect_draws (context_of self.old.host.inner) v remote local) self.old.slots slot
+          host = if draws_at as_tcp (λ v. connect_draws (context_of self.old.host.inner) v remote local) self.old.slots number
               then with_inner self.old.host (drawn self.old.host.inner) else self.old.host;
-          slots = after_at as_tcp Kind.Tcp (λ v. connect_after (context_of self.old.host.inner) v remote local) self.old.slots slot;
+          slots = after_at as_tcp Kind.Tcp (λ v. connect_after (context_of self.old.host.inner) v remote local) self.old.slots number;
         } }
     {
-        connect(&mut self.sockets, slot, &mut self.interface, remote, local)
+        connect(
+            &mut self.sockets,
+            number,
+            &mut self.interface,
+            remote,
+            local,
+        )
     }
 
     /// Queues as many of the bytes as there is room for, and answers how many.
-    pub fn tcp_send(&mut self, slot: usize, bytes: &[u8]) -> Result<usize, Code>
-        ensures answer { result ≡ answer_at as_tcp (λ v. coded of_stream_send (send_answer v (length bytes.now))) self.old.slots slot }
-        ensures after { self.new ≡ record self.old { slots = after_at as_tcp Kind.Tcp (λ v. send_after v bytes.now) self.old.slots slot } }
+    pub fn tcp_send(&mut self, number: usize, bytes: &[u8]) -> Result<usize, Code>
+        ensures answer { result ≡ answer_at as_tcp (λ v. coded of_stream_send (send_answer v (length bytes.now))) self.old.slots number }
+        ensures after { self.new ≡ record self.old { slots = after_at as_tcp Kind.Tcp (λ v. send_after v bytes.now) self.old.slots number } }
     {
-        send(self.sockets(), slot, bytes)
+        send(self.sockets(), number, bytes)
     }
 
     /// Reads waiting bytes to the front of the slice, and answers how many.
-    pub fn tcp_recv(&mut self, slot: usize, out: &mut [u8]) -> Result<usize, Code>
-        ensures answer { result ≡ answer_at as_tcp (λ v. coded of_stream_recv (recv_answer v (length out.old))) self.old.slots slot }
-        ensures after { self.new ≡ record self.old { slots = after_at as_tcp Kind.Tcp (λ v. read_after v (length out.old)) self.old.slots slot } }
-        ensures read { out.new ≡ written_at as_tcp read_written out.old self.old.slots slot }
+    pub fn tcp_recv(&mut self, number: usize, out: &mut [u8]) -> Result<usize, Code>
+        ensures answer { result ≡ answer_at as_tcp (λ v. coded of_stream_recv (recv_answer v (length out.old))) self.old.slots number }
+        ensures after { self.new ≡ record self.old { slots = after_at as_tcp Kind.Tcp (λ v. read_after v (length out.old)) self.old.slots number } }
+        ensures read { out.new ≡ written_at as_tcp read_written out.old self.old.slots number }
     {
-        recv(self.sockets(), slot, out)
+        recv(self.sockets(), number, out)
     }
 
     /// Gives up the first waiting bytes, at most so many and as many as lie after one another. Answers how many.
-    pub fn tcp_done(&mut self, slot: usize, count: usize) -> Result<usize, Code>
-        ensures answer { result ≡ answer_at as_tcp (done_answer count) self.old.slots slot }
-        ensures after { self.new ≡ record self.old { slots = after_at as_tcp Kind.Tcp (done_after count) self.old.slots slot } }
+    pub fn tcp_done(&mut self, number: usize, count: usize) -> Result<usize, Code>
+        ensures answer { result ≡ answer_at as_tcp (done_answer count) self.old.slots number }
+        ensures after { self.new ≡ record self.old { slots = after_at as_tcp Kind.Tcp (done_after count) self.old.slots number } }
     {
-        done(self.sockets(), slot, count)
+        done(self.sockets(), number, count)
     }
 
     /// Lends the first waiting bytes, as many as lie after one another.
-    pub fn tcp_peek(&self, slot: usize) -> Result<&[u8], Code>
+    pub fn tcp_peek(&self, number: usize) -> Result<&[u8], Code>
         ensures { MatchResult result
-            (λ bytes. answer_at as_tcp peeked self.now.slots slot ≡ Ok bytes.now)
-            (λ code. answer_at as_tcp peeked self.now.slots slot ≡ Err code) }
+            (λ bytes. answer_at as_tcp peeked self.now.slots number ≡ Ok bytes.now)
+            (λ code. answer_at as_tcp peeked self.now.slots number ≡ Err code) }
     {
-        looks::peek(self.seen_sockets(), slot)
+        looks::peek(self.seen_sockets(), number)
     }
 
     /// The state of the connection.
-    pub fn tcp_state(&self, slot: usize) -> Result<tcp::State, Code>
-        ensures { result ≡ answer_at as_tcp state_in self.now.slots slot }
+    pub fn tcp_state(&self, number: usize) -> Result<tcp::State, Code>
+        ensures { result ≡ answer_at as_tcp state_in self.now.slots number }
     {
-        looks::state(self.seen_sockets(), slot)
+        looks::state(self.seen_sockets(), number)
     }
 
     /// Why the last connection ended, if one did and the socket is closed.
-    pub fn tcp_end_reason(&self, slot: usize) -> Result<Option<tcp::EndReason>, Code>
-        ensures { TellsEnd (found_at as_tcp self.now.slots slot) result }
+    pub fn tcp_end_reason(&self, number: usize) -> Result<Option<tcp::EndReason>, Code>
+        ensures { TellsEnd (found_at as_tcp self.now.slots number) result }
     {
-        looks::end_reason(self.seen_sockets(), slot)
+        looks::end_reason(self.seen_sockets(), number)
     }
 
     /// The own endpoint of the connection and the remote's.
-    pub fn tcp_ends(&self, slot: usize) -> Result<(IpEndpoint, IpEndpoint), Code>
-        ensures { result ≡ answer_at as_tcp ends_in self.now.slots slot }
+    pub fn tcp_ends(&self, number: usize) -> Result<(IpEndpoint, IpEndpoint), Code>
+        ensures { result ≡ answer_at as_tcp ends_in self.now.slots number }
     {
-        looks::ends(self.seen_sockets(), slot)
+        looks::ends(self.seen_sockets(), number)
     }
 
     /// How many bytes wait to be read, and how many are queued that aren't acknowledged.
-    pub fn tcp_queues(&self, slot: usize) -> Result<(usize, usize), Code>
-        ensures { result ≡ answer_at as_tcp queues_in self.now.slots slot }
+    pub fn tcp_queues(&self, number: usize) -> Result<(usize, usize), Code>
+        ensures { result ≡ answer_at as_tcp queues_in self.now.slots number }
     {
-        looks::queues(self.seen_sockets(), slot)
+        looks::queues(self.seen_sockets(), number)
+    }
+
+    /// How many bytes more can be queued.
+    pub fn tcp_room(&self, number: usize) -> Result<usize, Code>
+        ensures { result ≡ answer_at as_tcp room_in self.now.slots number }
+    {
+        looks::room(self.seen_sockets(), number)
     }
 }

@@ -1,18 +1,20 @@
 -- Calls of the host after a handle, which is taken out and put back.
-use Rattle.std.proofs.Common.{◌≡◌, List, ℕ, Result, Err, Option, Some, sym, ap, subst, ◌∙◌}
+use Rattle.std.proofs.Common.{◌≡◌, ◌<◌, ◌≤◌, List, length, ℕ, Result, Err, Option, Some, sym, ap, subst, ◌∙◌}
 use Rattle.std.specs.Str.{IsUtf8}
 use Rattle.wire_dns.specs.declared.codes.DnsQueryType.{DnsQueryType}
 use Rattle.c_calls.specs.declared.code.Code.{Code}
 use Rattle.c_calls.specs.declared.code.Code.TheVariants as Is
 use Rattle.c_calls.specs.Configuring.{AsksName}
 use Rattle.c_calls.specs.Host.{StackValue}
+use Rattle.c_calls.specs.Names.{most_name}
 use Rattle.zemplovir_c.specs.Answers.{Acts, after_by, number_by}
 use Rattle.zemplovir_c.specs.Configuring.{NameIsAsked}
 
 pub is_asked : (name : List ℕ) (kind : DnsQueryType) (s s' : StackValue) (answer : Result (Unit {0}) Code)
-    → ((IsUtf8 name → ⊥) → (answer ≡ Err Is.InvalidName) × (s' ≡ s)) → (IsUtf8 name → AsksName name kind s answer s')
-    → NameIsAsked name kind s answer s'
-is_asked name kind s s' answer text asks = record { text = text; asks = asks }
+    → (most_name < length name → (answer ≡ Err Is.NameTooLong) × (s' ≡ s))
+    → (length name ≤ most_name → (IsUtf8 name → ⊥) → (answer ≡ Err Is.InvalidName) × (s' ≡ s))
+    → (length name ≤ most_name → IsUtf8 name → AsksName name kind s answer s') → NameIsAsked name kind s answer s'
+is_asked name kind s s' answer long text asks = record { long = long; text = text; asks = asks }
 
 -- a call of the host that was taken out and is put back
 pub called : (before after : Option StackValue) (s t : StackValue) (F : StackValue → StackValue) → before ≡ Some s → after ≡ Some t → t ≡ F s →

@@ -1,5 +1,5 @@
 -- What C gets of the clients of DHCP and DNS.
-use Rattle.std.specs.Prelude.{◌≡◌, ℕ, ◌==◌, ◌-◌, ◌^◌, ℤ, pos, if◌then◌else◌, List, [], ◌∷◌, slice_index_or, Option, None, Some, Result, Ok, Err}
+use Rattle.std.specs.Prelude.{◌≡◌, ℕ, ◌<◌, ◌≤◌, ◌==◌, ◌-◌, ◌^◌, ℤ, pos, if◌then◌else◌, List, [], ◌∷◌, length, slice_index_or, Option, None, Some, Result, Ok, Err}
 use Rattle.std.specs.Str.{IsUtf8}
 use Rattle.socket_datagram.specs.declared.dhcpv4.config.Config.{Config}
 use Rattle.socket_datagram.specs.declared.dhcpv4.config.Event.{Event}
@@ -13,6 +13,7 @@ use Rattle.sockets.specs.PollAt.{PollAt}
 use Rattle.sockets.specs.PollAt.TheVariants as At
 use Rattle.c_calls.specs.Configuring.{AsksName}
 use Rattle.c_calls.specs.Host.{StackValue}
+use Rattle.c_calls.specs.Names.{most_name}
 use Rattle.c_calls.specs.declared.carrying.Sending.{Sending}
 use Rattle.c_calls.specs.declared.code.Code.{Code}
 use Rattle.c_calls.specs.declared.code.Code.TheVariants as Is
@@ -78,10 +79,11 @@ servers_of (Some first) (Some second) (Some third) = first ∷ second ∷ third 
 abbrev pub kind_of : ℕ → Result DnsQueryType Code
 kind_of family = if family == 4 then Ok Query.A else if family == 6 then Ok Query.Aaaa else Err Is.BadArgument
 
--- a name that is no text isn't asked for
+-- a name that is too long isn't asked for, nor one that is no text
 pub record NameIsAsked (name : List ℕ) (kind : DnsQueryType) (s : StackValue) (result : Result (Unit {0}) Code) (s' : StackValue) : Type 0 where
-  pub text : (IsUtf8 name → ⊥) → (result ≡ Err Is.InvalidName) × (s' ≡ s)
-  pub asks : IsUtf8 name → AsksName name kind s result s'
+  pub long : most_name < length name → (result ≡ Err Is.NameTooLong) × (s' ≡ s)
+  pub text : length name ≤ most_name → (IsUtf8 name → ⊥) → (result ≡ Err Is.InvalidName) × (s' ≡ s)
+  pub asks : length name ≤ most_name → IsUtf8 name → AsksName name kind s result s'
 
 abbrev pub address_at : List (Option IpAddress) → ℕ → Address
 address_at found n = address_or_none (slice_index_or found n None)

@@ -1,12 +1,11 @@
 //! UDP sockets.
 ghost use Rattle.std.specs.Prelude.{◌≡◌, length};
 ghost use Rattle.sockets.specs.AnySocket.{as_udp};
-ghost use Rattle.socket_datagram.specs.Udp.{send_answer, send_after};
 ghost use Rattle.socket_datagram.specs.SocketValue.{recv_answer, recv_after, recv_written};
 ghost use Rattle.sockets.specs.declared.socket.Socket.TheVariants as Kind;
-ghost use Rattle.c_calls.specs.Codes.{coded, of_send, of_recv};
+ghost use Rattle.c_calls.specs.Codes.{coded, of_recv};
 ghost use Rattle.c_calls.specs.Slots.{answer_at, after_at, written_at};
-ghost use Rattle.c_calls.specs.Datagrams.{act_answer, act_after};
+ghost use Rattle.c_calls.specs.Datagrams.{act_answer, act_after, sent_answer, sent_after};
 ghost use Rattle.c_calls.specs.declared.datagrams.Act.TheVariants as To;
 ghost use Rattle.c_calls.specs.Added.{MakesSocket, new_udp};
 ghost use Rattle.zemplovir_c.specs.Answers.{answer_by, after_by, given_by, written_by, mapped, checked_answer, checked, Gives};
@@ -89,11 +88,9 @@ pub extern "C" fn zv_udp_send(
     local: &Address,
 ) -> u32
     ensures answer { result ≡ checked_answer (endpoint_in remote.now) (λ to. checked_answer (optional_in local.now) (λ from.
-        answer_by handle.old.inside (λ host. answer_at as_udp (λ v. coded of_send (send_answer v (metadata to from) (length bytes.now))) host.slots socket))) }
+        answer_by handle.old.inside (λ host. sent_answer host socket (metadata to from) bytes.now))) }
     ensures after { handle.new.inside ≡ checked (endpoint_in remote.now) (λ to. checked (optional_in local.now) (λ from.
-        after_by handle.old.inside
-        (λ host. record host { slots = after_at as_udp Kind.Udp (λ v. send_after v (metadata to from) bytes.now) host.slots socket })) handle.old.inside)
-        handle.old.inside }
+        after_by handle.old.inside (λ host. sent_after host socket (metadata to from) bytes.now)) handle.old.inside) handle.old.inside }
 {
     let remote = match required_endpoint(remote) {
         Ok(remote) => remote,

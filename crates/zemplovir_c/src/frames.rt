@@ -5,13 +5,14 @@ ghost use Rattle.c_calls.specs.Codes.{coded};
 ghost use Rattle.c_calls.specs.Calls.{fetched_from, or_empty, TakesFrame, PollsAt, AsksAt};
 ghost use Rattle.c_calls.specs.Codes.{of_fetch};
 ghost use Rattle.c_calls.specs.Backlogs.{may_be_removed, removed_by};
+ghost use Rattle.c_calls.specs.Numbers.{is_some_socket, socket_named, user_at, with_user_at};
 ghost use Rattle.zemplovir_c.specs.Answers.{all_done, answer_by, after_by, given_by, written_by, mapped, Acts, Gives, As};
 ghost use Rattle.zemplovir_c.specs.Hosts.{NewBoxed, NewHandle, unboxed};
 ghost use Rattle.zemplovir_c.specs.Values.{hardware_in, key_in, settings_in, bit, instant_or_never, counters_out};
 
 use crate::answers::{NO_HOST, OK, done, given};
 use crate::handle::Handle;
-use crate::types::{Counters, Settings};
+use crate::types::{Counters, Settings, User};
 use c_calls::{Code, Host};
 use ip_wire::EthernetAddress;
 use net_base::Instant;
@@ -236,7 +237,7 @@ pub extern "C" fn zv_counters(alloc: Global, handle: &mut Handle, counters: &mut
     OK
 }
 
-/// Gives the memory of the socket back. Its slot is free then.
+/// Gives the memory of the socket back. Its number names nothing then.
 #[unsafe(no_mangle)]
 pub extern "C" fn zv_socket_remove(alloc: Global, handle: &mut Handle, socket: usize) -> u32
     ensures answer { result ≡ answer_by handle.old.inside (λ host. may_be_removed host socket) }
@@ -248,4 +249,43 @@ pub extern "C" fn zv_socket_remove(alloc: Global, handle: &mut Handle, socket: u
     let answer = host.remove(socket);
     handle.put(host);
     done(answer)
+}
+
+/// Sets what the user has at the socket. It is never read.
+#[unsafe(no_mangle)]
+pub extern "C" fn zv_socket_set_user(
+    alloc: Global,
+    handle: &mut Handle,
+    socket: usize,
+    user: User,
+) -> u32
+    ensures answer { result ≡ answer_by handle.old.inside (λ host. is_some_socket (socket_named host.slots socket)) }
+    ensures after { handle.new.inside ≡ after_by handle.old.inside (λ host. record host { slots = with_user_at host.slots socket user }) }
+{
+    let Some(mut host) = handle.take(alloc) else {
+        return NO_HOST;
+    };
+    let answer = host.socket_set_user(socket, user);
+    handle.put(host);
+    done(answer)
+}
+
+/// What the user set at the socket, 0 before.
+#[unsafe(no_mangle)]
+pub extern "C" fn zv_socket_user(
+    alloc: Global,
+    handle: &mut Handle,
+    socket: usize,
+    user: &mut User,
+) -> u32
+    ensures answer { result ≡ answer_by handle.old.inside (λ host. user_at host.slots socket) }
+    ensures after { handle.new.inside ≡ handle.old.inside }
+    ensures user { user.new ≡ given_by handle.old.inside (λ host. user_at host.slots socket) user.old }
+{
+    let Some(host) = handle.take(alloc) else {
+        return NO_HOST;
+    };
+    let answer = host.socket_user(socket);
+    handle.put(host);
+    given(answer, user)
 }

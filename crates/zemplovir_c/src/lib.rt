@@ -34,7 +34,7 @@ pub use datagrams::{
 };
 pub use frames::{
     zv_counters, zv_frame_in, zv_frame_out, zv_frame_out_length, zv_host_free, zv_host_new,
-    zv_poll, zv_poll_at, zv_socket_remove,
+    zv_poll, zv_poll_at, zv_socket_remove, zv_socket_set_user, zv_socket_user,
 };
 pub use packets::{zv_raw_new, zv_raw_recv, zv_raw_send};
 pub use stream_settings::{
@@ -44,7 +44,8 @@ pub use stream_settings::{
 };
 pub use streams::{
     zv_tcp_abort, zv_tcp_close, zv_tcp_connect, zv_tcp_done, zv_tcp_end_reason, zv_tcp_listen,
-    zv_tcp_new, zv_tcp_peek, zv_tcp_peer, zv_tcp_queues, zv_tcp_recv, zv_tcp_send, zv_tcp_state,
+    zv_tcp_new, zv_tcp_peek, zv_tcp_peer, zv_tcp_queues, zv_tcp_recv, zv_tcp_room, zv_tcp_send,
+    zv_tcp_state,
 };
 pub use tables::{
     zv_address_add, zv_address_remove, zv_group_join, zv_group_leave, zv_host_set_any_ip,

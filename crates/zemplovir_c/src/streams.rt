@@ -8,7 +8,7 @@ ghost use Rattle.sockets.specs.declared.socket.Socket.TheVariants as Kind;
 ghost use Rattle.c_calls.specs.Codes.{coded, of_connect, of_stream_send, of_stream_recv};
 ghost use Rattle.c_calls.specs.Ends.{TellsEnd};
 ghost use Rattle.c_calls.specs.Slots.{answer_at, found_at, after_at, written_at, draws_at};
-ghost use Rattle.c_calls.specs.Streams.{act_answer, act_after, read_after, read_written, done_answer, done_after, peeked, state_in, ends_in, queues_in};
+ghost use Rattle.c_calls.specs.Streams.{act_answer, act_after, read_after, read_written, done_answer, done_after, peeked, state_in, ends_in, queues_in, room_in};
 ghost use Rattle.c_calls.specs.declared.streams.Act.TheVariants as To;
 ghost use Rattle.c_calls.specs.Added.{MakesStream};
 ghost use Rattle.zemplovir_c.specs.Answers.{answer_by, after_by, given_by, written_by, mapped, checked_answer, checked, Gives, As};
@@ -373,6 +373,26 @@ pub extern "C" fn zv_tcp_peer(
         }
         Err(code) => code.number(),
     }
+}
+
+/// How many bytes more can be queued.
+#[unsafe(no_mangle)]
+pub extern "C" fn zv_tcp_room(
+    alloc: Global,
+    handle: &mut Handle,
+    socket: usize,
+    room: &mut usize,
+) -> u32
+    ensures answer { result ≡ answer_by handle.old.inside (λ host. answer_at as_tcp (room_in) host.slots socket) }
+    ensures after { handle.new.inside ≡ handle.old.inside }
+    ensures room { room.new ≡ given_by handle.old.inside (λ host. answer_at as_tcp (room_in) host.slots socket) room.old }
+{
+    let Some(host) = handle.take(alloc) else {
+        return NO_HOST;
+    };
+    let answer = host.tcp_room(socket);
+    handle.put(host);
+    given(answer, room)
 }
 
 /// How many bytes wait to be read, and how many are queued that aren't acknowledged.

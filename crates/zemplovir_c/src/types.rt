@@ -6,6 +6,9 @@ ghost use Rattle.zemplovir_c.specs.Values.{v4_in, optional_in, required_in, endp
 use c_calls::Code;
 use ip_wire::{IpAddress, IpCidr, IpEndpoint, IpListenEndpoint, Ipv4Address, Ipv6Address};
 
+/// A pointer of the user's, as a number: nothing is read behind it.
+pub type User = usize;
+
 /// An address: its family, 4 or 6, 0 for none; and its bytes, of which the first 4 count where the family is 4.
 #[repr(C)]
 #[derive(Clone, Copy)]

@@ -8,7 +8,7 @@ use Rattle.c_calls.proofs.control.recv.Goals as goal
 
 pub returns-in-Ok : goal.returns-in-Ok
 returns-in-Ok c =
-    let set = c.args.sockets.now in let n = c.args.slot in let socket = c.in-Ok.socket in
+    let set = c.args.sockets.now in let n = c.args.number in let socket = c.in-Ok.socket in
     let found = found_of as_icmp set n c.lent.result socket c.in-Ok.is c.lent.ensures.value in
     let kept = left as_icmp (λ x. Kind.Icmp x) (λ v. recv_after v) set (c.lent.follows.lender c.read.new.socket) n
     c.lent.result socket c.read.new.socket found c.in-Ok.is c.read.ensures.after (c.lent.follows.holds c.read.new.socket) in record {
@@ -19,7 +19,7 @@ returns-in-Ok c =
 
 pub returns-in-Err : goal.returns-in-Err
 returns-in-Err c =
-    let set = c.args.sockets.now in let n = c.args.slot in let code = c.in-Err.code in
+    let set = c.args.sockets.now in let n = c.args.number in let code = c.in-Err.code in
     let found = missed_of as_icmp set n c.lent.result code c.in-Err.is c.lent.ensures.value in
     let kept = unchanged as_icmp (λ x. Kind.Icmp x) (λ v. recv_after v) set c.lent.follows.lender-at-none n
     c.lent.result code found c.in-Err.is c.lent.follows.holds-at-none in record {

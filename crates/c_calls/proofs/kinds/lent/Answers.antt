@@ -4,7 +4,7 @@ use Rattle.c_calls.proofs.kinds.lent.Goals as goal
 
 pub returns-in-Some-downcast_mut : goal.returns-in-Some-downcast_mut
 returns-in-Some-downcast_mut g c =
-    let ps = c.args.sockets.now in let n = c.args.slot in let any = c.in-Some.socket in let own = c.in-Some-downcast_mut.socket in
+    let ps = c.args.sockets.now in let n = c.args.number in let any = c.in-Some.socket in let own = c.in-Some-downcast_mut.socket in
     let has = found ps n c.get_mut.result any c.in-Some.is c.get_mut.ensures.value in
     let is = copied c.downcast_mut.result own (g.K.AnySocket.downcast_of any.now) c.in-Some-downcast_mut.is c.downcast_mut.ensures.value in (
       (
@@ -18,7 +18,7 @@ returns-in-Some-downcast_mut g c =
 
 pub returns-in-None-downcast_mut : goal.returns-in-None-downcast_mut
 returns-in-None-downcast_mut g c =
-    let ps = c.args.sockets.now in let n = c.args.slot in let any = c.in-Some.socket in
+    let ps = c.args.sockets.now in let n = c.args.number in let any = c.in-Some.socket in
     let has = found ps n c.get_mut.result any c.in-Some.is c.get_mut.ensures.value in
     let is = copied_none c.downcast_mut.result (g.K.AnySocket.downcast_of any.now) c.in-None-downcast_mut.is c.downcast_mut.ensures.value in
     let kept = left_at ps n c.get_mut.result any c.in-Some.is (c.get_mut.follows.lender any.now) any.now (c.get_mut.follows.holds any.now) in (

@@ -10,7 +10,7 @@ use Rattle.c_calls.proofs.streams.connect.Goals as goal
 pub returns-in-Ok : goal.returns-in-Ok
 returns-in-Ok g c =
     let cx = g.C.Context.context c.args.cx.now in let to = c.args.remote in let from = c.args.local in
-    let set = c.args.sockets.now in let n = c.args.slot in let socket = c.in-Ok.socket in
+    let set = c.args.sockets.now in let n = c.args.number in let socket = c.in-Ok.socket in
     let found = found_of as_tcp set n c.lent.result socket c.in-Ok.is c.lent.ensures.value in
     let kept = left as_tcp (λ x. Kind.Tcp x) (λ v. connect_after cx v to from) set (c.lent.follows.lender c.open.new.socket) n
     c.lent.result socket c.open.new.socket found c.in-Ok.is c.open.ensures.after (c.lent.follows.holds c.open.new.socket) in record {
@@ -23,7 +23,7 @@ returns-in-Ok g c =
 pub returns-in-Err : goal.returns-in-Err
 returns-in-Err g c =
     let cx = g.C.Context.context c.args.cx.now in let to = c.args.remote in let from = c.args.local in
-    let set = c.args.sockets.now in let n = c.args.slot in let code = c.in-Err.code in
+    let set = c.args.sockets.now in let n = c.args.number in let code = c.in-Err.code in
     let found = missed_of as_tcp set n c.lent.result code c.in-Err.is c.lent.ensures.value in
     let kept = unchanged as_tcp (λ x. Kind.Tcp x) (λ v. connect_after cx v to from) set c.lent.follows.lender-at-none n
     c.lent.result code found c.in-Err.is c.lent.follows.holds-at-none in record {

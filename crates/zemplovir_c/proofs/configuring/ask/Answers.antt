@@ -11,5 +11,5 @@ returns c =
     in
     acted c.args.handle.now.inside c.put.new.self.inside c.deref_mut.result.now c.dns_ask-answer.new.self c.done.result c.dns_ask-answer.result
     (NameIsAsked c.args.name.now c.args.kind) had c.put.ensures c.done.ensures
-    (is_asked c.args.name.now c.args.kind c.deref_mut.result.now c.dns_ask-answer.new.self c.dns_ask-answer.result c.dns_ask-answer.ensures.payload
-    c.dns_ask-answer.ensures.asks)
+    (is_asked c.args.name.now c.args.kind c.deref_mut.result.now c.dns_ask-answer.new.self c.dns_ask-answer.result c.dns_ask-answer.ensures.long
+    c.dns_ask-answer.ensures.payload c.dns_ask-answer.ensures.asks)

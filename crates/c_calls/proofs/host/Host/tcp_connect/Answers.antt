@@ -12,11 +12,11 @@ use Rattle.c_calls.proofs.host.Host.tcp_connect.Goals as goal
 pub returns-clause-after : goal.returns-clause-after
 returns-clause-after c =
     let now : the_view c.self.inside ≡ c.args.self.now = cc in
-    connects c.args.slot c.args.remote c.args.local (the_view c.self.inside) c.args.self.now c.connect.new.cx c.connect.new.sockets now
+    connects c.args.number c.args.remote c.args.local (the_view c.self.inside) c.args.self.now c.connect.new.cx c.connect.new.sockets now
     c.connect.ensures.drawn c.connect.ensures.after
 
 pub returns-clause-answer : goal.returns-clause-answer
 returns-clause-answer c =
     c.connect.ensures.answer
     ∙ ap (λ (s : StackValue). answer_at as_tcp (λ v. coded of_connect (connect_answer (context_of s.host.inner) v c.args.remote c.args.local)) s.slots
-    c.args.slot) c.self.view_is
+    c.args.number) c.self.view_is

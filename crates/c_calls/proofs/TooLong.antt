@@ -1,0 +1,24 @@
+-- A datagram that no frame carries, nor fragments.
+use Rattle.std.proofs.Common.{◌≡◌, ℕ, ◌+◌, ◌-◌, ◌<◌, ◌≤◌, Bool, true, false, refl, ap, ◌∙◌, arith}
+use Rattle.std.specs.Prelude.{◌&&◌, not, nat_le, max, if◌then◌else◌}
+use Rattle.iface_egress.specs.Plan.{cut_if_idle, has_extensions, long_plan, longest_cut, plan_to, total_len}
+use Rattle.iface_egress.specs.declared.plan.Plan.{Plan}
+use Rattle.iface_egress.specs.declared.plan.Plan.TheVariants as Way
+use Rattle.ip_wire.specs.HardwareAddress.{HardwareAddress}
+use Rattle.ip_wire.specs.Ip.{destination_of}
+use Rattle.ip_wire.specs.IpRepr.{IpRepr}
+use Rattle.c_calls.specs.Datagrams.{datagram_room, headers_len}
+use Rattle.c_calls.specs.Host.{StackValue}
+
+not_below : (a b : ℕ) → b < a → nat_le a b ≡ false
+not_below a b less = grind (arith, less)
+
+pub dropped : (s : StackValue) (to : HardwareAddress) (mtu : ℕ) (busy : Bool) (header : IpRepr) (length : ℕ)
+    → datagram_room s (destination_of header) < length → total_len header ≡ headers_len (destination_of header) + length → mtu ≤ s.host.inner.mtu
+    → plan_to to mtu busy header ≡ Way.Drop
+dropped s to mtu busy header length long sum less =
+    let more : max s.host.inner.mtu 4096 < total_len header = omega (arith, long, sum) in
+    let frame : nat_le (total_len header) mtu ≡ false = not_below (total_len header) mtu (omega (arith, more, less)) in
+    let pieces : nat_le (total_len header) 4096 ≡ false = not_below (total_len header) 4096 (omega (arith, more)) in
+    ap (λ b. if b then Way.Go to else long_plan busy to header) frame
+    ∙ ap (λ b. if b && not (has_extensions header) then cut_if_idle busy to else Way.Drop) pieces
