@@ -7,7 +7,7 @@ use Rattle.c_calls.specs.declared.code.Code.TheVariants as Is
 use Rattle.c_calls.specs.Configuring.{AsksName}
 use Rattle.c_calls.specs.Host.{StackValue}
 use Rattle.c_calls.specs.Names.{most_name}
-use Rattle.zemplovir_c.specs.Answers.{Acts, after_by, number_by}
+use Rattle.zemplovir_c.specs.Answers.{Acts, after_by, answer_by, number_by}
 use Rattle.zemplovir_c.specs.Configuring.{NameIsAsked}
 
 pub is_asked : (name : List ℕ) (kind : DnsQueryType) (s s' : StackValue) (answer : Result (Unit {0}) Code)
@@ -27,3 +27,8 @@ pub acted : (before after : Option StackValue) (s t : StackValue) (n : ℕ) (ans
     Acts Does before n after
 acted before after s t n answer Does had left number does =
     subst (λ (b : Option StackValue). Acts Does b n after) (sym had) (answer, (t, does, number, left))
+
+-- the number of what a call of the host that is inside answers
+pub answered : {A : Type 0} (inside : Option StackValue) (host : StackValue) (number : ℕ) (answer : Result A Code) (f : StackValue → Result A Code) →
+    inside ≡ Some host → number ≡ number_by answer → answer ≡ f host → number ≡ answer_by inside f
+answered inside host number answer f had is same = is ∙ ap number_by same ∙ sym (ap (λ (i : Option StackValue). answer_by i f) had)
