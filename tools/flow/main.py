@@ -30,7 +30,7 @@ from page import page, picture
 from play import Programs, play_all
 from rows import Rows
 from svg import shown
-from words import counts, errors, lines, remarks
+from words import counts, ending, errors, lines, remarks
 
 
 def plain(words):
@@ -50,7 +50,7 @@ def as_text(runs, only):
             yield from (f"{name}: {words}" for name, words in remarks(history, rows, only))
             yield from (f"Refused: line {number}, `{line}`: {said}" for number, line, said in errors(history))
         if run.ended:
-            yield f"The script ended early: {run.ended}"
+            yield ending(run)
 
 
 def arguments(words):
