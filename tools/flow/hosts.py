@@ -5,7 +5,7 @@ moment is the one answered, or else the one that the frames leave.
 """
 import re
 
-from play import number
+from play import bytes_text, number
 from tcp import NEIGHBOR, Connection, When, timers
 
 # A neighbor that doesn't answer so many requests is given up, and what is for it is dropped.
@@ -109,17 +109,19 @@ class Host:
         """How many bytes wait in the socket to be read."""
         return max(connection.accepted() - self.read.get(self.socket_of(connection.local[1]), 0), 0)
 
+    def space(self, connection):
+        """Of its receive buffer the size, how much is free, and from how much on more is announced; or None."""
+        size = self.buffers.get(self.socket_of(connection.local[1]))
+        return None if size is None else (size, size - self.unread(connection), min((size + 1) // 2, connection.own_mss))
+
     def why_no_space(self, connection):
         """Why it announces no space: what is free of its buffer, and from where on that is announced."""
-        size, unread = self.buffers.get(self.socket_of(connection.local[1])), self.unread(connection)
-        if size is None or not unread:
+        size, free, least = self.space(connection) or (0, 0, 0)
+        if free == size or free >= least > 0:
             return ""
-        free, least = size - unread, min((size + 1) // 2, connection.own_mss)
         if free <= 0:
-            return f"{unread} bytes wait in {self.name}'s socket to be read, and fill it"
-        if free < least:
-            return f"{free} of {size} bytes are free in {self.name}'s socket, which announces space from {least} on, or when all is read"
-        return ""
+            return f"{bytes_text(size - free)} in {self.name}'s socket wait to be read, and fill it"
+        return f"{free} of {size} bytes are free in {self.name}'s socket, which announces space from {least} on, or when all is read"
 
     def given_up(self, now):
         """The neighbors that didn't answer, and aren't asked any more."""
@@ -128,7 +130,7 @@ class Host:
     def newly_given_up(self, now):
         """Those that are told of for the first time since they were asked."""
         found = [address for address in self.given_up(now) if self.silent.get(address, (None,))[0] != self.asked[address]]
-        self.silent.update((address, (self.asked[address], now)) for address in found)
+        self.silent.update((address, (self.asked[address], [*self.silent.get(address, (0, []))[1], now])) for address in found)
         self.datagrams = [address for address in self.datagrams if address not in found]
         return found
 
@@ -149,15 +151,18 @@ class Host:
             if self.states.get(socket) == "SYN-SENT" and self.local[socket] not in ports and hop in silent:
                 yield None, "retransmission timer", f"the SYN was dropped, as {hop} did not answer {MOST_REQUESTS} requests"
 
-    def on_wake(self, wake, now, why):
-        """Keeps the longest wait for a moment, as where it began, where it ended, and why."""
+    def ends_longest(self, wake, now):
+        """Whether what it is told now ends a wait, the longest so far."""
+        if not self.waiting or self.waiting[1] == wake:
+            return False
+        return now - self.waiting[0] > (self.longest[1] - self.longest[0] if self.longest else 0)
+
+    def on_wake(self, wake, now):
+        """Keeps the wait for a moment: where it began, the moment, and where it was last told of."""
         if self.waiting and self.waiting[1] != wake:
-            began, _, old = self.waiting
-            if now > began and (self.longest is None or now - began > self.longest[1] - self.longest[0]):
-                self.longest = began, now, old
             self.waiting = None
         if wake is not None and wake > now:
-            self.waiting = (self.waiting[0] if self.waiting else now), wake, why
+            self.waiting = (self.waiting[0] if self.waiting else now), wake, now
 
     def to_send(self):
         """What it has to send at once, as far as calls and frames say."""
@@ -165,8 +170,10 @@ class Host:
         for connection in self.connections.values():
             unsent, in_flight = self.queued_of(connection) + 1 - connection.nxt, connection.nxt - connection.una
             may_go = in_flight == 0 or unsent >= connection.peer_mss
-            found += [f"{unsent} bytes"] if unsent > 0 and may_go and (connection.allowed or 0) > in_flight else []
+            found += [bytes_text(unsent)] if unsent > 0 and may_go and (connection.allowed or 0) > in_flight else []
             found += [f"Ack={connection.in_order}"] if connection.in_order > connection.ack_sent else []
+            _, free, least = self.space(connection) or (0, 0, 1)
+            found += [f"a window update to {free}"] if connection.edge and connection.in_order + free >= connection.edge + least else []
         return ", ".join(found + [f"a datagram to {address}" for address in self.datagrams])
 
     def reason(self, wake, now, peer_frames, peer, row):

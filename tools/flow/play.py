@@ -62,6 +62,10 @@ def seconds(micros):
     return f"{micros // 1_000_000}.{micros % 1_000_000:06} s"
 
 
+def bytes_text(count):
+    return f"{count} byte" + ("s" if count != 1 else "")
+
+
 class Programs:
     """Where the simulator is: as given, or else the proved program, or a quick build."""
 

@@ -3,7 +3,7 @@ from dataclasses import dataclass, field
 
 from history import OTHER
 from hosts import MOST_REQUESTS, Host, buffers_of
-from play import CALLS, POLLS, number, seconds
+from play import CALLS, POLLS, bytes_text, number, seconds
 from svg import cut
 from tcp import listed
 
@@ -26,10 +26,6 @@ class Row:
     sent: list = field(default_factory=list)
     taken: list = field(default_factory=list)
     opens_wait: dict = field(default_factory=dict)
-
-
-def bytes_text(count):
-    return f"{count} byte" + ("s" if count != 1 else "")
 
 
 def wrapped(words, lines=3):
@@ -121,6 +117,8 @@ class Rows:
         row = Row(at, step, moment, self.now, sent=self.by_row.get(at, []), taken=self.taken_at.get(at, []))
         name = words[1] if len(words) > 1 and words[1] in OTHER else None
         host = self.hosts.get(name)
+        for owner, wake in step.wakes.items():
+            self.end_wait(owner, wake, moment, at)
         for handing in row.taken:
             self.hosts[handing.to].on_taken(handing, moment)
         if words[0] != "cut":
@@ -203,12 +201,20 @@ class Rows:
         other = OTHER[owner]
         return self.hosts[owner].reason(wake, now, self.history.frames[other], self.hosts[other] if self.history.run.kind != "one" else None, row)
 
+    def end_wait(self, owner, wake, moment, row):
+        """Keeps the longest wait of a host, where it ends, and why it was, by what was known just before."""
+        host = self.hosts[owner]
+        if host.ends_longest(wake, moment):
+            began, until, told = host.waiting
+            name, more = self.reason(owner, until, told, row - 1)
+            host.longest = began, moment, f"{name}: {more}" if more else name
+
     def wake(self, row, owner, wake):
         """When the host wants to be polled, where that changed or the script asked, and why."""
         host, asked = self.hosts[owner], row.step.words[0] == "pollat"
         host.wake = wake
         name, more = (None, None) if wake is None else self.reason(owner, wake, row.moment, row.at)
-        host.on_wake(wake, row.moment, f"{name}: {more}" if more else name)
+        host.on_wake(wake, row.moment)
         changed, host.told = host.told != (wake, name), (wake, name)
         still = "" if changed else "still "
         if wake is None:

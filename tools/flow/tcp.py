@@ -115,11 +115,15 @@ class When:
         return "received and SACKed" if fate == "received" and is_sacked else fate
 
     def fates(self, frames, sacked=()):
-        """What became of frames, those of one fate together: texts of their names and the fate."""
+        """What became of frames, those of one fate together: pairs of their names and the fate."""
         found = {}
         for frame in frames:
             found.setdefault(self.fate(frame, sacked), []).append(frame.number)
-        return [f"{listed(numbers)} {fate}" for fate, numbers in found.items()]
+        return [(listed(numbers), fate) for fate, numbers in found.items()]
+
+    def told(self, frames):
+        """The same as a text."""
+        return ", ".join(f"{names} ({fate})" for names, fate in self.fates(frames))
 
 
 def name_of(left, right, frame):
@@ -160,11 +164,11 @@ def untaken(connection, peer_frames, when, is_sought):
 
 def why_unacknowledged(connection, peer_frames, when):
     """What isn't acknowledged and what became of it, and of the acknowledgements of it."""
-    told = [f"{name_of(left, right, frames[0])} ({', '.join(when.fates(frames, connection.sacked))})"
+    told = [f"{name_of(left, right, frames[0])} ({', '.join(map(' '.join, when.fates(frames, connection.sacked)))})"
             for left, right, frames in ranges_of(connection.unacknowledged, lambda frame: when.fate(frame, connection.sacked))]
     acks = untaken(connection, peer_frames, when, lambda segment: segment.ack_rel > connection.una)
     words = "no ACK yet of " + "; ".join(told)
-    return words + (f"; {acks[0].host} sent it in {', '.join(when.fates(acks))}" if acks else "")
+    return words + (f"; {acks[0].host} sent it in {when.told(acks)}" if acks else "")
 
 
 def why_unsent(connection, state, unsent):
@@ -180,7 +184,7 @@ def why_closed(connection, unsent, peer_frames, peer, when):
     words = f"the peer's window is 0, {max(unsent, 0)} unsent"
     updates = untaken(connection, peer_frames, when, lambda segment: segment.ack_rel + segment.window > max(connection.una, connection.nxt))
     if updates:
-        return f"{words}; {updates[0].host} announced space in {', '.join(when.fates(updates))}"
+        return f"{words}; {updates[0].host} announced space in {when.told(updates)}"
     there = peer and peer.connections.get((connection.remote, connection.local))
     return words + (f"; {peer.why_no_space(there)}" if there and peer.why_no_space(there) else "")
 

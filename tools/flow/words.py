@@ -101,7 +101,8 @@ def streams(history, rows, only=None):
             there = to.connections.get((ends[1 - k], ends[k]))
             unread = min(to.unread(there), max(written - read, 0)) if there else 0
             ended = ", end read" if receiver in to.finished else ""
-            waits = f", {unread} wait in {reader}'s socket" if unread else ""
+            is_closed = to.state_of(ends[1 - k][1]) == "CLOSED"
+            waits = f", {unread} more arrived" if unread and is_closed else f", {unread} wait in {reader}'s socket" if unread else ""
             nobody = ": nobody called recv" if unread and receiver not in to.readers else ""
             known = f"{read} of {written} bytes read{ended}{waits}{nobody}" if history.run.kind != "one" else f"{written} bytes written"
             yield f"{writer} {ends[k][1]} to {reader if history.run.kind != 'one' else 'the link'} {ends[1 - k][1]}: {known}"
@@ -159,7 +160,8 @@ def remarks(history, rows, only=None):
     yield from ((title, words) for title, words in on_link(history, only) if words)
     for name, host in rows.hosts.items():
         if host.silent:
-            silent, many = ", ".join(f"{address} at {seconds(at)}" for address, (_, at) in host.silent.items()), len(host.silent) > 1
+            silent = ", ".join(f"{address} at {' and '.join(map(seconds, at))}" for address, (_, at) in host.silent.items())
+            many = len(host.silent) > 1
             yield ("Neighbors that never answered" if many else "A neighbor that never answered",
                    f"{name} gave up on {silent}, and dropped what waited for {'them' if many else 'it'}")
     for name, host in rows.hosts.items():

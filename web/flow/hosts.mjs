@@ -1,7 +1,7 @@
 // What each host is doing: its sockets' states, its connections' numbers, and why it waits. As tools/flow/hosts.py. States and moments are the
 // simulator's answers; the reason of a wait is the one whose moment is the one answered, or else the one that the frames leave.
 import {keyOf, turned} from './frames.mjs';
-import {number} from './play.mjs';
+import {bytesText, number} from './play.mjs';
 import {Connection, NEIGHBOR, When, timers} from './tcp.mjs';
 
 // A neighbor that doesn't answer so many requests is given up, and what is for it is dropped.
@@ -95,13 +95,17 @@ export class Host {
         return Math.max(connection.accepted() - (this.read.get(this.socketOf(connection.ends[0].port)) ?? 0), 0);
     }
 
+    // Of its receive buffer the size, how much is free, and from how much on more is announced; or null.
+    space(connection) {
+        const size = this.buffers.get(this.socketOf(connection.ends[0].port)) ?? null;
+        return size === null ? null : [size, size - this.unread(connection), Math.min(Math.floor((size + 1) / 2), connection.ownMss)];
+    }
+
     // Why it announces no space: what is free of its buffer, and from where on that is announced.
     whyNoSpace(connection) {
-        const size = this.buffers.get(this.socketOf(connection.ends[0].port)) ?? null, unread = this.unread(connection);
-        if (size === null || !unread) return '';
-        const free = size - unread, least = Math.min(Math.floor((size + 1) / 2), connection.ownMss);
-        if (free <= 0) return `${unread} bytes wait in ${this.name}'s socket to be read, and fill it`;
-        if (free >= least) return '';
+        const [size, free, least] = this.space(connection) ?? [0, 0, 0];
+        if (free === size || free >= least && least > 0) return '';
+        if (free <= 0) return `${bytesText(size - free)} in ${this.name}'s socket wait to be read, and fill it`;
         return `${free} of ${size} bytes are free in ${this.name}'s socket, which announces space from ${least} on, or when all is read`;
     }
 
@@ -113,7 +117,7 @@ export class Host {
     // Those that are told of for the first time since they were asked.
     newlyGivenUp(now) {
         const found = this.givenUp(now).filter((address) => this.silent.get(address)?.[0] !== this.asked.get(address));
-        for (const address of found) this.silent.set(address, [this.asked.get(address), now]);
+        for (const address of found) this.silent.set(address, [this.asked.get(address), [...this.silent.get(address)?.[1] ?? [], now]]);
         this.datagrams = this.datagrams.filter((address) => !found.includes(address));
         return found;
     }
@@ -140,14 +144,16 @@ export class Host {
         return found;
     }
 
-    // Keeps the longest wait for a moment, as where it began, where it ended, and why.
-    onWake(wake, now, why) {
-        if (this.waiting && this.waiting[1] !== wake) {
-            const [began, , old] = this.waiting;
-            if (now > began && (!this.longest || now - began > this.longest[1] - this.longest[0])) this.longest = [began, now, old];
-            this.waiting = null;
-        }
-        if (wake !== null && wake > now) this.waiting = [this.waiting?.[0] ?? now, wake, why];
+    // Whether what it is told now ends a wait, the longest so far.
+    endsLongest(wake, now) {
+        if (!this.waiting || this.waiting[1] === wake) return false;
+        return now - this.waiting[0] > (this.longest ? this.longest[1] - this.longest[0] : 0n);
+    }
+
+    // Keeps the wait for a moment: where it began, the moment, and where it was last told of.
+    onWake(wake, now) {
+        if (this.waiting && this.waiting[1] !== wake) this.waiting = null;
+        if (wake !== null && wake > now) this.waiting = [this.waiting?.[0] ?? now, wake, now];
     }
 
     // What it has to send at once, as far as calls and frames say.
@@ -156,8 +162,10 @@ export class Host {
         for (const connection of this.connections.values()) {
             const unsent = this.queuedOf(connection) + 1 - connection.nxt, inFlight = connection.nxt - connection.una;
             const mayGo = inFlight === 0 || unsent >= connection.peerMss;
-            if (unsent > 0 && mayGo && (connection.allowed ?? 0) > inFlight) found.push(`${unsent} bytes`);
+            if (unsent > 0 && mayGo && (connection.allowed ?? 0) > inFlight) found.push(bytesText(unsent));
             if (connection.inOrder > connection.ackSent) found.push(`Ack=${connection.inOrder}`);
+            const [, free, least] = this.space(connection) ?? [0, 0, 1];
+            if (connection.edge && connection.inOrder + free >= connection.edge + least) found.push(`a window update to ${free}`);
         }
         return [...found, ...this.datagrams.map((address) => `a datagram to ${address}`)].join(', ');
     }

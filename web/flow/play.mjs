@@ -22,6 +22,10 @@ export function seconds(micros) {
     return `${micros / 1_000_000n}.${String(micros % 1_000_000n).padStart(6, '0')} s`;
 }
 
+export function bytesText(count) {
+    return `${count} byte${count === 1 ? '' : 's'}`;
+}
+
 export function isComment(line) {
     return line === '' || line.startsWith('#');
 }

@@ -1,7 +1,7 @@
 // A row for each event: what stands beside each host's lane, and which frames leave there. As tools/flow/rows.py.
 import {bytesOfHex, hexOf} from './frames.mjs';
 import {Host, MOST_REQUESTS, buffersOf} from './hosts.mjs';
-import {CALLS, OTHER, POLLS, seconds} from './play.mjs';
+import {CALLS, OTHER, POLLS, bytesText, seconds} from './play.mjs';
 import {cut} from './svg.mjs';
 import {listed} from './tcp.mjs';
 
@@ -9,10 +9,6 @@ import {listed} from './tcp.mjs';
 export const BESIDE = 56;
 // What a poll's answer says.
 const ANSWERS = {changed: 'a socket changed', none: 'no socket changed'};
-
-function bytesText(count) {
-    return `${count} byte${count === 1 ? '' : 's'}`;
-}
 
 // A reason in at most so many lines of a lane.
 export function wrapped(words, lines = 3) {
@@ -102,6 +98,7 @@ export class Rows {
         const row = {at, step, moment, now: this.now, beside: {A: [], B: []}, middle: [], sent: this.byRow.get(at) ?? [],
                      taken: this.takenAt.get(at) ?? [], opensWait: {}};
         const name = words[1] in OTHER ? words[1] : null;
+        for (const [owner, wake] of Object.entries(step.wakes)) this.endWait(owner, wake, moment, at);
         for (const handing of row.taken) this.hosts[handing.to].onTaken(handing, moment);
         if (words[0] !== 'cut') for (const frame of row.sent) this.hosts[frame.host].onSent(frame);
         if (name !== null) {
@@ -184,12 +181,20 @@ export class Rows {
         return this.hosts[owner].reason(wake, now, this.history.frames[other], this.hosts[other], row);
     }
 
+    // Keeps the longest wait of a host, where it ends, and why it was, by what was known just before.
+    endWait(owner, wake, moment, row) {
+        const host = this.hosts[owner];
+        if (!host.endsLongest(wake, moment)) return;
+        const [began, until, told] = host.waiting, [name, more] = this.reason(owner, until, told, row - 1);
+        host.longest = [began, moment, more ? `${name}: ${more}` : name];
+    }
+
     // When the host wants to be polled, where that changed or the script asked, and why.
     wake(row, owner, wake) {
         const host = this.hosts[owner], asked = row.step.words[0] === 'pollat';
         host.wake = wake;
         const [name, more] = wake === null ? [null, null] : this.reason(owner, wake, row.moment, row.at);
-        host.onWake(wake, row.moment, more ? `${name}: ${more}` : name);
+        host.onWake(wake, row.moment);
         const told = wake === null ? null : `${wake} ${name}`, changed = host.told !== told;
         host.told = told;
         const still = changed ? '' : 'still ';

@@ -90,14 +90,19 @@ export class When {
         return fate === 'received' && isSacked ? 'received and SACKed' : fate;
     }
 
-    // What became of frames, those of one fate together: texts of their names and the fate.
+    // What became of frames, those of one fate together: pairs of their names and the fate.
     fates(frames, sacked = []) {
         const found = new Map();
         for (const frame of frames) {
             const fate = this.fate(frame, sacked);
             found.set(fate, [...found.get(fate) ?? [], frame.number]);
         }
-        return [...found].map(([fate, numbers]) => `${listed(numbers)} ${fate}`);
+        return [...found].map(([fate, numbers]) => [listed(numbers), fate]);
+    }
+
+    // The same as a text.
+    told(frames) {
+        return this.fates(frames).map(([names, fate]) => `${names} (${fate})`).join(', ');
     }
 }
 
@@ -145,9 +150,9 @@ function untaken(connection, peerFrames, when, isSought) {
 // What isn't acknowledged and what became of it, and of the acknowledgements of it.
 function whyUnacknowledged(connection, peerFrames, when) {
     const told = rangesOf(connection.unacknowledged, (frame) => when.fate(frame, connection.sacked)).map(([left, right, frames]) =>
-        `${nameOf(left, right, frames[0])} (${when.fates(frames, connection.sacked).join(', ')})`);
+        `${nameOf(left, right, frames[0])} (${when.fates(frames, connection.sacked).map((pair) => pair.join(' ')).join(', ')})`);
     const acks = untaken(connection, peerFrames, when, (segment) => segment.ackRel > connection.una);
-    return `no ACK yet of ${told.join('; ')}${acks.length ? `; ${acks[0].host} sent it in ${when.fates(acks).join(', ')}` : ''}`;
+    return `no ACK yet of ${told.join('; ')}${acks.length ? `; ${acks[0].host} sent it in ${when.told(acks)}` : ''}`;
 }
 
 // Which bytes wait with those that aren't acknowledged, and whether Nagle's rule alone keeps them.
@@ -161,7 +166,7 @@ function whyUnsent(connection, state, unsent) {
 function whyClosed(connection, unsent, peerFrames, peer, when) {
     const words = `the peer's window is 0, ${Math.max(unsent, 0)} unsent`, reached = Math.max(connection.una, connection.nxt);
     const updates = untaken(connection, peerFrames, when, (segment) => segment.ackRel + segment.window > reached);
-    if (updates.length) return `${words}; ${updates[0].host} announced space in ${when.fates(updates).join(', ')}`;
+    if (updates.length) return `${words}; ${updates[0].host} announced space in ${when.told(updates)}`;
     const there = peer.connections.get(keyOf(turned(connection.ends))), why = there ? peer.whyNoSpace(there) : '';
     return words + (why ? `; ${why}` : '');
 }

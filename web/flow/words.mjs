@@ -45,7 +45,8 @@ function* streams(history, rows) {
             const written = from.queued.get(from.socketOf(ends[k].port)) ?? 0, read = to.read.get(receiver) ?? 0;
             const there = to.connections.get(keyOf([ends[1 - k], ends[k]]));
             const unread = there ? Math.min(to.unread(there), Math.max(written - read, 0)) : 0;
-            const end = to.finished.has(receiver) ? ', end read' : '', waits = unread ? `, ${unread} wait in ${reader}'s socket` : '';
+            const end = to.finished.has(receiver) ? ', end read' : '', isClosed = to.stateOf(ends[1 - k].port) === 'CLOSED';
+            const waits = !unread ? '' : isClosed ? `, ${unread} more arrived` : `, ${unread} wait in ${reader}'s socket`;
             const nobody = unread && !to.readers.has(receiver) ? ': nobody called recv' : '';
             yield `${writer} ${ends[k].port} to ${reader} ${ends[1 - k].port}: ${read} of ${written} bytes read${end}${waits}${nobody}`;
         }
@@ -100,7 +101,7 @@ function onLink(history) {
 export function remarks(history, rows) {
     const said = onLink(history);
     for (const [name, {silent}] of Object.entries(rows.hosts)) {
-        const many = silent.size > 1, told = [...silent].map(([address, [, at]]) => `${address} at ${seconds(at)}`).join(', ');
+        const many = silent.size > 1, told = [...silent].map(([address, [, at]]) => `${address} at ${at.map(seconds).join(' and ')}`).join(', ');
         if (silent.size) {
             said.push([many ? 'Neighbors that never answered' : 'A neighbor that never answered',
                        `${name} gave up on ${told}, and dropped what waited for ${many ? 'them' : 'it'}`]);
