@@ -7,8 +7,8 @@ from svg import element, escaped, line, text
 
 WIDE, TALL, LEFT, FOOT, HEAD = 680, 230, 76, 26, 26
 STEP, HALF = 12, 2**31
-# A character of a label, and how high it is.
-CHAR, HIGH = 7, 11
+# A character of a label, how high it is, and the squares in which places are counted.
+CHAR, HIGH, SQUARE = 7, 11, 4
 # At most so many round numbers stand at an axis.
 MOMENTS, NUMBERS = 8, 5
 
@@ -73,8 +73,10 @@ def graph(history, ends, host):
     title = f"{host} {there[0][1]} to {OTHER[host]} {there[1][1]}: sequence numbers over time"
     parts = [element("rect", x=0, y=0, width=WIDE, height=TALL, class_="paper"), text(8, 15, title, "call"), *scale(at)]
     labels = Labels()
-    parts += [mark for frame in sorted(sent, key=importance) for mark in bars(at, frame, labels)]
-    parts += steps(at, came)
+    lines = list(steps(at, came, labels))
+    for frame in sent:
+        labels.keep_free([(at.x(frame), at.y(frame.seen.tcp.end)), (at.x(frame), at.y(frame.seen.tcp.seq_rel))])
+    parts += [mark for frame in sorted(sent, key=importance) for mark in bars(at, frame, labels)] + lines
     return element("svg", "".join(parts), width=WIDE, height=TALL, viewBox=f"0 0 {WIDE} {TALL}", xmlns="http://www.w3.org/2000/svg",
                    style="display:inline-block")
 
@@ -125,18 +127,26 @@ def scale(at):
 
 
 class Labels:
-    """Places of texts that don't meet."""
+    """Places of texts that don't meet one another, a bar or a line. What is taken are squares of so many pixels."""
 
     def __init__(self):
-        self.taken = []
+        self.taken = set()
+
+    def squares(self, left, top, right, bottom):
+        return [(x, y) for x in range(left // SQUARE, right // SQUARE + 1) for y in range(top // SQUARE, bottom // SQUARE + 1)]
+
+    def keep_free(self, points):
+        """Takes the squares of lines across and down."""
+        for (x1, y1), (x2, y2) in zip(points, points[1:]):
+            self.taken.update(self.squares(min(x1, x2), min(y1, y2), max(x1, x2), max(y1, y2)))
 
     def place(self, x, y, words):
-        """A text beside a bar at x: right of it, left of it, or a line higher or lower; nothing where there is no place."""
+        """A text beside a bar at x: right or left of it, as high or up to two lines off; nothing where there is no place."""
         width = len(words) * CHAR
-        for left, base in ((x + 4, y), (x - 4 - width, y), (x + 4, y - HIGH), (x + 4, y + HIGH)):
-            meets = any(left < other + wide and other < left + width and abs(base - line_) < HIGH for other, wide, line_ in self.taken)
-            if not meets and LEFT < left and left + width <= WIDE and HEAD <= base <= TALL - FOOT:
-                self.taken.append((left, width, base))
+        for left, base in ((left, y + HIGH * off) for off in (0, -1, 1, -2, 2) for left in (x + 4, x - 4 - width)):
+            found = self.squares(left, base - HIGH + 2, left + width, base + 1)
+            if LEFT < left and left + width <= WIDE and HEAD <= base <= TALL - FOOT and self.taken.isdisjoint(found):
+                self.taken.update(found)
                 return text(left, base, words, "axis")
         return ""
 
@@ -161,7 +171,7 @@ def bars(at, frame, labels):
         yield labels.place(x, min(high, low - 4) + 8, frame.name + lost)
 
 
-def steps(at, came):
+def steps(at, came, labels):
     """The acknowledgements that came, what they allow, and what they say was received out of order."""
     acked, allowed, best, edge = [], [], None, None
     for handing in came:
@@ -169,16 +179,19 @@ def steps(at, came):
         if (segment.ack_rel - at.base) % 2**32 >= HALF:
             continue
         for points, old in ((acked, best), (allowed, edge)):
-            points += [f"{x},{at.y(old)}"] if old is not None else []
+            points += [(x, at.y(old))] if old is not None else []
         best = max(best or 0, segment.ack_rel)
         edge = max(edge or 0, segment.ack_rel + segment.window)
-        acked.append(f"{x},{at.y(best)}")
-        allowed.append(f"{x},{at.y(edge)}")
+        acked.append((x, at.y(best)))
+        allowed.append((x, at.y(edge)))
         for left, right in segment.sacks:
+            labels.keep_free([(x + 3, at.y(right)), (x + 3, at.y(left))])
             yield line(x + 3, at.y(left), x + 3, at.y(right), "sack", f"SACK {left}:{right}")
-    if best is not None:
-        yield element("polyline", points=" ".join([*acked, f"{WIDE - 10},{at.y(best)}"]), class_="acked")
-        yield element("polyline", points=" ".join([*allowed, f"{WIDE - 10},{at.y(edge)}"]), class_="allowed")
+    for points, last, class_ in ((acked, best, "acked"), (allowed, edge, "allowed")):
+        if best is not None:
+            points.append((WIDE - 10, at.y(last)))
+            labels.keep_free(points)
+            yield element("polyline", points=" ".join(f"{x},{y}" for x, y in points), class_=class_)
 
 
 def graphs(history, only=None):

@@ -13,8 +13,8 @@ or 1 where a script ended early; what ran before is drawn.
 
 Read from the script and its answers: which frames were sent and their bytes, deliveries, damage, fragments, noise, calls, and which poll took
 a frame (a poll takes waiting frames in order, as many as its budget). Asked of the simulator behind each event: the states of TCP sockets and
-when the host wants to be polled. Read from frames: numbers, windows, options, what was a retransmission. Concluded from frames: why a host
-wants to be polled. Not known, and not shown: congestion windows, retransmission timeouts, round-trip times; what happens within the lines
+when the host wants to be polled. Read from frames: numbers, windows, options, what was a retransmission. Concluded from frames, calls and the
+sizes of buffers: why a host wants to be polled, what waits in a socket, who ended a connection. Not known, and not shown: congestion windows, retransmission timeouts, round-trip times; what happens within the lines
 `rounds` and `settle`; and how many frames a poll took in which the device's room ran out (those are marked).
 """
 import os

@@ -61,7 +61,7 @@ def section(run, only):
     drawn = only.rows(rows) if only else rows.rows
     lanes = Lanes(drawn, history, rows)
     said = [element("li", element("b", escaped(f"{name}: ")) + escaped(cut(words, LONGEST))) for name, words in remarks(history, rows, only)]
-    said += [element("li", element("b", "Refused: ") + escaped(cut(f"line {number}, `{line_}`: {answer}", 300)), class_="bad")
+    said += [element("li", element("b", "Refused: ") + escaped(f"line {number}, `{cut(line_, 100)}`: {answer}"), class_="bad")
              for number, line_, answer in errors(history)]
     header = escaped("; ".join(run.header))
     return "".join([element("p", element("code", header)), element("p", element("b", escaped(counts(history, only)))), ended(run),

@@ -4,8 +4,8 @@ import {OTHER} from './play.mjs';
 import {element, escaped, line, text} from './svg.mjs';
 
 const WIDE = 680, HIGH = 230, LEFT = 76, FOOT = 26, HEAD = 26, STEP = 12, HALF = 2 ** 31;
-// A character of a label, and how high it is.
-const CHAR = 7, LINE = 11;
+// A character of a label, how high it is, and the squares in which places are counted.
+const CHAR = 7, LINE = 11, SQUARE = 4;
 // At most so many round numbers stand at an axis.
 const MOMENTS = 8n, NUMBERS = 5n;
 
@@ -62,9 +62,10 @@ function graph(history, ends, host) {
     if (!sent.length) return '';
     const at = axes(history, sent, came), labels = new Labels();
     const title = `${host} ${there[0].port} to ${OTHER[host]} ${there[1].port}: sequence numbers over time`;
+    const lines = steps(at, came, labels);
+    for (const frame of sent) labels.keepFree([[at.x(frame), at.y(frame.seen.tcp.end)], [at.x(frame), at.y(frame.seen.tcp.seqRel)]]);
     const parts = [element('rect', '', {x: 0, y: 0, width: WIDE, height: HIGH, class: 'paper'}), text(8, 15, title, 'call'), ...scale(at),
-                   ...[...sent].sort((one, other) => importance(one) - importance(other)).flatMap((frame) => bars(at, frame, labels)),
-                   ...steps(at, came)];
+                   ...[...sent].sort((one, other) => importance(one) - importance(other)).flatMap((frame) => bars(at, frame, labels)), ...lines];
     return element('svg', parts.join(''), {width: WIDE, height: HIGH, viewBox: `0 0 ${WIDE} ${HIGH}`, xmlns: 'http://www.w3.org/2000/svg',
                                            style: 'display:inline-block'});
 }
@@ -111,19 +112,37 @@ function scale(at) {
     return parts;
 }
 
-// Places of texts that don't meet.
+// Places of texts that don't meet one another, a bar or a line. What is taken are squares of so many pixels.
 class Labels {
     constructor() {
-        this.taken = [];
+        this.taken = new Set();
     }
 
-    // A text beside a bar at x: right of it, left of it, or a line higher or lower; nothing where there is no place.
+    squares(left, top, right, bottom) {
+        const found = [], at = (pixel) => Math.floor(pixel / SQUARE);
+        for (let x = at(left); x <= at(right); x++) for (let y = at(top); y <= at(bottom); y++) found.push(x * 1000 + y);
+        return found;
+    }
+
+    take(found) {
+        for (const it of found) this.taken.add(it);
+    }
+
+    // Takes the squares of lines across and down.
+    keepFree(points) {
+        points.slice(1).forEach(([x2, y2], k) => {
+            const [x1, y1] = points[k];
+            this.take(this.squares(Math.min(x1, x2), Math.min(y1, y2), Math.max(x1, x2), Math.max(y1, y2)));
+        });
+    }
+
+    // A text beside a bar at x: right or left of it, as high or up to two lines off; nothing where there is no place.
     place(x, y, words) {
         const width = words.length * CHAR;
-        for (const [left, base] of [[x + 4, y], [x - 4 - width, y], [x + 4, y - LINE], [x + 4, y + LINE]]) {
-            const meets = this.taken.some(([other, wide, line_]) => left < other + wide && other < left + width && Math.abs(base - line_) < LINE);
-            if (!meets && LEFT < left && left + width <= WIDE && HEAD <= base && base <= HIGH - FOOT) {
-                this.taken.push([left, width, base]);
+        for (const [left, base] of [0, -1, 1, -2, 2].flatMap((off) => [x + 4, x - 4 - width].map((left) => [left, y + LINE * off]))) {
+            const found = this.squares(left, base - LINE + 2, left + width, base + 1);
+            if (LEFT < left && left + width <= WIDE && HEAD <= base && base <= HIGH - FOOT && !found.some((it) => this.taken.has(it))) {
+                this.take(found);
                 return text(left, base, words, 'axis');
             }
         }
@@ -151,25 +170,30 @@ function bars(at, frame, labels) {
 }
 
 // The acknowledgements that came, what they allow, and what they say was received out of order.
-function steps(at, came) {
+function steps(at, came, labels) {
     const acked = [], allowed = [], parts = [];
     let best = null, edge = null;
     for (const handing of came) {
         const segment = handing.seen.tcp, x = at.x(handing);
         if (offset(segment.ackRel, at.base) >= HALF) continue;
         if (best !== null) {
-            acked.push(`${x},${at.y(best)}`);
-            allowed.push(`${x},${at.y(edge)}`);
+            acked.push([x, at.y(best)]);
+            allowed.push([x, at.y(edge)]);
         }
         best = Math.max(best ?? 0, segment.ackRel);
         edge = Math.max(edge ?? 0, segment.ackRel + segment.window);
-        acked.push(`${x},${at.y(best)}`);
-        allowed.push(`${x},${at.y(edge)}`);
-        for (const [left, right] of segment.sacks) parts.push(line(x + 3, at.y(left), x + 3, at.y(right), 'sack', `SACK ${left}:${right}`));
+        acked.push([x, at.y(best)]);
+        allowed.push([x, at.y(edge)]);
+        for (const [left, right] of segment.sacks) {
+            labels.keepFree([[x + 3, at.y(right)], [x + 3, at.y(left)]]);
+            parts.push(line(x + 3, at.y(left), x + 3, at.y(right), 'sack', `SACK ${left}:${right}`));
+        }
     }
-    if (best !== null) {
-        parts.push(element('polyline', '', {points: [...acked, `${WIDE - 10},${at.y(best)}`].join(' '), class: 'acked'}),
-                   element('polyline', '', {points: [...allowed, `${WIDE - 10},${at.y(edge)}`].join(' '), class: 'allowed'}));
+    for (const [points, last, class_] of [[acked, best, 'acked'], [allowed, edge, 'allowed']]) {
+        if (best === null) continue;
+        points.push([WIDE - 10, at.y(last)]);
+        labels.keepFree(points);
+        parts.push(element('polyline', '', {points: points.map((point) => point.join(',')).join(' '), class: class_}));
     }
     return parts;
 }

@@ -54,7 +54,7 @@ export function section(run) {
     const history = new History(run), rows = new Rows(history), lanes = new Lanes(rows, history);
     const said = remarks(history, rows).map(([name, words]) => element('li', element('b', escaped(`${name}: `)) + escaped(cut(words, LONGEST))));
     said.push(...errors(history).map((step) => element('li', element('b', 'Refused: ') +
-        escaped(cut(`line ${step.number}, \`${step.line}\`: ${step.said}`, 300)), {class: 'bad'})));
+        escaped(`line ${step.number}, \`${cut(step.line, 100)}\`: ${step.said}`), {class: 'bad'})));
     return [element('p', element('code', escaped(run.header.join('; ')))), element('p', element('b', escaped(counts(history)))), ended(run),
             element('ul', said.join('')), element('div', graphs(history).join('') || '&#8203;'), element('div', lanes.parts().join('')),
             table(history)].join('');
