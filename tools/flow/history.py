@@ -86,7 +86,7 @@ def bytes_of(word):
 
 
 class History:
-    """The frames and handings of a run, by the rows of its steps."""
+    """The frames and handings of a run, by the rows of its steps. Of each row `moments` has its moment, `clocks` those of both hosts."""
 
     def __init__(self, run):
         self.run, self.steps = run, run.steps
@@ -96,13 +96,14 @@ class History:
         self.waiting = {"A": [], "B": []}
         self.room = {"A": None, "B": None}
         self.latest = {"A": -1, "B": -1}
-        self.moments, now = [], {"A": 0, "B": 0}
+        self.moments, self.clocks, now = [], [], {"A": 0, "B": 0}
         self.tops = {}
         for row, step in enumerate(run.steps):
             words = step.words
             if words[0] in ("poll", "pollat", "egress", "ingress", "maintain", "delay", "announce", "offer", "clock", "ask") and words[2:]:
                 now[words[1]] = number(words[2]) or 0
             self.moments.append(now.get(words[1] if words[1:] else "", max(now.values())))
+            self.clocks.append(dict(now))
             self.take_step(row, step, words)
         self.moments_of = now
 
@@ -176,7 +177,7 @@ class History:
         frame.handings.append(handing)
         self.hand(handing)
         if self.run.kind == "pair":
-            handing.taken, handing.moment = row, self.moments[row]
+            handing.taken, handing.moment = row, self.clocks[row][handing.to]
             self.waiting[handing.to].clear()
 
     def hand(self, handing):

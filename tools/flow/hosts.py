@@ -39,7 +39,7 @@ class Host:
         self.connections = {}
         self.states = {}
         self.local, self.remote, self.queued, self.read, self.finished = {}, {}, {}, {}, set()
-        self.readers, self.aborted = set(), {}
+        self.readers, self.aborted, self.eager = set(), set(), set()
         self.asked, self.requests, self.datagrams, self.router, self.silent, self.fragments = {}, {}, [], None, {}, {}
         self.wake, self.told = None, (None, None)
         self.waiting, self.longest = None, None
@@ -72,13 +72,15 @@ class Host:
         if seen.fragment:
             self.fragments.setdefault(seen.fragment[0], moment)
 
-    def on_call(self, words, said, moment):
+    def on_call(self, words, said):
         """Keeps ports, bytes accepted and bytes read of a call."""
         socket = number(words[2]) if len(words) > 2 else None
         if words[0] == "recv":
             self.readers.add(socket)
         if words[0] == "abort" and said in ("ok", "done"):
-            self.aborted[socket] = moment
+            self.aborted.add(socket)
+        if words[0] == "set" and words[3:] in (["nagle", "off"], ["nagle_enabled", "off"]):
+            self.eager.add(socket)
         if words[0] == "connect" and said in ("ok", "done"):
             self.local[socket], self.remote[socket] = number(words[4]), address_of(words[3])
         elif words[0] == "sendto" and said == "ok":
@@ -180,8 +182,9 @@ class Host:
         """Why the host wants to be polled then, as a name and more words. `peer` is the other host, and None where there is none."""
         found = [*self.resolving(now), *self.unsent(now)]
         for connection in self.connections.values():
-            state = self.states.get(self.socket_of(connection.local[1]))
-            found += timers(connection, state, self.queued_of(connection), peer_frames, peer, When(row, now))
+            socket = self.socket_of(connection.local[1])
+            connection.is_eager = socket in self.eager
+            found += timers(connection, self.states.get(socket), self.queued_of(connection), peer_frames, peer, When(row, now))
         exact = [it for it in found if it[0] == wake]
         if exact:
             return exact[0][1:]

@@ -182,7 +182,7 @@ class Lanes:
             for name, wake in row.opens_wait.items():
                 if name in open_:
                     self.wait(name, *open_.pop(name), self.top[row.at] + 8, "wait")
-                if wake is not None and wake > row.moment:
+                if wake is not None and wake > self.history.clocks[row.at][name]:
                     open_[name] = self.top[row.at] + 8, wake
         for name, (y, wake) in open_.items():
             self.wait(name, y, wake, self.foot, "wait unanswered")

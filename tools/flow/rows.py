@@ -118,14 +118,14 @@ class Rows:
         name = words[1] if len(words) > 1 and words[1] in OTHER else None
         host = self.hosts.get(name)
         for owner, wake in step.wakes.items():
-            self.end_wait(owner, wake, moment, at)
+            self.end_wait(owner, wake, self.history.clocks[at][owner], at)
         for handing in row.taken:
-            self.hosts[handing.to].on_taken(handing, moment)
+            self.hosts[handing.to].on_taken(handing, self.history.clocks[at][handing.to])
         if words[0] != "cut":
             for frame in row.sent:
                 self.hosts[frame.host].on_sent(frame)
         if host is not None:
-            host.on_call([*words[:2], "0", *words[2:]] if self.history.run.kind == "pair" else words, step.said, moment)
+            host.on_call([*words[:2], "0", *words[2:]] if self.history.run.kind == "pair" else words, step.said)
             self.describe(row, name, words)
         self.link(row, words)
         for (owner, socket), state in step.states.items():
@@ -211,21 +211,21 @@ class Rows:
 
     def wake(self, row, owner, wake):
         """When the host wants to be polled, where that changed or the script asked, and why."""
-        host, asked = self.hosts[owner], row.step.words[0] == "pollat"
+        host, asked, now = self.hosts[owner], row.step.words[0] == "pollat", self.history.clocks[row.at][owner]
         host.wake = wake
-        name, more = (None, None) if wake is None else self.reason(owner, wake, row.moment, row.at)
-        host.on_wake(wake, row.moment)
+        name, more = (None, None) if wake is None else self.reason(owner, wake, now, row.at)
+        host.on_wake(wake, now)
         changed, host.told = host.told != (wake, name), (wake, name)
         still = "" if changed else "still "
         if wake is None:
             if changed or asked:
                 row.beside[owner].append(("dim", f"{still}waits for a frame or a call", None))
             row.opens_wait[owner] = None
-        elif wake <= row.moment and not asked:
+        elif wake <= now and not asked:
             row.opens_wait[owner] = None
         elif changed or asked:
-            when = "now" if wake <= row.moment else f"at {seconds(wake)}"
+            when = "now" if wake <= now else f"at {seconds(wake)}"
             row.beside[owner].append(("timer", f"{still}wants a poll {when}: {name}", f"{name}: {more}" if more else name))
-            if more and changed and wake > row.moment:
+            if more and changed and wake > now:
                 row.beside[owner] += [("why", words, more) for words in wrapped(more)]
             row.opens_wait[owner] = wake

@@ -15,7 +15,8 @@ NO_MSS, OPTIONS = 536, 40
 
 @dataclass
 class Connection:
-    """One side of a connection, in relative numbers. `edge` is the right edge that it announced, `fin` the end of the peer's stream."""
+    """One side of a connection, in relative numbers. `edge` is the right edge that it announced, `fin` the end of the peer's stream.
+    `is_eager` where Nagle's rule is off."""
 
     local: tuple
     remote: tuple
@@ -33,6 +34,7 @@ class Connection:
     fin: int = None
     own_mss: int = NO_MSS
     peer_mss: int = NO_MSS
+    is_eager: bool = False
 
     def on_sent(self, frame):
         segment = frame.seen.tcp
@@ -175,7 +177,7 @@ def why_unsent(connection, state, unsent):
     """Which bytes wait with those that aren't acknowledged, and whether Nagle's rule alone keeps them."""
     if unsent <= 0 or connection.nxt <= connection.una:
         return ""
-    is_short = unsent <= connection.peer_mss - OPTIONS and state in ("ESTABLISHED", "CLOSE-WAIT")
+    is_short = unsent <= connection.peer_mss - OPTIONS and state in ("ESTABLISHED", "CLOSE-WAIT") and not connection.is_eager
     return f"; {unsent} more unsent" + (": less than a segment, which waits for that ACK (Nagle's rule)" if is_short else "")
 
 
