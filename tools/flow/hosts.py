@@ -122,7 +122,7 @@ class Host:
         if free == size or free >= least > 0:
             return ""
         if free <= 0:
-            return f"{bytes_text(size - free)} in {self.name}'s socket wait to be read, and fill it"
+            return f"{self.name}'s socket is full, with {bytes_text(size - free)} to be read"
         return f"{free} of {size} bytes are free in {self.name}'s socket, which announces space from {least} on, or when all is read"
 
     def given_up(self, now):

@@ -9,8 +9,8 @@ from tcp import listed
 
 # A line beside a lane has so many characters at most.
 BESIDE = 56
-# What a poll's answer says; of a case of two sockets, an offer's.
-ANSWERS = {"changed": "a socket changed", "none": "no socket changed", "packet": "a segment", "silent": "nothing to send"}
+# What a poll's answer says; of a case of two sockets, an offer's. A poll that took or sent something may have changed a socket: of it that isn't said.
+ANSWERS = {"changed": "a socket may have changed", "none": "no socket changed", "packet": "a segment", "silent": "nothing to send"}
 
 
 @dataclass
@@ -62,7 +62,7 @@ def poll_text(row, took):
     unsure = " or an earlier poll did" if any(handing.is_unsure for handing in row.taken) else ""
     done = [f"takes {took}{unsure}"] if took else []
     done += [f"sends {listed(frame.number for frame in row.sent)}"] if row.sent else []
-    return f"{name} {', '.join(done)}".rstrip() + f": {ANSWERS.get(said, said)}"
+    return f"{name} {', '.join(done)}".rstrip() + ("" if done and said == "changed" else f": {ANSWERS.get(said, said)}")
 
 
 def data_text(word):
@@ -141,7 +141,7 @@ class Rows:
         refused = said.startswith(("error", "refused"))
         if words[0] in POLLS or words[0] in ("offer", "ask", "settle", "rounds"):
             text = poll_text(row, takes(row.taken))
-            beside.append(("poll", text, row.step.line if len(text) <= BESIDE else f"{row.step.line}: {text}"))
+            beside.append(("poll", text, f"{row.step.line} → {said}" + ("" if len(text) <= BESIDE else f": {text}")))
             beside += [("refused", f"gives up on {address}, drops what waited: {MOST_REQUESTS} requests, no answer", None)
                        for address in self.hosts[name].newly_given_up(row.moment)]
             room = self.history.room[name]

@@ -174,9 +174,12 @@ def why_unacknowledged(connection, peer_frames, when):
 
 
 def why_unsent(connection, state, unsent):
-    """Which bytes wait with those that aren't acknowledged, and whether Nagle's rule alone keeps them."""
-    if unsent <= 0 or connection.nxt <= connection.una:
+    """Which bytes wait with those that aren't acknowledged, and whether the window or Nagle's rule keeps them."""
+    in_flight, allowed = connection.nxt - connection.una, connection.allowed or 0
+    if unsent <= 0 or in_flight <= 0:
         return ""
+    if in_flight + min(unsent, connection.peer_mss) > allowed:
+        return f"; {unsent} more unsent: the peer's window is {allowed}"
     is_short = unsent <= connection.peer_mss - OPTIONS and state in ("ESTABLISHED", "CLOSE-WAIT") and not connection.is_eager
     return f"; {unsent} more unsent" + (": less than a segment, which waits for that ACK (Nagle's rule)" if is_short else "")
 

@@ -105,7 +105,7 @@ export class Host {
     whyNoSpace(connection) {
         const [size, free, least] = this.space(connection) ?? [0, 0, 0];
         if (free === size || free >= least && least > 0) return '';
-        if (free <= 0) return `${bytesText(size - free)} in ${this.name}'s socket wait to be read, and fill it`;
+        if (free <= 0) return `${this.name}'s socket is full, with ${bytesText(size - free)} to be read`;
         return `${free} of ${size} bytes are free in ${this.name}'s socket, which announces space from ${least} on, or when all is read`;
     }
 

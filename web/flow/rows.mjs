@@ -7,8 +7,8 @@ import {listed} from './tcp.mjs';
 
 // A line beside a lane has so many characters at most.
 export const BESIDE = 56;
-// What a poll's answer says.
-const ANSWERS = {changed: 'a socket changed', none: 'no socket changed'};
+// What a poll's answer says. A poll that took or sent something may have changed a socket: of it that isn't said.
+const ANSWERS = {changed: 'a socket may have changed', none: 'no socket changed'};
 
 // A reason in at most so many lines of a lane.
 export function wrapped(words, lines = 3) {
@@ -41,7 +41,7 @@ function pollText(row, took) {
     const unsure = row.taken.some((handing) => handing.isUnsure) ? ' or an earlier poll did' : '';
     if (took) done.push(`takes ${took}${unsure}`);
     if (row.sent.length) done.push(`sends ${listed(row.sent.map((frame) => frame.number))}`);
-    return `${`${name} ${done.join(', ')}`.trimEnd()}: ${ANSWERS[said] ?? said}`;
+    return `${name} ${done.join(', ')}`.trimEnd() + (done.length && said === 'changed' ? '' : `: ${ANSWERS[said] ?? said}`);
 }
 
 // Bytes read: as text where they are printable, else in hex; 16 at most, and how many there are.
@@ -117,7 +117,7 @@ export class Rows {
         const said = row.step.said, beside = row.beside[name], refused = isRefused(said);
         if (POLLS.includes(words[0])) {
             const text = pollText(row, takes(row.taken));
-            beside.push(['poll', text, text.length <= BESIDE ? row.step.line : `${row.step.line}: ${text}`]);
+            beside.push(['poll', text, `${row.step.line} → ${said}${text.length <= BESIDE ? '' : `: ${text}`}`]);
             for (const address of this.hosts[name].newlyGivenUp(row.moment)) {
                 beside.push(['refused', `gives up on ${address}, drops what waited: ${MOST_REQUESTS} requests, no answer`, null]);
             }

@@ -155,9 +155,11 @@ function whyUnacknowledged(connection, peerFrames, when) {
     return `no ACK yet of ${told.join('; ')}${acks.length ? `; ${acks[0].host} sent it in ${when.told(acks)}` : ''}`;
 }
 
-// Which bytes wait with those that aren't acknowledged, and whether Nagle's rule alone keeps them.
+// Which bytes wait with those that aren't acknowledged, and whether the window or Nagle's rule keeps them.
 function whyUnsent(connection, state, unsent) {
-    if (unsent <= 0 || connection.nxt <= connection.una) return '';
+    const inFlight = connection.nxt - connection.una, allowed = connection.allowed ?? 0;
+    if (unsent <= 0 || inFlight <= 0) return '';
+    if (inFlight + Math.min(unsent, connection.peerMss) > allowed) return `; ${unsent} more unsent: the peer's window is ${allowed}`;
     const isShort = unsent <= connection.peerMss - OPTIONS && ['ESTABLISHED', 'CLOSE-WAIT'].includes(state);
     return `; ${unsent} more unsent${isShort ? ": less than a segment, which waits for that ACK (Nagle's rule)" : ''}`;
 }
