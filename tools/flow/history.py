@@ -6,7 +6,7 @@ runs out within a poll do script and answers not say how many it took: such a fr
 from dataclasses import dataclass, field
 
 from frames import SYN, Decoder, Seen, packet_of
-from play import number
+from play import number, seconds
 
 OTHER = {"A": "B", "B": "A"}
 
@@ -48,13 +48,14 @@ class Frame:
             return "fragmented"
         if self.on_link:
             return "on the link"
-        return "received" if self.taken else "waits at the device"
+        return "received" if self.taken else f"waits at {OTHER[self.host]}'s device"
 
-    def fate_at(self, row):
-        """What had become of it when this row was over."""
-        if self.taken and min(handing.taken for handing in self.taken) > row:
-            return "under way"
-        return self.fate
+    def fate_at(self, row, moment):
+        """What had become of it when this row was over; of one under way then, when it is received."""
+        first = min(self.taken, key=lambda handing: handing.taken, default=None)
+        if first is None or first.taken <= row:
+            return self.fate
+        return "under way" + (f" until {seconds(first.moment)}" if first.moment > moment else "")
 
 
 @dataclass
@@ -71,6 +72,7 @@ class Handing:
     is_again: bool = False
     is_late: bool = False
     taken: int = None
+    moment: int = None
     maybe: int = None
 
     @property
@@ -84,7 +86,7 @@ def bytes_of(word):
 
 
 class History:
-    """The frames and handings of a run, by the rows of its steps."""
+    """The frames and handings of a run, by the rows of its steps. Of each row `moments` has its moment, `clocks` those of both hosts."""
 
     def __init__(self, run):
         self.run, self.steps = run, run.steps
@@ -94,13 +96,14 @@ class History:
         self.waiting = {"A": [], "B": []}
         self.room = {"A": None, "B": None}
         self.latest = {"A": -1, "B": -1}
-        self.moments, now = [], {"A": 0, "B": 0}
+        self.moments, self.clocks, now = [], [], {"A": 0, "B": 0}
         self.tops = {}
         for row, step in enumerate(run.steps):
             words = step.words
             if words[0] in ("poll", "pollat", "egress", "ingress", "maintain", "delay", "announce", "offer", "clock", "ask") and words[2:]:
                 now[words[1]] = number(words[2]) or 0
             self.moments.append(now.get(words[1] if words[1:] else "", max(now.values())))
+            self.clocks.append(dict(now))
             self.take_step(row, step, words)
         self.moments_of = now
 
@@ -164,7 +167,7 @@ class History:
         data, notes = frame.data, []
         if words[0] == "damage":
             at = number(words[3])
-            notes.append(f"damaged: bytes {at}-{at + 1} become {words[4].lower()}")
+            notes.append(f"damaged, TCP bytes {at}-{at + 1}: {words[4].lower()}")
         padding = bytes_of(words[-1]) if self.run.kind != "pair" else b""
         if padding:
             notes.append(f"+ {len(padding)} bytes of padding")
@@ -174,7 +177,7 @@ class History:
         frame.handings.append(handing)
         self.hand(handing)
         if self.run.kind == "pair":
-            handing.taken = row
+            handing.taken, handing.moment = row, self.clocks[row][handing.to]
             self.waiting[handing.to].clear()
 
     def hand(self, handing):
@@ -193,7 +196,7 @@ class History:
         if room is not None and self.room[host] == 0:
             sure = 0
         for handing in waiting[:sure]:
-            handing.taken = row
+            handing.taken, handing.moment = row, self.moments[row]
         for handing in waiting[sure:most]:
             handing.maybe = row if handing.maybe is None else handing.maybe
         del waiting[:sure]

@@ -5,8 +5,8 @@ moment is the one answered, or else the one that the frames leave.
 """
 import re
 
-from play import number
-from tcp import NEIGHBOR, Connection, timers
+from play import bytes_text, number
+from tcp import NEIGHBOR, Connection, When, timers
 
 # A neighbor that doesn't answer so many requests is given up, and what is for it is dropped.
 MOST_REQUESTS = 3
@@ -18,14 +18,28 @@ def address_of(endpoint):
     return ".".join(str(int(part)) for part in words.split(".")) if re.fullmatch(r"\d+(\.\d+){3}", words, re.ASCII) else words.strip("[]")
 
 
-class Host:
-    """A host as the run goes on."""
+def buffers_of(run):
+    """The receive buffers of the TCP sockets, by host and socket."""
+    found, count = {"A": {}, "B": {}}, {"A": 0, "B": 0}
+    for words in (line.split(" ") for line in run.header):
+        if run.kind == "pair" and words[0] == "sockets" and len(words) == 7:
+            found["A"][0], found["B"][0] = number(words[2]), number(words[5])
+        elif words[0] == "socket" and len(words) > 3 and words[1] in count:
+            if words[2] == "tcp":
+                found[words[1]][count[words[1]]] = number(words[3])
+            count[words[1]] += 1
+    return found
 
-    def __init__(self, name):
-        self.name = name
+
+class Host:
+    """A host as the run goes on. `buffers` has the receive buffers of its TCP sockets."""
+
+    def __init__(self, name, buffers):
+        self.name, self.buffers = name, buffers
         self.connections = {}
         self.states = {}
         self.local, self.remote, self.queued, self.read, self.finished = {}, {}, {}, {}, set()
+        self.readers, self.aborted, self.eager = set(), set(), set()
         self.asked, self.requests, self.datagrams, self.router, self.silent, self.fragments = {}, {}, [], None, {}, {}
         self.wake, self.told = None, (None, None)
         self.waiting, self.longest = None, None
@@ -61,6 +75,12 @@ class Host:
     def on_call(self, words, said):
         """Keeps ports, bytes accepted and bytes read of a call."""
         socket = number(words[2]) if len(words) > 2 else None
+        if words[0] == "recv":
+            self.readers.add(socket)
+        if words[0] == "abort" and said in ("ok", "done"):
+            self.aborted.add(socket)
+        if words[0] == "set" and words[3:] in (["nagle", "off"], ["nagle_enabled", "off"]):
+            self.eager.add(socket)
         if words[0] == "connect" and said in ("ok", "done"):
             self.local[socket], self.remote[socket] = number(words[4]), address_of(words[3])
         elif words[0] == "sendto" and said == "ok":
@@ -82,14 +102,38 @@ class Host:
     def queued_of(self, connection):
         return self.queued.get(self.socket_of(connection.local[1]), 0)
 
+    def state_of(self, port):
+        """The state of the one socket at a local port, or None."""
+        found = [self.states.get(socket) for socket, local in self.local.items() if local == port]
+        return found[0] if len(found) == 1 else None
+
+    def unread(self, connection):
+        """How many bytes wait in the socket to be read."""
+        return max(connection.accepted() - self.read.get(self.socket_of(connection.local[1]), 0), 0)
+
+    def space(self, connection):
+        """Of its receive buffer the size, how much is free, and from how much on more is announced; or None."""
+        size = self.buffers.get(self.socket_of(connection.local[1]))
+        return None if size is None else (size, size - self.unread(connection), min((size + 1) // 2, connection.own_mss))
+
+    def why_no_space(self, connection):
+        """Why it announces no space: what is free of its buffer, and from where on that is announced."""
+        size, free, least = self.space(connection) or (0, 0, 0)
+        if free == size or free >= least > 0:
+            return ""
+        if free <= 0:
+            return f"{self.name}'s socket is full, with {bytes_text(size - free)} to be read"
+        return f"{free} of {size} bytes are free in {self.name}'s socket, which announces space from {least} on, or when all is read"
+
     def given_up(self, now):
         """The neighbors that didn't answer, and aren't asked any more."""
         return [address for address, count in self.requests.items() if count == MOST_REQUESTS and now >= self.asked[address] + NEIGHBOR]
 
     def newly_given_up(self, now):
         """Those that are told of for the first time since they were asked."""
-        found = [address for address in self.given_up(now) if self.silent.get(address) != self.asked[address]]
-        self.silent.update((address, self.asked[address]) for address in found)
+        found = [address for address in self.given_up(now) if self.silent.get(address, (None,))[0] != self.asked[address]]
+        self.silent.update((address, (self.asked[address], [*self.silent.get(address, (0, []))[1], now])) for address in found)
+        self.datagrams = [address for address in self.datagrams if address not in found]
         return found
 
     def resolving(self, now):
@@ -109,26 +153,42 @@ class Host:
             if self.states.get(socket) == "SYN-SENT" and self.local[socket] not in ports and hop in silent:
                 yield None, "retransmission timer", f"the SYN was dropped, as {hop} did not answer {MOST_REQUESTS} requests"
 
-    def on_wake(self, wake, now, why):
-        """Keeps the longest wait for a moment, as where it began, where it ended, and why."""
+    def ends_longest(self, wake, now):
+        """Whether what it is told now ends a wait, the longest so far."""
+        if not self.waiting or self.waiting[1] == wake:
+            return False
+        return now - self.waiting[0] > (self.longest[1] - self.longest[0] if self.longest else 0)
+
+    def on_wake(self, wake, now):
+        """Keeps the wait for a moment: where it began, the moment, and where it was last told of."""
         if self.waiting and self.waiting[1] != wake:
-            began, _, old = self.waiting
-            if now > began and (self.longest is None or now - began > self.longest[1] - self.longest[0]):
-                self.longest = began, now, old
             self.waiting = None
         if wake is not None and wake > now:
-            self.waiting = (self.waiting[0] if self.waiting else now), wake, why
+            self.waiting = (self.waiting[0] if self.waiting else now), wake, now
 
-    def reason(self, wake, now, peer_frames, row):
-        """Why the host wants to be polled then, as a name and more words."""
+    def to_send(self):
+        """What it has to send at once, as far as calls and frames say."""
+        found = []
+        for connection in self.connections.values():
+            unsent, in_flight = self.queued_of(connection) + 1 - connection.nxt, connection.nxt - connection.una
+            may_go = in_flight == 0 or unsent >= connection.peer_mss
+            found += [bytes_text(unsent)] if unsent > 0 and may_go and (connection.allowed or 0) > in_flight else []
+            found += [f"Ack={connection.in_order}"] if connection.in_order > connection.ack_sent else []
+            _, free, least = self.space(connection) or (0, 0, 1)
+            found += [f"a window update to {free}"] if connection.edge and connection.in_order + free >= connection.edge + least else []
+        return ", ".join(found + [f"a datagram to {address}" for address in self.datagrams])
+
+    def reason(self, wake, now, peer_frames, peer, row):
+        """Why the host wants to be polled then, as a name and more words. `peer` is the other host, and None where there is none."""
         found = [*self.resolving(now), *self.unsent(now)]
         for connection in self.connections.values():
-            state = self.states.get(self.socket_of(connection.local[1]))
-            found += timers(connection, state, self.queued_of(connection), peer_frames, row)
+            socket = self.socket_of(connection.local[1])
+            connection.is_eager = socket in self.eager
+            found += timers(connection, self.states.get(socket), self.queued_of(connection), peer_frames, peer, When(row, now))
         exact = [it for it in found if it[0] == wake]
         if exact:
             return exact[0][1:]
         if wake <= now:
-            return "at once", "it has something to send"
+            return "it has something to send", self.to_send()
         open_ = [it for it in found if it[0] is None]
         return open_[0][1:] if open_ else ("a timer", "that no frame tells of")

@@ -1,12 +1,12 @@
 """The picture of two lanes: events downwards, frames as arrows from the poll that sent them to the poll that took them."""
 import math
 
+from play import seconds
+from rows import BESIDE, wrapped
 from svg import cut, element, escaped, line, text
-from rows import seconds, wrapped
 
 LANE = {"A": 400, "B": 1000}
-MIDDLE, WIDTH, TALL, CHAR = 700, 1400, 16, 6.7
-BESIDE = 56
+MIDDLE, WIDTH, TALL = 700, 1400, 16
 PART = 4_000
 
 
@@ -59,6 +59,7 @@ class Lanes:
         return self.foot + TALL * max(map(len, self.ends.values())) + 10
 
     def draw(self):
+        self.picture.words(MIDDLE, 24, "each host numbers its frames from 0", "dim", "middle")
         for x, name in ((LANE["A"], "A"), (LANE["B"], "B")):
             shown = "link" if name == "B" and self.history.run.kind == "one" else name
             self.picture.words(x, 24, shown, "host", "middle")
@@ -181,7 +182,7 @@ class Lanes:
             for name, wake in row.opens_wait.items():
                 if name in open_:
                     self.wait(name, *open_.pop(name), self.top[row.at] + 8, "wait")
-                if wake is not None and wake > row.moment:
+                if wake is not None and wake > self.history.clocks[row.at][name]:
                     open_[name] = self.top[row.at] + 8, wake
         for name, (y, wake) in open_.items():
             self.wait(name, y, wake, self.foot, "wait unanswered")

@@ -13,8 +13,8 @@ or 1 where a script ended early; what ran before is drawn.
 
 Read from the script and its answers: which frames were sent and their bytes, deliveries, damage, fragments, noise, calls, and which poll took
 a frame (a poll takes waiting frames in order, as many as its budget). Asked of the simulator behind each event: the states of TCP sockets and
-when the host wants to be polled. Read from frames: numbers, windows, options, what was a retransmission. Concluded from frames: why a host
-wants to be polled. Not known, and not shown: congestion windows, retransmission timeouts, round-trip times; what happens within the lines
+when the host wants to be polled. Read from frames: numbers, windows, options, what was a retransmission. Concluded from frames, calls and the
+sizes of buffers: why a host wants to be polled, what waits in a socket, who ended a connection. Not known, and not shown: congestion windows, retransmission timeouts, round-trip times; what happens within the lines
 `rounds` and `settle`; and how many frames a poll took in which the device's room ran out (those are marked).
 """
 import os
@@ -30,7 +30,7 @@ from page import page, picture
 from play import Programs, play_all
 from rows import Rows
 from svg import shown
-from words import counts, errors, lines, remarks
+from words import counts, ending, errors, lines, remarks
 
 
 def plain(words):
@@ -50,7 +50,7 @@ def as_text(runs, only):
             yield from (f"{name}: {words}" for name, words in remarks(history, rows, only))
             yield from (f"Refused: line {number}, `{line}`: {said}" for number, line, said in errors(history))
         if run.ended:
-            yield f"The script ended early: {run.ended}"
+            yield ending(run)
 
 
 def arguments(words):

@@ -7,25 +7,32 @@ from lanes import WIDTH, Lanes
 from rows import Rows
 from style import PAGE, SHEET
 from svg import cut, element, escaped, line, text
-from words import counts, errors, remarks
+from words import counts, ending, errors, remarks
 
-LEGEND = [("arrow sent", "a frame, from the poll that sent it to the one that took it"), ("arrow lost", "LOST: it was never delivered"),
-          ("arrow again", "delivered again, or late (out of order)"), ("arrow damaged", "damaged on the link"),
+# No remark has more characters.
+LONGEST = 20_000
+LEGEND = [("arrow sent", "a frame, from the poll that sent it to the one that took it"), ("arrow lost", "LOST: no line delivered it"),
+          ("arrow again", "delivered again, or late (out of order)"), ("arrow damaged", "damaged on the link, so that its checksum is wrong"),
           ("arrow cut", "to where it was fragmented"), ("arrow noise", "noise: bytes that no host sent"),
           ("arrow sent waits", "pale: delivered, but not taken by a poll yet"), ("wait", "from where a host wants a poll to the poll"),
           ("wait unanswered", "nobody polled it before the script's end"), ("bar", "numbers: a segment"),
-          ("bar again", "numbers: a retransmission"), ("bar lost", "numbers: lost"), ("acked", "numbers: acknowledged"),
-          ("allowed", "numbers: allowed by the window"), ("sack", "numbers: received out of order (SACK)")]
+          ("bar again", "numbers: a retransmission"), ("bar lost", "numbers: lost"), ("reset", "numbers: a reset (RST)"),
+          ("acked", "numbers: acknowledged"), ("allowed", "numbers: allowed by the window"), ("sack", "numbers: received out of order (SACK)")]
+# The legend has three columns of so many lines.
+LINES = 6
+CROSS = {"arrow lost": ("M-6 -6L6 6M-6 6L6 -6", 46, "cross"), "reset": ("M-4 -4L4 4M-4 4L4 -4", 23, "reset")}
 
 
 def legend():
-    parts = [element("rect", x=0, y=0, width=WIDTH, height=104, class_="paper")]
+    high = 4 + 20 * LINES
+    parts = [element("rect", x=0, y=0, width=WIDTH, height=high, class_="paper")]
     for k, (class_, words) in enumerate(LEGEND):
-        x, y = 10 + k // 5 * 480, 14 + k % 5 * 20
-        parts += [line(x, y - 4, x + 46, y - 4, class_), text(x + 58, y, words, "dim")]
-        if class_ == "arrow lost":
-            parts.append(element("path", d="M-6 -6L6 6M-6 6L6 -6", transform=f"translate({x + 46} {y - 4})", class_="cross"))
-    return element("svg", "".join(parts), width=WIDTH, height=104, viewBox=f"0 0 {WIDTH} 104", xmlns="http://www.w3.org/2000/svg")
+        x, y = 10 + k // LINES * 480, 14 + k % LINES * 20
+        parts += ([line(x, y - 4, x + 46, y - 4, class_)] if class_ != "reset" else []) + [text(x + 58, y, words, "dim")]
+        if class_ in CROSS:
+            shape, at, drawn = CROSS[class_]
+            parts.append(element("path", d=shape, transform=f"translate({x + at} {y - 4})", class_=drawn))
+    return element("svg", "".join(parts), width=WIDTH, height=high, viewBox=f"0 0 {WIDTH} {high}", xmlns="http://www.w3.org/2000/svg")
 
 
 def table(history, only):
@@ -40,26 +47,24 @@ def table(history, only):
     return element("details", element("summary", f"All frames ({len(rows)})") + element("table", element("tbody", head + "".join(rows))))
 
 
-def ending(run):
-    """How the script ended."""
-    if run.ended:
-        return element("p", escaped(f"The script ended early: {run.ended}"), class_="bad")
-    return ""
+def ended(run):
+    """How the script ended, where that was early."""
+    return element("p", escaped(ending(run)), class_="bad") if run.ended else ""
 
 
 def section(run, only):
     """What is drawn of a script."""
     if not run.steps:
-        return element("p", escaped("Nothing ran.")) + ending(run)
+        return element("p", escaped("Nothing ran.")) + ended(run)
     history = History(run)
     rows = Rows(history)
     drawn = only.rows(rows) if only else rows.rows
     lanes = Lanes(drawn, history, rows)
-    said = [element("li", element("b", escaped(f"{name}: ")) + escaped(cut(words, 1_000))) for name, words in remarks(history, rows, only)]
-    said += [element("li", element("b", "Refused: ") + escaped(cut(f"line {number}, `{line_}`: {answer}", 300)), class_="bad")
+    said = [element("li", element("b", escaped(f"{name}: ")) + escaped(cut(words, LONGEST))) for name, words in remarks(history, rows, only)]
+    said += [element("li", element("b", "Refused: ") + escaped(f"line {number}, `{cut(line_, 100)}`: {answer}"), class_="bad")
              for number, line_, answer in errors(history)]
     header = escaped("; ".join(run.header))
-    return "".join([element("p", element("code", header)), element("p", element("b", escaped(counts(history, only)))), ending(run),
+    return "".join([element("p", element("code", header)), element("p", element("b", escaped(counts(history, only)))), ended(run),
                     element("ul", "".join(said)), element("div", "".join(graphs(history, only)) or "&#8203;"),
                     element("div", "".join(lanes.parts())), table(history, only)])
 

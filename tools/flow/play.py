@@ -58,6 +58,14 @@ def number(word):
     return int(word) if re.fullmatch("0*[0-9]{1,19}", word, re.ASCII) else None
 
 
+def seconds(micros):
+    return f"{micros // 1_000_000}.{micros % 1_000_000:06} s"
+
+
+def bytes_text(count):
+    return f"{count} byte" + ("s" if count != 1 else "")
+
+
 class Programs:
     """Where the simulator is: as given, or else the proved program, or a quick build."""
 

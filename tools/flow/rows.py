@@ -2,9 +2,15 @@
 from dataclasses import dataclass, field
 
 from history import OTHER
-from hosts import MOST_REQUESTS, Host
-from play import CALLS, POLLS, number
+from hosts import MOST_REQUESTS, Host, buffers_of
+from play import CALLS, POLLS, bytes_text, number, seconds
 from svg import cut
+from tcp import listed
+
+# A line beside a lane has so many characters at most.
+BESIDE = 56
+# What a poll's answer says; of a case of two sockets, an offer's. A poll that took or sent something may have changed a socket: of it that isn't said.
+ANSWERS = {"changed": "a socket may have changed", "none": "no socket changed", "packet": "a segment", "silent": "nothing to send"}
 
 
 @dataclass
@@ -22,14 +28,6 @@ class Row:
     opens_wait: dict = field(default_factory=dict)
 
 
-def seconds(micros):
-    return f"{micros // 1_000_000}.{micros % 1_000_000:06} s"
-
-
-def bytes_text(count):
-    return f"{count} byte" + ("s" if count != 1 else "")
-
-
 def wrapped(words, lines=3):
     """A reason in at most so many lines of a lane."""
     found = []
@@ -41,12 +39,30 @@ def wrapped(words, lines=3):
     return found[:lines - 1] + [cut(" ".join(found[lines - 1:]), 56)] if len(found) >= lines else found
 
 
+def times(words):
+    """Texts, each once, and how often where that is more than once."""
+    found = {}
+    for word in words:
+        found[word] = found.get(word, 0) + 1
+    return [word if count == 1 else f"{word} ({count} times)" for word, count in found.items()]
+
+
 def takes(taken):
-    """What a poll took: noise is counted, frames are named."""
-    names = [handing.frame.name for handing in taken if handing.frame]
-    others = len(taken) - len(names)
-    kind = next((handing.kind for handing in taken if not handing.frame), "")
-    return ", ".join(names + ([f"{kind} ({others})" if others > 1 else kind] if others else []))
+    """What a poll took: frames are named, damaged ones and noise behind them."""
+    whole = listed(handing.frame.number for handing in taken if handing.frame and handing.kind != "damage")
+    others = times(handing.kind if handing.frame is None else f"{handing.frame.name} damaged"
+                   for handing in taken if handing.frame is None or handing.kind == "damage")
+    return ", ".join([whole] * bool(whole) + others)
+
+
+def poll_text(row, took):
+    """A poll: what it took and sent, and what its answer says."""
+    name, said = row.step.words[0], row.step.said
+    name += f" at {seconds(row.moment)}" if row.moment != row.now else ""
+    unsure = " or an earlier poll did" if any(handing.is_unsure for handing in row.taken) else ""
+    done = [f"takes {took}{unsure}"] if took else []
+    done += [f"sends {listed(frame.number for frame in row.sent)}"] if row.sent else []
+    return f"{name} {', '.join(done)}".rstrip() + ("" if done and said == "changed" else f": {ANSWERS.get(said, said)}")
 
 
 def data_text(word):
@@ -83,7 +99,8 @@ class Rows:
 
     def __init__(self, history):
         self.history = history
-        self.hosts = {name: Host(name) for name in "AB"}
+        buffers = buffers_of(history.run)
+        self.hosts = {name: Host(name, buffers[name]) for name in "AB"}
         self.many = {name: len({key[1] for step in history.steps for key in step.states if key[0] == name}) > 1 for name in "AB"}
         self.by_row, self.taken_at, self.handed_at = {}, {}, {}
         for frame in history.all_frames():
@@ -100,8 +117,10 @@ class Rows:
         row = Row(at, step, moment, self.now, sent=self.by_row.get(at, []), taken=self.taken_at.get(at, []))
         name = words[1] if len(words) > 1 and words[1] in OTHER else None
         host = self.hosts.get(name)
+        for owner, wake in step.wakes.items():
+            self.end_wait(owner, wake, self.history.clocks[at][owner], at)
         for handing in row.taken:
-            self.hosts[handing.to].on_taken(handing, moment)
+            self.hosts[handing.to].on_taken(handing, self.history.clocks[at][handing.to])
         if words[0] != "cut":
             for frame in row.sent:
                 self.hosts[frame.host].on_sent(frame)
@@ -121,10 +140,8 @@ class Rows:
         said, beside = row.step.said, row.beside[name]
         refused = said.startswith(("error", "refused"))
         if words[0] in POLLS or words[0] in ("offer", "ask", "settle", "rounds"):
-            took = takes(row.taken)
-            unsure = " or an earlier poll did" if any(handing.is_unsure for handing in row.taken) else ""
-            past = f" at {seconds(row.moment)}" if row.moment != row.now else ""
-            beside.append(("poll", words[0] + past + (f" takes {took}{unsure}" if took else "") + f" → {said}", row.step.line))
+            text = poll_text(row, takes(row.taken))
+            beside.append(("poll", text, f"{row.step.line} → {said}" + ("" if len(text) <= BESIDE else f": {text}")))
             beside += [("refused", f"gives up on {address}, drops what waited: {MOST_REQUESTS} requests, no answer", None)
                        for address in self.hosts[name].newly_given_up(row.moment)]
             room = self.history.room[name]
@@ -175,26 +192,40 @@ class Rows:
         if host.wake is None or not self.rows:
             return "waits for a frame or a call"
         now = self.history.moments_of[name]
-        reason, more = host.reason(host.wake, now, self.history.frames[OTHER[name]], len(self.rows))
+        reason, more = self.reason(name, host.wake, now, len(self.rows))
         when = "now" if host.wake <= now else f"at {seconds(host.wake)}"
         return f"wants a poll {when}: {reason}" + (f": {more}" if more else "")
 
+    def reason(self, owner, wake, now, row):
+        """Why a host wants to be polled then."""
+        other = OTHER[owner]
+        return self.hosts[owner].reason(wake, now, self.history.frames[other], self.hosts[other] if self.history.run.kind != "one" else None, row)
+
+    def end_wait(self, owner, wake, moment, row):
+        """Keeps the longest wait of a host, where it ends, and why it was, by what was known just before."""
+        host = self.hosts[owner]
+        if host.ends_longest(wake, moment):
+            began, until, told = host.waiting
+            name, more = self.reason(owner, until, told, row - 1)
+            host.longest = began, moment, f"{name}: {more}" if more else name
+
     def wake(self, row, owner, wake):
         """When the host wants to be polled, where that changed or the script asked, and why."""
-        host, asked = self.hosts[owner], row.step.words[0] == "pollat"
+        host, asked, now = self.hosts[owner], row.step.words[0] == "pollat", self.history.clocks[row.at][owner]
         host.wake = wake
-        name, more = (None, None) if wake is None else host.reason(wake, row.moment, self.history.frames[OTHER[owner]], row.at)
-        host.on_wake(wake, row.moment, f"{name}: {more}" if more else name)
+        name, more = (None, None) if wake is None else self.reason(owner, wake, now, row.at)
+        host.on_wake(wake, now)
         changed, host.told = host.told != (wake, name), (wake, name)
+        still = "" if changed else "still "
         if wake is None:
             if changed or asked:
-                row.beside[owner].append(("dim", "waits for a frame or a call", None))
+                row.beside[owner].append(("dim", f"{still}waits for a frame or a call", None))
             row.opens_wait[owner] = None
-        elif wake <= row.moment and not asked:
+        elif wake <= now and not asked:
             row.opens_wait[owner] = None
         elif changed or asked:
-            when = "now" if wake <= row.moment else f"at {seconds(wake)}"
-            row.beside[owner].append(("timer", f"wants a poll {when}: {name}", f"{name}: {more}" if more else name))
-            if more and wake > row.moment:
+            when = "now" if wake <= now else f"at {seconds(wake)}"
+            row.beside[owner].append(("timer", f"{still}wants a poll {when}: {name}", f"{name}: {more}" if more else name))
+            if more and changed and wake > now:
                 row.beside[owner] += [("why", words, more) for words in wrapped(more)]
             row.opens_wait[owner] = wake

@@ -2,6 +2,7 @@
 
 SHEET = """
 .paper{fill:#fff} text{font:11px ui-monospace,'DejaVu Sans Mono',Menlo,Consolas,monospace;fill:#222}
+.axis{paint-order:stroke;stroke:#fff;stroke-width:3px}
 .host{font:bold 16px system-ui,'DejaVu Sans',sans-serif} .time{fill:#666;font-weight:bold} .dim,.time,.axis{fill:#666}
 .lane{stroke:#888;stroke-width:1.5} .rule{stroke:#ddd} .grid{stroke:#eee}
 .call{fill:#124} .poll{fill:#555} .state{fill:#060;font-weight:bold} .timer{fill:#850} .why{fill:#850} .end{fill:#850;font-weight:bold}
@@ -21,5 +22,5 @@ text.lost,tspan.lost,text.damaged{fill:#b11;font-weight:bold} text.again,tspan.a
 PAGE = """
 body{font:14px/1.45 system-ui,sans-serif;margin:16px;color:#222;background:#fff} h1{font-size:20px} h2{font-size:16px;margin-top:28px}
 td,th{font:11px ui-monospace,monospace;padding:1px 8px;vertical-align:top;text-align:left} code{word-break:break-all;color:#555}
-svg{display:block;max-width:none} .bad{color:#b11;font-weight:bold} ul{padding-left:20px} p,ul{max-width:1100px}
+svg{display:block;max-width:none} li,p{overflow-wrap:anywhere} .bad{color:#b11;font-weight:bold} ul{padding-left:20px} p,ul{max-width:1100px}
 """

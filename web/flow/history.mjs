@@ -1,6 +1,6 @@
 // What became of each frame: which lines handed it over, and which poll took it. As tools/flow/history.py, for scripts of `lan`.
 import {SYN, Decoder, bytesOfHex, keyOf, packetOf} from './frames.mjs';
-import {OTHER, micros, number} from './play.mjs';
+import {OTHER, micros, number, seconds} from './play.mjs';
 
 // A frame that a host sent, or a fragment that the link made of one (`parent`).
 class Frame {
@@ -23,19 +23,21 @@ class Frame {
     get fate() {
         if (this.isLost) return 'lost';
         if (this.cutAt !== null && !this.handings.length) return 'fragmented';
-        return this.taken.length ? 'received' : 'waits at the device';
+        return this.taken.length ? 'received' : `waits at ${OTHER[this.host]}'s device`;
     }
 
-    // What had become of it when this row was over.
-    fateAt(row) {
-        return this.taken.length && Math.min(...this.taken.map((handing) => handing.taken)) > row ? 'under way' : this.fate;
+    // What had become of it when this row was over; of one under way then, when it is received.
+    fateAt(row, moment) {
+        const first = this.taken.reduce((one, other) => one && one.taken <= other.taken ? one : other, null);
+        if (first === null || first.taken <= row) return this.fate;
+        return `under way${first.moment > moment ? ` until ${seconds(first.moment)}` : ''}`;
     }
 }
 
 // Bytes that the link hands to a host: a frame's (`deliver`, `damage`), or bytes from nowhere (`noise`).
 class Handing {
     constructor(kind, to, row, data, frame = null, seen = null, note = '') {
-        Object.assign(this, {kind, to, row, data, frame, seen, note, isAgain: false, isLate: false, taken: null, maybe: null});
+        Object.assign(this, {kind, to, row, data, frame, seen, note, isAgain: false, isLate: false, taken: null, moment: null, maybe: null});
         this.isAgain = frame !== null && frame.handings.length > 0;
     }
 
@@ -123,7 +125,7 @@ export class History {
         const host = words[1], frame = this.frames[host][number(words[2])], notes = [];
         if (words[0] === 'damage') {
             const at = number(words[3]);
-            notes.push(`damaged: bytes ${at}-${at + 1} become ${words[4].toLowerCase()}`);
+            notes.push(`damaged, TCP bytes ${at}-${at + 1}: ${words[4].toLowerCase()}`);
         }
         const padding = bytesOfHex(words.at(-1).replaceAll('-', ''));
         if (padding.length) notes.push(`+ ${padding.length} bytes of padding`);
@@ -148,12 +150,16 @@ export class History {
         const most = Math.min(budget + unsure, waiting.length);
         if (room === 0) return;
         if (room !== null && this.room[host] === 0) sure = 0;
-        for (const handing of waiting.slice(0, sure)) handing.taken = row;
+        for (const handing of waiting.slice(0, sure)) [handing.taken, handing.moment] = [row, this.moments[row]];
         for (const handing of waiting.slice(sure, most)) handing.maybe ??= row;
         waiting.splice(0, sure);
     }
 
     allFrames() {
         return [...this.frames.A, ...this.frames.B];
+    }
+
+    takenBy(row) {
+        return this.handings.filter((handing) => handing.taken === row);
     }
 }

@@ -1,8 +1,8 @@
 // What each host is doing: its sockets' states, its connections' numbers, and why it waits. As tools/flow/hosts.py. States and moments are the
 // simulator's answers; the reason of a wait is the one whose moment is the one answered, or else the one that the frames leave.
 import {keyOf, turned} from './frames.mjs';
-import {number} from './play.mjs';
-import {Connection, NEIGHBOR, timers} from './tcp.mjs';
+import {bytesText, number} from './play.mjs';
+import {Connection, NEIGHBOR, When, timers} from './tcp.mjs';
 
 // A neighbor that doesn't answer so many requests is given up, and what is for it is dropped.
 export const MOST_REQUESTS = 3;
@@ -13,9 +13,21 @@ function addressOf(endpoint) {
     return /^\d+(\.\d+){3}$/.test(words) ? words.split('.').map(Number).join('.') : words.replace(/^[[\]]+|[[\]]+$/g, '');
 }
 
+// The receive buffers of the TCP sockets, by host and socket.
+export function buffersOf(run) {
+    const found = {A: new Map(), B: new Map()}, count = {A: 0, B: 0};
+    for (const words of run.header.map((line) => line.split(' '))) {
+        if (words[0] !== 'socket' || words.length < 4 || !(words[1] in count)) continue;
+        if (words[2] === 'tcp') found[words[1]].set(count[words[1]], number(words[3]));
+        count[words[1]] += 1;
+    }
+    return found;
+}
+
+// A host as the run goes on. `buffers` has the receive buffers of its TCP sockets.
 export class Host {
-    constructor(name) {
-        Object.assign(this, {name, connections: new Map(), states: new Map(), local: new Map(), queued: new Map(), read: new Map(), finished: new Set(),
+    constructor(name, buffers) {
+        Object.assign(this, {name, buffers, readers: new Set(), aborted: new Set(), connections: new Map(), states: new Map(), local: new Map(), queued: new Map(), read: new Map(), finished: new Set(),
                              asked: new Map(), requests: new Map(), remote: new Map(), datagrams: [], router: null, silent: new Map(), wake: null, waiting: null, longest: null, told: null, shown: new Map()});
     }
 
@@ -50,6 +62,8 @@ export class Host {
     onCall(words, said) {
         const socket = words.length > 2 ? number(words[2]) : null;
         const add = (map, count) => map.set(socket, (map.get(socket) ?? 0) + count);
+        if (words[0] === 'recv') this.readers.add(socket);
+        if (words[0] === 'abort' && said === 'ok') this.aborted.add(socket);
         if (words[0] === 'connect' && said === 'ok') {
             this.local.set(socket, number(words[4]));
             this.remote.set(socket, addressOf(words[3]));
@@ -70,6 +84,31 @@ export class Host {
         return this.queued.get(this.socketOf(connection.ends[0].port)) ?? 0;
     }
 
+    // The state of the one socket at a local port, or null.
+    stateOf(port) {
+        const found = [...this.local].filter(([, local]) => local === port).map(([socket]) => this.states.get(socket) ?? null);
+        return found.length === 1 ? found[0] : null;
+    }
+
+    // How many bytes wait in the socket to be read.
+    unread(connection) {
+        return Math.max(connection.accepted() - (this.read.get(this.socketOf(connection.ends[0].port)) ?? 0), 0);
+    }
+
+    // Of its receive buffer the size, how much is free, and from how much on more is announced; or null.
+    space(connection) {
+        const size = this.buffers.get(this.socketOf(connection.ends[0].port)) ?? null;
+        return size === null ? null : [size, size - this.unread(connection), Math.min(Math.floor((size + 1) / 2), connection.ownMss)];
+    }
+
+    // Why it announces no space: what is free of its buffer, and from where on that is announced.
+    whyNoSpace(connection) {
+        const [size, free, least] = this.space(connection) ?? [0, 0, 0];
+        if (free === size || free >= least && least > 0) return '';
+        if (free <= 0) return `${this.name}'s socket is full, with ${bytesText(size - free)} to be read`;
+        return `${free} of ${size} bytes are free in ${this.name}'s socket, which announces space from ${least} on, or when all is read`;
+    }
+
     // The neighbors that didn't answer, and aren't asked any more.
     givenUp(now) {
         return [...this.requests].filter(([address, count]) => count === MOST_REQUESTS && now >= this.asked.get(address) + NEIGHBOR).map(([it]) => it);
@@ -77,8 +116,9 @@ export class Host {
 
     // Those that are told of for the first time since they were asked.
     newlyGivenUp(now) {
-        const found = this.givenUp(now).filter((address) => this.silent.get(address) !== this.asked.get(address));
-        for (const address of found) this.silent.set(address, this.asked.get(address));
+        const found = this.givenUp(now).filter((address) => this.silent.get(address)?.[0] !== this.asked.get(address));
+        for (const address of found) this.silent.set(address, [this.asked.get(address), [...this.silent.get(address)?.[1] ?? [], now]]);
+        this.datagrams = this.datagrams.filter((address) => !found.includes(address));
         return found;
     }
 
@@ -104,26 +144,42 @@ export class Host {
         return found;
     }
 
-    // Keeps the longest wait for a moment, as where it began, where it ended, and why.
-    onWake(wake, now, why) {
-        if (this.waiting && this.waiting[1] !== wake) {
-            const [began, , old] = this.waiting;
-            if (now > began && (!this.longest || now - began > this.longest[1] - this.longest[0])) this.longest = [began, now, old];
-            this.waiting = null;
-        }
-        if (wake !== null && wake > now) this.waiting = [this.waiting?.[0] ?? now, wake, why];
+    // Whether what it is told now ends a wait, the longest so far.
+    endsLongest(wake, now) {
+        if (!this.waiting || this.waiting[1] === wake) return false;
+        return now - this.waiting[0] > (this.longest ? this.longest[1] - this.longest[0] : 0n);
     }
 
-    // Why the host wants to be polled then, as a name and more words.
-    reason(wake, now, peerFrames, row) {
+    // Keeps the wait for a moment: where it began, the moment, and where it was last told of.
+    onWake(wake, now) {
+        if (this.waiting && this.waiting[1] !== wake) this.waiting = null;
+        if (wake !== null && wake > now) this.waiting = [this.waiting?.[0] ?? now, wake, now];
+    }
+
+    // What it has to send at once, as far as calls and frames say.
+    toSend() {
+        const found = [];
+        for (const connection of this.connections.values()) {
+            const unsent = this.queuedOf(connection) + 1 - connection.nxt, inFlight = connection.nxt - connection.una;
+            const mayGo = inFlight === 0 || unsent >= connection.peerMss;
+            if (unsent > 0 && mayGo && (connection.allowed ?? 0) > inFlight) found.push(bytesText(unsent));
+            if (connection.inOrder > connection.ackSent) found.push(`Ack=${connection.inOrder}`);
+            const [, free, least] = this.space(connection) ?? [0, 0, 1];
+            if (connection.edge && connection.inOrder + free >= connection.edge + least) found.push(`a window update to ${free}`);
+        }
+        return [...found, ...this.datagrams.map((address) => `a datagram to ${address}`)].join(', ');
+    }
+
+    // Why the host wants to be polled then, as a name and more words. `peer` is the other host.
+    reason(wake, now, peerFrames, peer, row) {
         const found = [...this.resolving(now), ...this.unsent(now)];
         for (const connection of this.connections.values()) {
             const state = this.states.get(this.socketOf(connection.ends[0].port));
-            found.push(...timers(connection, state, this.queuedOf(connection), peerFrames, row));
+            found.push(...timers(connection, state, this.queuedOf(connection), peerFrames, peer, new When(row, now)));
         }
         const exact = found.find(([at]) => at === wake);
         if (exact) return exact.slice(1);
-        if (wake <= now) return ['at once', 'it has something to send'];
+        if (wake <= now) return ['it has something to send', this.toSend()];
         return found.find(([at]) => at === null)?.slice(1) ?? ['a timer', 'that no frame tells of'];
     }
 }

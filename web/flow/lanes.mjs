@@ -1,10 +1,11 @@
 // The picture of two lanes: events downwards, frames as arrows from the poll that sent them to the poll that took them. As tools/flow/lanes.py.
 import {hexOf} from './frames.mjs';
-import {seconds, wrapped} from './rows.mjs';
+import {seconds} from './play.mjs';
+import {BESIDE, wrapped} from './rows.mjs';
 import {cut, element, escaped, line, text} from './svg.mjs';
 
 const LANE = {A: 400, B: 1000};
-const MIDDLE = 700, TALL = 16, BESIDE = 56, PART = 4000;
+const MIDDLE = 700, TALL = 16, PART = 4000;
 export const WIDTH = 1400;
 
 // What is drawn, each thing with the heights between which it lies: lines first, then texts.
@@ -60,6 +61,7 @@ export class Lanes {
     }
 
     draw() {
+        this.picture.words(MIDDLE, 24, 'each host numbers its frames from 0', 'dim', 'middle');
         for (const name of 'AB') {
             this.picture.words(LANE[name], 24, name, 'host', 'middle');
             this.picture.add(34, this.bottom, line(LANE[name], 34, LANE[name], this.bottom, 'lane'));

@@ -5,26 +5,33 @@ import {History} from './history.mjs';
 import {Lanes, WIDTH} from './lanes.mjs';
 import {Rows} from './rows.mjs';
 import {cut, element, escaped, line, text} from './svg.mjs';
-import {counts, errors, remarks} from './words.mjs';
+import {counts, ending, errors, remarks} from './words.mjs';
 
-const LEGEND = [['arrow sent', 'a frame, from the poll that sent it to the one that took it'], ['arrow lost', 'LOST: it was never delivered'],
-                ['arrow again', 'delivered again, or late (out of order)'], ['arrow damaged', 'damaged on the link'],
+const LEGEND = [['arrow sent', 'a frame, from the poll that sent it to the one that took it'], ['arrow lost', 'LOST: no line delivered it'],
+                ['arrow again', 'delivered again, or late (out of order)'], ['arrow damaged', 'damaged on the link, so that its checksum is wrong'],
                 ['arrow cut', 'to where it was fragmented'], ['arrow noise', 'noise: bytes that no host sent'],
                 ['arrow sent waits', 'pale: delivered, but not taken by a poll yet'], ['wait', 'from where a host wants a poll to the poll'],
                 ['wait unanswered', "nobody polled it before the script's end"], ['bar', 'numbers: a segment'],
-                ['bar again', 'numbers: a retransmission'], ['bar lost', 'numbers: lost'], ['acked', 'numbers: acknowledged'],
-                ['allowed', 'numbers: allowed by the window'], ['sack', 'numbers: received out of order (SACK)']];
+                ['bar again', 'numbers: a retransmission'], ['bar lost', 'numbers: lost'], ['reset', 'numbers: a reset (RST)'],
+                ['acked', 'numbers: acknowledged'], ['allowed', 'numbers: allowed by the window'], ['sack', 'numbers: received out of order (SACK)']];
+// The legend has three columns of so many lines.
+const LINES = 6;
+const CROSS = {'arrow lost': ['M-6 -6L6 6M-6 6L6 -6', 46, 'cross'], reset: ['M-4 -4L4 4M-4 4L4 -4', 23, 'reset']};
+// No remark has more characters.
+const LONGEST = 20_000;
 
 export function legend() {
-    const parts = [element('rect', '', {x: 0, y: 0, width: WIDTH, height: 104, class: 'paper'})];
+    const high = 4 + 20 * LINES, parts = [element('rect', '', {x: 0, y: 0, width: WIDTH, height: high, class: 'paper'})];
     LEGEND.forEach(([class_, words], k) => {
-        const x = 10 + Math.floor(k / 5) * 480, y = 14 + k % 5 * 20;
-        parts.push(line(x, y - 4, x + 46, y - 4, class_), text(x + 58, y, words, 'dim'));
-        if (class_ === 'arrow lost') {
-            parts.push(element('path', '', {d: 'M-6 -6L6 6M-6 6L6 -6', transform: `translate(${x + 46} ${y - 4})`, class: 'cross'}));
+        const x = 10 + Math.floor(k / LINES) * 480, y = 14 + k % LINES * 20;
+        if (class_ !== 'reset') parts.push(line(x, y - 4, x + 46, y - 4, class_));
+        parts.push(text(x + 58, y, words, 'dim'));
+        if (class_ in CROSS) {
+            const [d, at, drawn] = CROSS[class_];
+            parts.push(element('path', '', {d, transform: `translate(${x + at} ${y - 4})`, class: drawn}));
         }
     });
-    return element('svg', parts.join(''), {width: WIDTH, height: 104, viewBox: `0 0 ${WIDTH} 104`, xmlns: 'http://www.w3.org/2000/svg'});
+    return element('svg', parts.join(''), {width: WIDTH, height: high, viewBox: `0 0 ${WIDTH} ${high}`, xmlns: 'http://www.w3.org/2000/svg'});
 }
 
 // All frames with text and bytes.
@@ -37,18 +44,18 @@ function table(history) {
     return element('details', element('summary', `All frames (${rows.length})`) + element('table', element('tbody', head + rows.join(''))));
 }
 
-function ending(run) {
-    return run.ended ? element('p', escaped(`The script ended early: ${run.ended}`), {class: 'bad'}) : '';
+function ended(run) {
+    return run.ended ? element('p', escaped(ending(run)), {class: 'bad'}) : '';
 }
 
 // What is drawn of a run.
 export function section(run) {
-    if (!run.steps.length) return element('p', escaped('Nothing ran.')) + ending(run);
+    if (!run.steps.length) return element('p', escaped('Nothing ran.')) + ended(run);
     const history = new History(run), rows = new Rows(history), lanes = new Lanes(rows, history);
-    const said = remarks(history, rows).map(([name, words]) => element('li', element('b', escaped(`${name}: `)) + escaped(cut(words, 1000))));
+    const said = remarks(history, rows).map(([name, words]) => element('li', element('b', escaped(`${name}: `)) + escaped(cut(words, LONGEST))));
     said.push(...errors(history).map((step) => element('li', element('b', 'Refused: ') +
-        escaped(cut(`line ${step.number}, \`${step.line}\`: ${step.said}`, 300)), {class: 'bad'})));
-    return [element('p', element('code', escaped(run.header.join('; ')))), element('p', element('b', escaped(counts(history)))), ending(run),
+        escaped(`line ${step.number}, \`${cut(step.line, 100)}\`: ${step.said}`), {class: 'bad'})));
+    return [element('p', element('code', escaped(run.header.join('; ')))), element('p', element('b', escaped(counts(history)))), ended(run),
             element('ul', said.join('')), element('div', graphs(history).join('') || '&#8203;'), element('div', lanes.parts().join('')),
             table(history)].join('');
 }

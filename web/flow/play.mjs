@@ -18,6 +18,14 @@ export function micros(word) {
     return /^0*[0-9]{1,19}$/.test(word) ? BigInt(word) : null;
 }
 
+export function seconds(micros) {
+    return `${micros / 1_000_000n}.${String(micros % 1_000_000n).padStart(6, '0')} s`;
+}
+
+export function bytesText(count) {
+    return `${count} byte${count === 1 ? '' : 's'}`;
+}
+
 export function isComment(line) {
     return line === '' || line.startsWith('#');
 }

@@ -1,16 +1,14 @@
 // A row for each event: what stands beside each host's lane, and which frames leave there. As tools/flow/rows.py.
 import {bytesOfHex, hexOf} from './frames.mjs';
-import {Host, MOST_REQUESTS} from './hosts.mjs';
-import {CALLS, OTHER, POLLS} from './play.mjs';
+import {Host, MOST_REQUESTS, buffersOf} from './hosts.mjs';
+import {CALLS, OTHER, POLLS, bytesText, seconds} from './play.mjs';
 import {cut} from './svg.mjs';
+import {listed} from './tcp.mjs';
 
-export function seconds(micros) {
-    return `${micros / 1_000_000n}.${String(micros % 1_000_000n).padStart(6, '0')} s`;
-}
-
-function bytesText(count) {
-    return `${count} byte${count === 1 ? '' : 's'}`;
-}
+// A line beside a lane has so many characters at most.
+export const BESIDE = 56;
+// What a poll's answer says. A poll that took or sent something may have changed a socket: of it that isn't said.
+const ANSWERS = {changed: 'a socket may have changed', none: 'no socket changed'};
 
 // A reason in at most so many lines of a lane.
 export function wrapped(words, lines = 3) {
@@ -22,12 +20,28 @@ export function wrapped(words, lines = 3) {
     return found.length >= lines ? [...found.slice(0, lines - 1), cut(found.slice(lines - 1).join(' '), 56)] : found;
 }
 
-// What a poll took: noise is counted, frames are named.
+// Texts, each once, and how often where that is more than once.
+export function times(words) {
+    const found = new Map();
+    for (const word of words) found.set(word, (found.get(word) ?? 0) + 1);
+    return [...found].map(([word, count]) => count === 1 ? word : `${word} (${count} times)`);
+}
+
+// What a poll took: frames are named, damaged ones and noise behind them.
 function takes(taken) {
-    const names = taken.filter((handing) => handing.frame).map((handing) => handing.frame.name);
-    const others = taken.length - names.length;
-    const kind = taken.find((handing) => !handing.frame)?.kind ?? '';
-    return [...names, ...others ? [others > 1 ? `${kind} (${others})` : kind] : []].join(', ');
+    const isWhole = (handing) => handing.frame && handing.kind !== 'damage';
+    const whole = listed(taken.filter(isWhole).map((handing) => handing.frame.number));
+    const others = times(taken.filter((it) => !isWhole(it)).map(({frame, kind}) => frame ? `${frame.name} damaged` : kind));
+    return [...whole ? [whole] : [], ...others].join(', ');
+}
+
+// A poll: what it took and sent, and what its answer says.
+function pollText(row, took) {
+    const said = row.step.said, name = `${row.step.words[0]}${row.moment !== row.now ? ` at ${seconds(row.moment)}` : ''}`, done = [];
+    const unsure = row.taken.some((handing) => handing.isUnsure) ? ' or an earlier poll did' : '';
+    if (took) done.push(`takes ${took}${unsure}`);
+    if (row.sent.length) done.push(`sends ${listed(row.sent.map((frame) => frame.number))}`);
+    return `${name} ${done.join(', ')}`.trimEnd() + (done.length && said === 'changed' ? '' : `: ${ANSWERS[said] ?? said}`);
 }
 
 // Bytes read: as text where they are printable, else in hex; 16 at most, and how many there are.
@@ -65,7 +79,8 @@ function grouped(things, key) {
 export class Rows {
     constructor(history) {
         this.history = history;
-        this.hosts = {A: new Host('A'), B: new Host('B')};
+        const buffers = buffersOf(history.run);
+        this.hosts = {A: new Host('A', buffers.A), B: new Host('B', buffers.B)};
         this.many = {};
         for (const name of 'AB') {
             this.many[name] = new Set(history.steps.flatMap((step) => step.states.filter((it) => it.host === name).map((it) => it.socket))).size > 1;
@@ -83,6 +98,7 @@ export class Rows {
         const row = {at, step, moment, now: this.now, beside: {A: [], B: []}, middle: [], sent: this.byRow.get(at) ?? [],
                      taken: this.takenAt.get(at) ?? [], opensWait: {}};
         const name = words[1] in OTHER ? words[1] : null;
+        for (const [owner, wake] of Object.entries(step.wakes)) this.endWait(owner, wake, moment, at);
         for (const handing of row.taken) this.hosts[handing.to].onTaken(handing, moment);
         if (words[0] !== 'cut') for (const frame of row.sent) this.hosts[frame.host].onSent(frame);
         if (name !== null) {
@@ -100,10 +116,8 @@ export class Rows {
     describe(row, name, words) {
         const said = row.step.said, beside = row.beside[name], refused = isRefused(said);
         if (POLLS.includes(words[0])) {
-            const took = takes(row.taken);
-            const unsure = row.taken.some((handing) => handing.isUnsure) ? ' or an earlier poll did' : '';
-            const past = row.moment !== row.now ? ` at ${seconds(row.moment)}` : '';
-            beside.push(['poll', `${words[0]}${past}${took ? ` takes ${took}${unsure}` : ''} → ${said}`, row.step.line]);
+            const text = pollText(row, takes(row.taken));
+            beside.push(['poll', text, `${row.step.line} → ${said}${text.length <= BESIDE ? '' : `: ${text}`}`]);
             for (const address of this.hosts[name].newlyGivenUp(row.moment)) {
                 beside.push(['refused', `gives up on ${address}, drops what waited: ${MOST_REQUESTS} requests, no answer`, null]);
             }
@@ -156,28 +170,43 @@ export class Rows {
         const host = this.hosts[name];
         if (host.wake === null || !this.rows.length) return 'waits for a frame or a call';
         const now = this.history.momentsOf[name];
-        const [reason, more] = host.reason(host.wake, now, this.history.frames[OTHER[name]], this.rows.length);
+        const [reason, more] = this.reason(name, host.wake, now, this.rows.length);
         const when = host.wake <= now ? 'now' : `at ${seconds(host.wake)}`;
         return `wants a poll ${when}: ${reason}${more ? `: ${more}` : ''}`;
+    }
+
+    // Why a host wants to be polled then.
+    reason(owner, wake, now, row) {
+        const other = OTHER[owner];
+        return this.hosts[owner].reason(wake, now, this.history.frames[other], this.hosts[other], row);
+    }
+
+    // Keeps the longest wait of a host, where it ends, and why it was, by what was known just before.
+    endWait(owner, wake, moment, row) {
+        const host = this.hosts[owner];
+        if (!host.endsLongest(wake, moment)) return;
+        const [began, until, told] = host.waiting, [name, more] = this.reason(owner, until, told, row - 1);
+        host.longest = [began, moment, more ? `${name}: ${more}` : name];
     }
 
     // When the host wants to be polled, where that changed or the script asked, and why.
     wake(row, owner, wake) {
         const host = this.hosts[owner], asked = row.step.words[0] === 'pollat';
         host.wake = wake;
-        const [name, more] = wake === null ? [null, null] : host.reason(wake, row.moment, this.history.frames[OTHER[owner]], row.at);
-        host.onWake(wake, row.moment, more ? `${name}: ${more}` : name);
+        const [name, more] = wake === null ? [null, null] : this.reason(owner, wake, row.moment, row.at);
+        host.onWake(wake, row.moment);
         const told = wake === null ? null : `${wake} ${name}`, changed = host.told !== told;
         host.told = told;
+        const still = changed ? '' : 'still ';
         if (wake === null) {
-            if (changed || asked) row.beside[owner].push(['dim', 'waits for a frame or a call', null]);
+            if (changed || asked) row.beside[owner].push(['dim', `${still}waits for a frame or a call`, null]);
             row.opensWait[owner] = null;
         } else if (wake <= row.moment && !asked) {
             row.opensWait[owner] = null;
         } else if (changed || asked) {
             const when = wake <= row.moment ? 'now' : `at ${seconds(wake)}`;
-            row.beside[owner].push(['timer', `wants a poll ${when}: ${name}`, more ? `${name}: ${more}` : name]);
-            if (more && wake > row.moment) row.beside[owner].push(...wrapped(more).map((words) => ['why', words, more]));
+            row.beside[owner].push(['timer', `${still}wants a poll ${when}: ${name}`, more ? `${name}: ${more}` : name]);
+            if (more && changed && wake > row.moment) row.beside[owner].push(...wrapped(more).map((words) => ['why', words, more]));
             row.opensWait[owner] = wake;
         }
     }
