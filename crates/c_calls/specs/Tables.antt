@@ -10,10 +10,13 @@ use Rattle.ip_wire.specs.IpCidr.{IpCidr}
 use Rattle.sockets.specs.Addresses.{is_same_address, are_of_one_family}
 use Rattle.interface.specs.Host.{HostValue}
 use Rattle.interface.specs.Announced.{TellsUnless}
-use Rattle.interface.specs.Made.{with_inner, with_assemblers}
+pub use Rattle.interface.specs.Made.{with_inner, with_timeout}
+use Rattle.interface.specs.Made.{with_assemblers}
 use Rattle.interface.specs.Inner.{InnerValue}
 use Rattle.interface.specs.Route.{Route}
-use Rattle.interface.specs.Settings.{is_stranger, with_addresses, with_routes, with_hardware, hardware_refusal}
+pub use Rattle.interface.specs.Groups.{join_refusal, leave_refusal}
+pub use Rattle.interface.specs.Settings.{hardware_refusal, with_any_ip, with_group, with_hardware, without_group}
+use Rattle.interface.specs.Settings.{is_stranger, with_addresses, with_routes}
 use Rattle.interface.specs.HardwareAddrError.{HardwareAddrError}
 use Rattle.interface.specs.HardwareAddrError.TheVariants as No
 use Rattle.interface.specs.MulticastError.{MulticastError}

@@ -1,11 +1,10 @@
 //! TCP sockets.
 ghost use Rattle.std.specs.Prelude.{◌≡◌, if◌then◌else◌, length};
-ghost use Rattle.interface.specs.Made.{with_inner};
-ghost use Rattle.interface.specs.Inner.{context_of, drawn};
 ghost use Rattle.sockets.specs.AnySocket.{as_tcp};
 ghost use Rattle.sockets.specs.TcpCalls.{connect_answer, connect_after, connect_draws, send_answer, send_after, recv_answer};
 ghost use Rattle.sockets.specs.declared.socket.Socket.TheVariants as Kind;
 ghost use Rattle.c_calls.specs.Codes.{coded, of_connect, of_stream_send, of_stream_recv};
+ghost use Rattle.c_calls.specs.Configuring.{context_of, drawn, with_inner};
 ghost use Rattle.c_calls.specs.Ends.{TellsEnd};
 ghost use Rattle.c_calls.specs.Slots.{answer_at, found_at, after_at, written_at, draws_at};
 ghost use Rattle.c_calls.specs.Streams.{act_answer, act_after, read_after, read_written, done_answer, done_after, peeked, state_in, ends_in, queues_in, room_in};

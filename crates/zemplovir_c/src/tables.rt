@@ -1,14 +1,12 @@
 //! Addresses, routes and other settings of a host.
 ghost use Rattle.std.specs.Prelude.{◌≡◌};
-ghost use Rattle.interface.specs.Made.{with_inner, with_timeout};
-ghost use Rattle.interface.specs.Groups.{join_refusal, leave_refusal};
-ghost use Rattle.interface.specs.Settings.{hardware_refusal, with_hardware, with_any_ip, with_group, without_group};
 ghost use Rattle.ip_wire.specs.HardwareAddress.TheVariants as HardwareAddr;
 ghost use Rattle.ip_wire.specs.IpCidr.{IpCidr as Cidr};
 ghost use Rattle.std.specs.Prelude.{Result, Ok};
 ghost use Rattle.c_calls.specs.declared.code.Code.{Code as Refusal};
 ghost use Rattle.c_calls.specs.Tables.{is_done, own_with, own_without, routes_with, routes_without, with_own, with_table, route_to, hardware_answer, group_answer};
-ghost use Rattle.c_calls.specs.Tables.{UpdatesHardware, SetsSlots};
+ghost use Rattle.c_calls.specs.Tables.{UpdatesHardware, SetsSlots, hardware_refusal, join_refusal, leave_refusal, with_any_ip, with_group, with_hardware, with_inner};
+ghost use Rattle.c_calls.specs.Tables.{with_timeout, without_group};
 ghost use Rattle.zemplovir_c.specs.Answers.{all_done, answer_by, after_by, checked_answer, checked, Acts, Gives};
 ghost use Rattle.zemplovir_c.specs.Hosts.{IsCidrBy};
 ghost use Rattle.zemplovir_c.specs.Values.{required_in, is_on};
