@@ -224,7 +224,7 @@ fn is_held(inner: &InterfaceInner, fragmenter: &Fragmenter, meta: &Meta) -> bool
     fragmenter.is_waiting() || is_waiting(inner, meta)
 }
 
-/// Lets a packet leave straight to its hardware address, where that is known. Says whether it left.
+/// Transmits a packet straight to its hardware address, where that is known. Says whether it went.
 fn transmit_if_known<D: Device>(
     inner: &mut InterfaceInner,
     device: &mut D,

@@ -165,7 +165,7 @@ fn send_offered<D: Device>(
     turned_by(sent, changed)
 }
 
-/// Lets the packet of the open offer leave. A segment and a datagram that go straight to a hardware address are sent from where they lie in
+/// Transmits the packet of the open offer. A segment and a datagram that go straight to a hardware address are sent from where they lie in
 /// their sockets.
 fn transmit_offered<D: Device>(
     turn: &Option<IpAddress>,
@@ -266,8 +266,8 @@ fn transmit_any<D: Device>(
     transmit(turn, inner, fragmenter, device, meta, &packet)
 }
 
-/// Lets a packet leave from its source, if the device gives leave: straight to a hardware address, as nearly each does, else by its
-/// plan.
+/// Transmits a packet from its source, if the device has a transmit token: straight to a hardware address, as nearly each goes, else
+/// by its plan.
 fn transmit<D: Device>(
     turn: &Option<IpAddress>,
     inner: &mut InterfaceInner,
@@ -288,7 +288,7 @@ fn transmit<D: Device>(
     }
 }
 
-/// Lets a packet leave straight to its hardware address, if the device gives leave.
+/// Transmits a packet whose hardware address is known, if the device has a transmit token.
 pub(crate) fn transmit_direct_segment<D: Device, P: Carried>(
     inner: &mut InterfaceInner,
     device: &mut D,
@@ -312,7 +312,7 @@ pub(crate) fn transmit_direct_segment<D: Device, P: Carried>(
     }
 }
 
-/// Lets a packet leave from its source by its plan, if the device gives leave. One that keeps its source isn't copied. It stands apart, so
+/// Transmits a packet from its source by its plan, if the device has a transmit token. One that keeps its source isn't copied. Apart, so
 /// that its plan isn't made ready where none is needed.
 #[inline(never)]
 fn transmit_planned<D: Device>(
@@ -337,7 +337,7 @@ fn transmit_planned<D: Device>(
     }
 }
 
-/// Lets a packet leave from the address that is chosen for its destination. It stands apart, so that its copy isn't made ready where
+/// Transmits a packet from the address that is chosen for its destination. It stands apart, so that its copy isn't made ready where
 /// none is needed.
 #[inline(never)]
 fn transmit_sourced<D: Device>(
@@ -359,7 +359,7 @@ fn transmit_sourced<D: Device>(
     transmit_as_is(turn, inner, fragmenter, device, meta, &leaving, from_here)
 }
 
-/// Lets a packet leave as it is, of which it is known whether it may come from its source.
+/// Transmits a packet as it is, of which it is known whether it may come from its source.
 fn transmit_as_is<D: Device>(
     turn: &Option<IpAddress>,
     inner: &mut InterfaceInner,
@@ -445,7 +445,7 @@ fn with_source(header: &IpRepr, source: &Option<IpAddress>) -> IpRepr
     }
 }
 
-/// Sends a packet that isn't held, if the device gives leave. Without leave it counts as refused.
+/// Transmits a packet that isn't held, if the device has a transmit token. Without one it counts as refused.
 fn send_packet<D: Device>(
     turn: &Option<IpAddress>,
     inner: &mut InterfaceInner,
@@ -472,7 +472,7 @@ fn send_packet<D: Device>(
     }
 }
 
-/// What becomes of a packet that doesn't go, though the device gives leave: it is given up, or waits for its neighbour's turn to be
+/// What becomes of a packet that doesn't go, though the device has a transmit token: it is given up, or waits for its neighbour's turn to be
 /// asked for.
 fn held(
     turn: &Option<IpAddress>,

@@ -129,7 +129,7 @@ impl Tcb {
         self.timers.probe_at = Some(timeout_from(now, &self.round_trip));
     }
 
-    /// What was offered went, where the receive buffer has this capacity.
+    /// The pending packet was transmitted, where the receive buffer has this capacity.
     pub fn sent(&mut self, offer: &OpenOffer, queued: usize, capacity: usize)
         requires instant { IsMoment offer.now.instant }
         requires end { EndsNear offer.now.kind self.old offer.now }
