@@ -50,7 +50,10 @@ def forward(ends, here, there, size, tells, dropped):
     one, other = of
     while not ends.is_set():
         for it in select.select([one, other], [], [], 0.2)[0]:
-            frame, at = it.recvfrom(65536)
+            try:
+                frame, at = it.recvfrom(65536)
+            except OSError:  # an end that just came up
+                continue
             if at[2] == socket.PACKET_OUTGOING:
                 continue
             if is_dropped(frame, size):

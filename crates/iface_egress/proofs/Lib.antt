@@ -17,3 +17,6 @@ pub mod GoesWhole
 pub mod Lent
 pub mod Resting
 pub mod Filing
+pub mod Served
+pub mod Requested
+pub mod KeptOrder

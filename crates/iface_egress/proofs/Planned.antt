@@ -1,5 +1,5 @@
 -- What is known where a packet has a plan.
-use Rattle.std.proofs.Common.{◌≡◌, ℕ, ◌+◌, ◌<◌, ◌≤◌, Bool, true, false, cond, if◌then◌else◌, Option, Some, None, is_some, refl, arith}
+use Rattle.std.proofs.Common.{◌≡◌, ℕ, ◌+◌, ◌<◌, ◌≤◌, Bool, true, false, cond, if◌then◌else◌, Option, Some, None, is_some, refl, sym, ap, subst, ◌∙◌, arith}
 use Rattle.std.specs.Prelude.{ℤ, int_lt, nat_le, ◌&&◌, not}
 use Rattle.std.proofs.lemmas.Bool.Decides.{nat_tests}
 use Rattle.ip_wire.specs.AddressTests.{is_multicast}
@@ -15,9 +15,9 @@ use Rattle.ip_wire.specs.IpRepr.TheVariants as Ip
 use Rattle.ip_wire.specs.Ipv4Address.{Ipv4Address}
 use Rattle.socket_context.specs.Packet.{PacketValue, IsSendable}
 use Rattle.iface_tables.proofs.PathMtu.{mtu_within}
-use Rattle.iface_tables.specs.Inner.{mtu_to}
+use Rattle.iface_tables.specs.Inner.{asked_of, mtu_to, silence_of}
 use Rattle.iface_tables.specs.Inner.{InnerValue, is_local_broadcast, next_hop, link_by, link_of_hop, link_on, link_address, group_hardware_addr, all_stations}
-use Rattle.iface_tables.specs.Neighbor.{CacheValue, lookup, missing, answer_by, neighbor_index_of, unless_failed, has_failed}
+use Rattle.iface_tables.specs.Neighbor.{CacheValue, last_request, own_silence, lookup, missing, answer_by, neighbor_index_of, unless_failed, has_failed}
 use Rattle.iface_tables.specs.Best.{at_index}
 use Rattle.iface_tables.specs.Source.{source_v4, source_v6}
 use Rattle.iface_tables.specs.declared.link.LinkAddress.{LinkAddress}
@@ -25,6 +25,7 @@ use Rattle.iface_tables.specs.declared.link.LinkAddress.TheVariants as Link
 use Rattle.iface_tables.specs.declared.neighbor.Answer.{Answer}
 use Rattle.iface_tables.specs.declared.neighbor.Answer.TheVariants as Known
 use Rattle.iface_tables.specs.declared.neighbor.Neighbor.{Neighbor}
+use Rattle.iface_egress.specs.Departure.{target_of}
 use Rattle.iface_egress.specs.Fragments.{LeftValue}
 use Rattle.iface_egress.specs.Plan.{longest_cut, total_len, has_extensions, cut_if_idle, long_plan, solicit_v4, solicit_from, solicit_on, may_solicit, solicit_if, plan_by, never_leaves}
 use Rattle.iface_egress.specs.Plan.{plan_of, IsPacket, CanBeCarried}
@@ -35,9 +36,17 @@ use Rattle.iface_egress.specs.declared.plan.Plan.TheVariants as Way
 
 -- A NEXT HOP THAT MAY BE ASKED FOR
 
--- the silence is over
+-- the silence that counts for it is over
+abbrev pub MayAskFor : InnerValue → IpAddress → Type 0
+MayAskFor i hop = int_lt i.instant (silence_of i hop) ≡ false
+
+-- where there is one silence for all, it is over
 abbrev pub MayAsk : InnerValue → Type 0
-MayAsk i = int_lt i.instant i.neighbors.silent ≡ false
+MayAsk i = i.host_requirements ≡ false → int_lt i.instant i.neighbors.silent ≡ false
+
+may_ask_by : (i : InnerValue) (hop : IpAddress) → MayAskFor i hop → MayAsk i
+may_ask_by i hop over alone =
+    ap (λ (own : Bool). int_lt i.instant (if own then own_silence (last_request i.neighbors hop) i.neighbors else i.neighbors.silent)) (sym alone) ∙ over
 
 missing_by : (b : Bool) → cond b Known.RateLimited Known.NotFound ≡ Known.NotFound → b ≡ false
 missing_by true is = absurd cc
@@ -68,12 +77,20 @@ link_by_is Known.RateLimited hop other is = absurd cc
 link_by_is Known.Unanswered hop other is = absurd cc
 link_by_is Known.NotFound hop other is = refl
 
-of_hop_is : (i : InnerValue) (o : Option IpAddress) (hop : IpAddress) → link_of_hop i o ≡ Link.Unknown hop → MayAsk i
+abbrev hop_in : LinkAddress → IpAddress → IpAddress
+hop_in (Link.Unknown hop) other = hop
+hop_in link other = other
+
+of_hop_is : (i : InnerValue) (o : Option IpAddress) (hop : IpAddress) → link_of_hop i o ≡ Link.Unknown hop → MayAskFor i hop
 of_hop_is i None hop is = absurd cc
 of_hop_is i (Some next) hop is =
     let entry : Option Neighbor = at_index (neighbor_index_of i.neighbors.entries next) i.neighbors.entries in
-    answer_is entry i.neighbors i.instant
-    (unless_is (has_failed i.neighbors next i.instant) (answer_by entry i.neighbors i.instant) (link_by_is (lookup i.neighbors next i.instant) next hop is))
+    let missed : lookup (asked_of i next) next i.instant ≡ Known.NotFound = link_by_is (lookup (asked_of i next) next i.instant) next hop is in
+    let over : int_lt i.instant (asked_of i next).silent ≡ false =
+    answer_is entry (asked_of i next) i.instant
+    (unless_is (has_failed (asked_of i next) next i.instant) (answer_by entry (asked_of i next) i.instant) missed) in
+    let same : next ≡ hop = ap (λ (a : Answer). hop_in (link_by a next) next) (sym missed) ∙ ap (λ (l : LinkAddress). hop_in l next) is in
+    subst (MayAskFor i) same over
 
 last_of : (b c : Bool) (x y : HardwareAddress) (z : LinkAddress) (hop : IpAddress) → cond b (Link.Known x) (cond c (Link.Known y) z) ≡ Link.Unknown hop →
     z ≡ Link.Unknown hop
@@ -81,7 +98,7 @@ last_of true c x y z hop is = absurd cc
 last_of false true x y z hop is = absurd cc
 last_of false false x y z hop is = is
 
-on_is : (hardware : HardwareAddress) (i : InnerValue) (address hop : IpAddress) → link_on hardware i address ≡ Link.Unknown hop → MayAsk i
+on_is : (hardware : HardwareAddress) (i : InnerValue) (address hop : IpAddress) → link_on hardware i address ≡ Link.Unknown hop → MayAskFor i hop
 on_is Hardware.Ip i address hop is = absurd cc
 on_is (Hardware.Ethernet local) i address hop is =
     of_hop_is i (next_hop i address) hop
@@ -102,7 +119,7 @@ AsksFrom hardware (Query.Arp local source target) = hardware ≡ Hardware.Ethern
 AsksFrom hardware (Query.Neighbor local source target) = hardware ≡ Hardware.Ethernet local
 
 module _ (i : InnerValue) (busy : Bool) (h : IpRepr) (P : Plan →
-    Type 0) (out : P Way.Drop) (none : P Way.NoRoute) (wait : P Way.Wait) (held : P Way.Busy) (ask : (q : NeighborQuery) → MayAsk i → AsksFrom i.hardware q →
+    Type 0) (out : P Way.Drop) (none : P Way.NoRoute) (wait : P Way.Wait) (held : P Way.Busy) (ask : (q : NeighborQuery) → MayAskFor i (target_of q) → AsksFrom i.hardware q →
     P (Way.Ask q)) (go : (to : HardwareAddress) → total_len h ≤ i.mtu → P (Way.Go to)) (cut : (to : HardwareAddress) →
     mtu_to i (destination_of h) < total_len h → total_len h ≤ longest_cut → has_extensions h ≡ false → busy ≡ false → P (Way.Cut to)) where
   cut_by : (to : HardwareAddress) → mtu_to i (destination_of h) < total_len h → total_len h ≤ longest_cut → has_extensions h ≡ false → (b : Bool) →
@@ -124,19 +141,19 @@ module _ (i : InnerValue) (busy : Bool) (h : IpRepr) (P : Plan →
   to_by to false e =
       long_by to (lt_by (total_len h) (mtu_to i (destination_of h)) e) (nat_le (total_len h) longest_cut) (has_extensions h) refl refl
 
-  ask_v4_by : (local : EthernetAddress) (o : Option Ipv4Address) (hop : Ipv4Address) → MayAsk i → i.hardware ≡ Hardware.Ethernet local → P (solicit_v4 local o hop)
+  ask_v4_by : (local : EthernetAddress) (o : Option Ipv4Address) (hop : Ipv4Address) → MayAskFor i (Address.Ipv4 hop) → i.hardware ≡ Hardware.Ethernet local → P (solicit_v4 local o hop)
   ask_v4_by local None hop may from = none
   ask_v4_by local (Some source) hop may from = ask (Query.Arp local source hop) may from
 
-  ask_from_by : (local : EthernetAddress) (hop : IpAddress) → MayAsk i → i.hardware ≡ Hardware.Ethernet local → P (solicit_from local i hop)
+  ask_from_by : (local : EthernetAddress) (hop : IpAddress) → MayAskFor i hop → i.hardware ≡ Hardware.Ethernet local → P (solicit_from local i hop)
   ask_from_by local (Address.Ipv4 hop) may from = ask_v4_by local (source_v4 i.addresses hop) hop may from
   ask_from_by local (Address.Ipv6 hop) may from = ask (Query.Neighbor local (source_v6 i.addresses hop) hop) may from
 
-  ask_on_by : (hardware : HardwareAddress) (hop : IpAddress) → i.hardware ≡ hardware → MayAsk i → P (solicit_on hardware i hop)
+  ask_on_by : (hardware : HardwareAddress) (hop : IpAddress) → i.hardware ≡ hardware → MayAskFor i hop → P (solicit_on hardware i hop)
   ask_on_by Hardware.Ip hop is may = none
   ask_on_by (Hardware.Ethernet local) hop is may = ask_from_by local hop may is
 
-  ask_by : (may : Bool) (hop : IpAddress) → MayAsk i → P (solicit_if may i hop)
+  ask_by : (may : Bool) (hop : IpAddress) → MayAskFor i hop → P (solicit_if may i hop)
   ask_by true hop may = ask_on_by i.hardware hop refl may
   ask_by false hop may = none
 
@@ -147,11 +164,19 @@ module _ (i : InnerValue) (busy : Bool) (h : IpRepr) (P : Plan →
   link_cases Link.Unanswered is = out
   link_cases (Link.Unknown hop) is = ask_by (may_solicit i hop) hop (on_is i.hardware i (destination_of h) hop is)
 
-  pub plan_cases : P (plan_of i busy h)
-  plan_cases = elim (never_leaves i h) as (λ b. P (cond b Way.Drop (plan_by (link_address i (destination_of h)) i busy h))) [
+  pub plan_cases_for : P (plan_of i busy h)
+  plan_cases_for = elim (never_leaves i h) as (λ b. P (cond b Way.Drop (plan_by (link_address i (destination_of h)) i busy h))) [
     | true ↦ out
     | false ↦ link_cases (link_address i (destination_of h)) refl
   ]
+
+-- the same where it is of no matter which one is asked for
+module _ (i : InnerValue) (busy : Bool) (h : IpRepr) (P : Plan →
+    Type 0) (out : P Way.Drop) (none : P Way.NoRoute) (wait : P Way.Wait) (held : P Way.Busy) (ask : (q : NeighborQuery) → MayAsk i → AsksFrom i.hardware q →
+    P (Way.Ask q)) (go : (to : HardwareAddress) → total_len h ≤ i.mtu → P (Way.Go to)) (cut : (to : HardwareAddress) →
+    mtu_to i (destination_of h) < total_len h → total_len h ≤ longest_cut → has_extensions h ≡ false → busy ≡ false → P (Way.Cut to)) where
+  pub plan_cases : P (plan_of i busy h)
+  plan_cases = plan_cases_for i busy h P out none wait held (λ q over from. ask q (may_ask_by i (target_of q) over) from) go cut
 
 -- WHAT IS PLANNED CAN BE DONE
 

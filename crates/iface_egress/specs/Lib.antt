@@ -9,6 +9,8 @@ pub mod Departure
 pub mod Fragments
 pub mod Plan
 pub mod IsTransmitted
+pub mod Sender
+pub mod Parked
 pub mod FastPath
 pub mod Departing
 pub mod Determined

@@ -122,11 +122,12 @@ pub fn numbers_differ()
     ensures { (first j k : ℕ) → j < 2 ^ 16 → k < 2 ^ 16 → (first + j) % 2 ^ 16 ≡ (first + k) % 2 ^ 16 → j ≡ k }
 {}
 
-/// Law: a neighbour is asked for only where the silence is over; and a request that the device accepted begins one of a second.
-/// Nothing else on egress begins or ends one.
+/// Law: where one silence is for all, a neighbour is asked for only where it is over; and a request that the device accepted begins one
+/// of a second. Nothing else on egress begins or ends one.
 pub fn asks_a_second_apart<D: Device>()
     ensures asked { (i : InnerValue) (busy : Bool) (header : IpRepr) (neighbor_query : NeighborQuery)
         → plan_of i busy header ≡ Way.Ask neighbor_query
+        → i.host_requirements ≡ false
         → int_lt i.instant i.neighbors.silent ≡ false }
     ensures silence { (old new : D) (i i' : InnerValue) (l l' : Option LeftValue) (busy : Bool) (p : PacketValue) (sent : Sent)
         → IsTransmitted D.moves old i l p (plan_of i busy p.header) sent new i' l'

@@ -10,8 +10,10 @@ mod fragmenter;
 mod frame;
 mod key_index;
 pub mod laws;
+mod parked;
 mod payload;
 mod plan;
+pub mod search_laws;
 mod slots;
 pub mod socket_laws;
 mod socket_meta;
@@ -29,6 +31,7 @@ pub use iface_tables::{
     NotUnicast, PacketAssemblerSet, Route, RouteTableFull, Routes, TABLE_ROOM,
 };
 pub use key_index::Wanted;
+pub use parked::{park_if_searched, send_parked};
 pub use payload::{Carried, Direct, LentDatagram, LentSegment};
 pub use plan::{Plan, plan_for, plan_from};
 pub use slots::Slots;

@@ -44,6 +44,7 @@ same_itself i = record {
   ident =
       refl;
   initial = refl;
+  parking = refl;
 }
 
 same_then : (i j k : InnerValue) → HasSameSettings i j → HasSameSettings j k → HasSameSettings i k
@@ -62,6 +63,7 @@ same_then i j k first second = record {
   silent = second.silent ∙ first.silent;
   ident = second.ident ∙ first.ident;
   initial = second.initial ∙ first.initial;
+  parking = second.parking ∙ first.parking;
 }
 
 same_at : (i j k : InnerValue) → k ≡ j → HasSameSettings i j → HasSameSettings i k
@@ -86,6 +88,7 @@ same_renewed_by i (Some link) sender =
       ident =
           refl;
       initial = refl;
+      parking = refl;
     }
 
 same_renewed : (i : InnerValue) (link : Option EthernetRepr) (ip : IpRepr) → HasSameSettings i (renewed i link ip)
@@ -112,6 +115,7 @@ same_drawn true i = record {
       refl;
   ident = refl;
   initial = refl;
+  parking = refl;
 }
 same_drawn false i = same_itself i
 
@@ -142,6 +146,7 @@ same_heard i header message =
       ident =
           refl;
       initial = refl;
+      parking = refl;
     })
 
 same_told : (i : InnerValue) (address : IpAddress) (told : ℕ) → HasSameSettings i (with_path i address told)
@@ -161,6 +166,7 @@ same_told i address told = record {
       refl;
   ident = refl;
   initial = refl;
+  parking = refl;
 }
 
 same_path_v4 : (i : InnerValue) (slots : Slots) (payload : List ℕ) (message : Icmpv4Header) (bytes : List ℕ) →
@@ -212,6 +218,7 @@ same_error i = record {
       refl;
   ident = refl;
   initial = refl;
+  parking = refl;
 }
 
 same_limited : (i : InnerValue) (slots : Slots) (ip : IpRepr) (payload : List ℕ) (taken : Bool) (carried : Option PayloadValue) →
@@ -257,6 +264,7 @@ same_learned i (Arps.EthernetIpv4 operation source_hardware source target_hardwa
       ident =
           refl;
       initial = refl;
+      parking = refl;
     }
 
 same_arp : (i : InnerValue) (packet : ArpRepr) → HasSameSettings i (arp_arrived i packet)

@@ -90,6 +90,7 @@ pub record HasSameSettings (i i' : InnerValue) : Type 0 where
   pub silent : i'.neighbors.silent ≡ i.neighbors.silent
   pub ident : i'.ident ≡ i.ident
   pub initial : i'.initial ≡ i.initial
+  pub parking : i'.parking ≡ i.parking
 
 -- NEIGHBOURS
 

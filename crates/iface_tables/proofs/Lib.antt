@@ -4,6 +4,7 @@ pub mod ByPrefix
 pub mod Changed
 pub mod ErrorLimit
 pub mod Oldest
+pub mod Parked
 pub mod Orders
 pub mod PathMtu
 pub mod Places

@@ -18,11 +18,14 @@ use Rattle.ip_wire.specs.IpCidr.{IpCidr}
 use Rattle.ip_wire.specs.IpCidr.TheVariants as Cidr
 use Rattle.ip_wire.specs.Ipv4Address.{Ipv4Address}
 use Rattle.ip_wire.specs.Ipv6Address.{Ipv6Address}
+use Rattle.ip_wire.specs.Ip.{destination_of}
 use Rattle.socket_context.specs.Context.{ContextValue}
+use Rattle.socket_context.specs.Packet.{PacketValue}
 use Rattle.iface_tables.specs.ErrorLimit.{may_answer, answered_at}
 pub use Rattle.iface_tables.specs.Groups.{is_all_systems, is_all_nodes}
 use Rattle.iface_tables.specs.Groups.{is_joined}
-use Rattle.iface_tables.specs.Neighbor.{CacheValue, lookup, is_found, filled, renewed, requested, search_room, silent_time, entry_lifetime}
+use Rattle.iface_tables.specs.Neighbor.{CacheValue, last_request, own_silence, lookup, is_found, filled, renewed, requested, silent_time, entry_lifetime}
+use Rattle.iface_tables.specs.Parking.{ParkingValue, parked_as, with_parked}
 use Rattle.iface_tables.specs.PathMtu.{mtu_towards, end_towards, lowered}
 use Rattle.iface_tables.specs.Route.{best_route, router_of}
 use Rattle.iface_tables.specs.Source.{source_for}
@@ -31,6 +34,7 @@ use Rattle.iface_tables.specs.declared.link.LinkAddress.{LinkAddress}
 use Rattle.iface_tables.specs.declared.link.LinkAddress.TheVariants as Link
 use Rattle.iface_tables.specs.declared.neighbor.Answer.{Answer}
 use Rattle.iface_tables.specs.declared.neighbor.Answer.TheVariants as Known
+use Rattle.iface_tables.specs.declared.parking.ParkedHeader.{ParkedHeader}
 use Rattle.iface_tables.specs.declared.path_mtu.Path.{Path}
 use Rattle.iface_tables.specs.declared.route.Route.{Route}
 
@@ -39,8 +43,8 @@ use Rattle.iface_tables.specs.declared.route.Route.{Route}
 -- numbers of connections are told, if there is one; the local addresses, and whether every address is one; the multicast groups that were
 -- joined; the routes, how many there can be, and the neighbours;
 -- the identification of the next IPv4 datagram; the instant up to which errors that went are counted; what was told of paths;
--- whether nothing ran yet; and whether it does what RFC 1122 and the standards after it ask of a host on a network of many, where smoltcp
--- does otherwise.
+-- whether nothing ran yet; whether it does what RFC 1122 and the standards after it ask of a host on a network of many, where smoltcp
+-- does otherwise; and then the packets that wait for their next hops.
 pub record InnerValue : Type 0 where
   pub instant : ℤ
   pub random : ℕ
@@ -59,6 +63,7 @@ pub record InnerValue : Type 0 where
   pub paths : List Path
   pub initial : Bool
   pub host_requirements : Bool
+  pub parking : ParkingValue
 
 -- OWN ADDRESSES
 
@@ -193,9 +198,18 @@ link_by Known.RateLimited hop = Link.Silent
 link_by Known.Unanswered hop = Link.Unanswered
 link_by Known.NotFound hop = Link.Unknown hop
 
+-- Until when no request for an address goes: with host requirements each has a silence of its own (RFC 1122, section 2.3.2.1; RFC 4861,
+-- section 7.2.2), else one silence is for all.
+abbrev pub silence_of : InnerValue → IpAddress → ℤ
+silence_of i address = if i.host_requirements then own_silence (last_request i.neighbors address) i.neighbors else i.neighbors.silent
+
+-- the neighbours, with the silence that counts for this address
+abbrev pub asked_of : InnerValue → IpAddress → CacheValue
+asked_of i address = record i.neighbors { silent = silence_of i address }
+
 abbrev pub link_of_hop : InnerValue → Option IpAddress → LinkAddress
 link_of_hop i None = Link.NoRoute
-link_of_hop i (Some hop) = link_by (lookup i.neighbors hop i.instant) hop
+link_of_hop i (Some hop) = link_by (lookup (asked_of i hop) hop i.instant) hop
 
 abbrev pub link_on : HardwareAddress → InnerValue → IpAddress → LinkAddress
 link_on Hardware.Ip i address = Link.Known Hardware.Ip
@@ -236,9 +250,29 @@ awaited_by (Some hop) i = if is_awaited (lookup i.neighbors hop i.instant) then 
 abbrev pub awaited_hop : InnerValue → IpAddress → Option IpAddress
 awaited_hop i address = awaited_by (next_hop i address) i
 
--- the host asks for as many neighbours as it keeps count of
+-- PACKETS THAT WAIT FOR THEIR NEXT HOPS
+
+-- one without a route is dropped
+abbrev pub parked_by : Option IpAddress → InnerValue → PacketValue → ParkingValue
+parked_by None i p = i.parking
+parked_by (Some hop) i p = with_parked (parked_as i.checksums hop p) i.parking
+
+abbrev pub with_packet_parked : InnerValue → PacketValue → InnerValue
+with_packet_parked i p = record i { parking = parked_by (next_hop i (destination_of p.header)) i p }
+
+-- when something is to be done about one: when its next hop may be asked for again, else at once
+abbrev pub due_by : LinkAddress → InnerValue → IpAddress → ℤ
+due_by Link.Silent i hop = silence_of i hop
+due_by link i hop = pos 0
+
+abbrev pub parked_instant : InnerValue → ParkedHeader → ℤ
+parked_instant i h = due_by (link_address i (destination_of h.header)) i h.hop
+
+-- NEIGHBOURS THAT ARE ASKED FOR
+
+-- The host asks for as many neighbours as it keeps count of, and others wait for their turn; with host requirements the oldest search gives way.
 abbrev pub is_crowded : InnerValue → Bool
-is_crowded i = not (nat_lt (length i.neighbors.searches) search_room)
+is_crowded i = not i.host_requirements && not (nat_lt (length i.neighbors.searches) i.neighbors.search_room)
 
 -- when a neighbour may be asked for again: at the end of the silence, else in a second
 abbrev pub next_request : InnerValue → ℤ

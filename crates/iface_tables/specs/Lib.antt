@@ -5,6 +5,7 @@ pub mod Groups
 pub mod Inner
 pub mod Looks
 pub mod Neighbor
+pub mod Parking
 pub mod PathMtu
 pub mod Searches
 pub mod FragmentList

@@ -1,5 +1,5 @@
 -- What an interface knows of its neighbours, as a value (RFC 826; RFC 1122, section 2.3.2; RFC 4861, section 5.1).
-use Rattle.std.specs.Prelude.{ℕ, ◌+◌, ℤ, pos, ◌+ℤ◌, int_lt, Bool, true, false, not, ◌&&◌, nat_lt, if◌then◌else◌, List, [], ◌∷◌, ◌++◌, length, slice_set, remove, max}
+use Rattle.std.specs.Prelude.{ℕ, ◌+◌, ℤ, pos, ◌+ℤ◌, int_lt, Bool, true, false, not, ◌&&◌, nat_lt, if◌then◌else◌, List, [], ◌∷◌, ◌++◌, length, slice_get, slice_set, remove, max}
 use Rattle.std.specs.Prelude.{replicate, Option, None, Some, position}
 use Rattle.ip_wire.specs.HardwareAddress.{HardwareAddress}
 use Rattle.ip_wire.specs.HardwareAddress.TheVariants as Hardware
@@ -19,6 +19,14 @@ pub record CacheValue : Type 0 where
   pub room : ℕ
   pub silent : ℤ
   pub searches : List Search
+  pub search_room : ℕ
+
+-- how many are asked for at a time, and on a network of many
+abbrev pub search_room : ℕ
+search_room = 8
+
+abbrev pub search_room_of_many : ℕ
+search_room_of_many = 64
 
 -- a second and a minute, in microseconds
 abbrev pub silent_time : ℕ
@@ -28,7 +36,11 @@ abbrev pub entry_lifetime : ℕ
 entry_lifetime = 60_000_000
 
 abbrev pub initial : ℕ → CacheValue
-initial room = record { entries = []; room = room; silent = pos 0; searches = [] }
+initial room = record { entries = []; room = room; silent = pos 0; searches = []; search_room = search_room }
+
+-- on a network of many
+abbrev pub for_many : CacheValue → CacheValue
+for_many c = record c { search_room = search_room_of_many }
 
 -- for so many neighbours there is room in a cache that is asked for this many: one at least
 abbrev pub cache_room : ℕ → ℕ
@@ -59,16 +71,12 @@ answer_by (Some entry) c instant =
 
 -- NEIGHBOURS THAT DON'T ANSWER
 
--- how often a neighbour is asked for (RFC 4861, section 10, MAX_MULTICAST_SOLICIT); how long it then counts as without answer; and
--- how many are asked for at a time
+-- how often a neighbour is asked for (RFC 4861, section 10, MAX_MULTICAST_SOLICIT), and how long it then counts as without answer
 abbrev pub most_requests : ℕ
 most_requests = 3
 
 abbrev pub failed_time : ℕ
 failed_time = 3_000_000
-
-abbrev pub search_room : ℕ
-search_room = 8
 
 -- what stands in an unused place of that table
 abbrev pub no_search : Search
@@ -191,16 +199,16 @@ asked_before a b = int_lt a.answer_by b.answer_by
 abbrev pub oldest_search : List Search → ℕ
 oldest_search searches = index_of_first_best asked_before searches
 
-abbrev pub searched_at : Option ℕ → Option Search → List Search → IpAddress → ℤ → List Search
-searched_at (Some at) (Some s) searches address instant = slice_set searches at (one_more s instant)
-searched_at index s searches address instant =
-    if nat_lt (length searches) search_room then searches ++ first_search address instant ∷ []
+abbrev pub searched_at : ℕ → Option ℕ → Option Search → List Search → IpAddress → ℤ → List Search
+searched_at room (Some at) (Some s) searches address instant = slice_set searches at (one_more s instant)
+searched_at room index s searches address instant =
+    if nat_lt (length searches) room then searches ++ first_search address instant ∷ []
     else remove searches (oldest_search searches) ++ first_search address instant ∷ []
 
 -- a neighbour was asked for, and the silence begins
 abbrev pub requested : CacheValue → IpAddress → ℤ → CacheValue
 requested c address instant = record (silenced c instant) {
-  searches = searched_at (search_index c.searches address) (search_of c.searches address) c.searches address instant;
+  searches = searched_at c.search_room (search_index c.searches address) (search_of c.searches address) c.searches address instant;
 }
 
 -- until when the last request for an address is to be answered, if it is asked for
@@ -210,6 +218,16 @@ answer_of (Some s) = Some s.answer_by
 
 abbrev pub last_request : CacheValue → IpAddress → Option ℤ
 last_request c address = answer_of (search_of c.searches address)
+
+-- Until when no request for an address goes that has a silence of its own: until its last one is to be answered; and where as many are asked
+-- for as may, until the oldest of them is (so no more go in any second).
+abbrev pub answer_due : Option Search → ℤ
+answer_due None = pos 0
+answer_due (Some s) = s.answer_by
+
+abbrev pub own_silence : Option ℤ → CacheValue → ℤ
+own_silence (Some until) c = until
+own_silence None c = if nat_lt (length c.searches) c.search_room then pos 0 else answer_due (slice_get c.searches (oldest_search c.searches))
 
 -- no entry and no search is left, and the silence goes on
 abbrev pub flushed : CacheValue → CacheValue

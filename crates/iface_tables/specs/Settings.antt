@@ -15,8 +15,9 @@ use Rattle.ip_wire.specs.IpAddress.{IpAddress}
 use Rattle.ip_wire.specs.IpCidr.{IpCidr}
 use Rattle.iface_tables.specs.Groups.{join_refusal, joined, leave_refusal, left}
 use Rattle.iface_tables.specs.Inner.{InnerValue}
-use Rattle.iface_tables.specs.Neighbor.{flushed}
+use Rattle.iface_tables.specs.Neighbor.{CacheValue, flushed}
 use Rattle.iface_tables.specs.Neighbor as Neighbors
+use Rattle.iface_tables.specs.Parking.{empty_parking, room_for_many}
 use Rattle.iface_tables.specs.Route.{RoutesValue}
 use Rattle.iface_tables.specs.declared.route.Route.{Route}
 use Rattle.iface_tables.specs.declared.config.Config.{Config}
@@ -79,6 +80,9 @@ refusal config device instant =
 abbrev pub first_ident : ℕ → ℕ
 first_ident word = if word == 0 then 1 else word
 
+abbrev pub neighbors_for : Bool → CacheValue → CacheValue
+neighbors_for many c = if many then Neighbors.for_many c else c
+
 abbrev pub made : Config → DeviceCapabilities → ℤ → InnerValue
 made config device instant = record {
   instant = instant;
@@ -92,12 +96,13 @@ made config device instant = record {
   groups = [];
   routes = [];
   route_room = config.max_route_count;
-  neighbors = Neighbors.initial (Neighbors.cache_room config.neighbor_cache_count);
+  neighbors = neighbors_for config.host_requirements (Neighbors.initial (Neighbors.cache_room config.neighbor_cache_count));
   ident = first_ident (half_word (next_state config.random_seed));
   errors_until = pos 0;
   paths = [];
   initial = true;
   host_requirements = config.host_requirements;
+  parking = empty_parking (room_for_many config.host_requirements);
 }
 
 -- A refusal has its reason. Without one it is made, or there is no memory for it.

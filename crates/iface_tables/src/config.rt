@@ -1,10 +1,17 @@
 //! How a host is made, and what its settings refuse.
-ghost use Rattle.std.specs.Prelude.{◌≡◌};
+ghost use Rattle.std.specs.Prelude.{◌≡◌, ◌≤◌, None, IfOk};
+ghost use Rattle.net_base.specs.Time.{IsMoment};
+ghost use Rattle.net_base.specs.Capabilities.{ip_mtu};
 ghost use Rattle.iface_tables.specs.Refusals.{new_error_text, hardware_addr_error_text};
-ghost use Rattle.iface_tables.specs.Settings.{default_config, network_config, is_of_medium, is_unicast_hardware, is_mtu, refusal};
+ghost use Rattle.iface_tables.specs.Settings.{default_config, network_config, is_of_medium, is_unicast_hardware, is_mtu, refusal, neighbors_for};
+ghost use Rattle.iface_tables.specs.Neighbor as Neighbors;
+ghost use Rattle.iface_tables.specs.Parking.{empty_parking, parking_size, room_for_many};
 
+use crate::neighbor::Cache;
+use crate::parking::{PARKING_SIZE, Parking};
 use ip_wire::{HardwareAddress, IPV4_MIN_MTU};
 use net_base::{DeviceCapabilities, Instant, Medium};
+use std::alloc::{AllocError, Global};
 use std::fmt;
 
 /// How many local addresses a host keeps, and how many neighbours and routes where its configuration names no other number.
@@ -150,7 +157,8 @@ impl std::error::Error for NotUnicast {}
 
 /// The first reason why no interface is made of these, if there is one.
 pub fn refusal(config: &Config, device: &DeviceCapabilities, now: Instant) -> Option<NewError>
-    ensures { result ≡ refusal config.now device.now now }
+    ensures reason { result ≡ refusal config.now device.now now }
+    ensures none { result ≡ None → IsMoment now × (576 ≤ ip_mtu device.now) × (ip_mtu device.now ≤ 65535) }
 {
     if !is_of_medium(&config.hardware_addr, device.medium) {
         Some(NewError::Medium)
@@ -188,4 +196,34 @@ fn is_mtu(size: usize) -> bool
     ensures { result ≡ is_mtu size }
 {
     IPV4_MIN_MTU <= size && size <= MAX_MTU
+}
+
+/// How many bytes of packets wait for their next hops: on a network of many alone.
+fn parking_size(config: &Config) -> usize
+    ensures room { result ≡ room_for_many config.now.host_requirements }
+    ensures in_range { result ≤ parking_size }
+{
+    if config.host_requirements {
+        PARKING_SIZE
+    } else {
+        0
+    }
+}
+
+/// No neighbour is known. On a network of many more are searched for at a time.
+pub(crate) fn cache_for(alloc: Global, config: &Config) -> Result<Cache, AllocError>
+    ensures { IfOk result (λ c. c ≡ neighbors_for config.now.host_requirements (Neighbors.initial (Neighbors.cache_room config.now.neighbor_cache_count))) }
+{
+    let mut cache = Cache::new(alloc, config.neighbor_cache_count)?;
+    if config.host_requirements {
+        cache.search_many();
+    }
+    Ok(cache)
+}
+
+/// No packet waits for its next hop.
+pub(crate) fn parking_for(alloc: Global, config: &Config) -> Result<Parking, AllocError>
+    ensures { IfOk result (λ p. p ≡ empty_parking (room_for_many config.now.host_requirements)) }
+{
+    Parking::new(alloc, parking_size(config))
 }

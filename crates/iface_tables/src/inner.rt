@@ -1,5 +1,5 @@
 //! A host alongside its sockets and its slots: what it answers to sockets, and where its packets go.
-ghost use Rattle.std.specs.Prelude.{◌≡◌, ◌≤◌, if◌then◌else◌, drop, length, not, is_ok, Some};
+ghost use Rattle.std.specs.Prelude.{◌≡◌, ◌≤◌, if◌then◌else◌, drop, length, not, is_ok, Some, IfOk};
 ghost use Rattle.std.specs.List.{list_any};
 ghost use Rattle.std.specs.Fn.{FnOnceReturnsAtMut};
 ghost use Rattle.net_base.specs.Time.{IsMoment};
@@ -12,6 +12,10 @@ ghost use Rattle.iface_tables.specs.Neighbor as Neighbors;
 ghost use Rattle.iface_tables.specs.PathMtu.{some_count};
 ghost use Rattle.iface_tables.specs.Inner.{is_local, is_address_of, is_on_local_network, is_this, is_broadcast_of, is_local_broadcast, is_all_systems};
 ghost use Rattle.iface_tables.specs.Inner.{is_all_nodes, solicits, solicits_cidr, is_local_solicited_node, is_probed, is_member_of, is_loopback_in};
+ghost use Rattle.ip_wire.specs.Ip as Ips;
+ghost use Rattle.socket_context.specs.Packet.{packet_value, payload_len, PayloadFits};
+ghost use Rattle.iface_tables.specs.Parking.{empty_parking, room_for_many};
+ghost use Rattle.iface_tables.specs.Inner.{silence_of, asked_of, parked_instant, with_packet_parked};
 ghost use Rattle.iface_tables.specs.Inner.{is_limited_broadcast, is_nameless, is_local_source, is_mapped, never_comes};
 ghost use Rattle.iface_tables.specs.Inner.{is_for_us, is_loopback_of, is_foreign_loopback, may_be_source, next_hop, group_hardware_addr, link_by, link_address};
 ghost use Rattle.iface_tables.specs.Inner.{is_known_hop, has_neighbor, is_in_link_prefix, is_on_link, at_instant};
@@ -21,29 +25,32 @@ ghost use Rattle.iface_tables.specs.Settings.{refusal, made, unless, first_ident
 ghost use Rattle.iface_tables.specs.Groups.{join_refusal, leave_refusal};
 ghost use Rattle.iface_tables.specs.Settings.{with_group, without_group, with_any_ip, routes_of, with_route_table, used, MadeUnless};
 
-use crate::config::{Config, HardwareAddrError, NewError, NotUnicast, TABLE_ROOM, refusal};
+use crate::addresses::{
+    group_hardware_addr, has_loopback_of, has_stranger, is_broadcast_in, is_in_link_prefix,
+    is_in_list, is_limited_broadcast, is_loopback, is_loopback_in, is_mapped, solicits,
+    solicits_cidr,
+};
+use crate::config::{
+    Config, HardwareAddrError, NewError, NotUnicast, TABLE_ROOM, cache_for, parking_for, refusal,
+};
 use crate::groups::{Groups, MulticastError, leave_refusal};
-use crate::link::LinkAddress;
+use crate::link::{LinkAddress, link_by};
 use crate::neighbor::{Answer, Cache, SILENT_MILLIS};
+use crate::parking::{ParkedHeader, Parking};
 use crate::path_mtu::Paths;
 use crate::route::Routes;
 use crate::{error_limit, source};
 use arrayvec::ArrayVec;
 use ip_wire::{
     AddressExt, EthernetAddress, HardwareAddress, IPV4_MULTICAST_ALL_SYSTEMS,
-    IPV6_LINK_LOCAL_ALL_NODES, IpAddress, IpCidr, Ipv4Address, Ipv6Address, Ipv6Cidr,
+    IPV6_LINK_LOCAL_ALL_NODES, IpAddress, IpCidr, Ipv4Address, Ipv6Address,
 };
 use net_base::{ChecksumCapabilities, DeviceCapabilities, Duration, Instant, Rand};
-use socket_context::Context;
-use socket_context::addresses::{are_of_one_family, is_multicast, is_same_address, is_unspecified};
+use socket_context::addresses::{is_multicast, is_unspecified};
+use socket_context::{Context, Packet};
 use std::alloc::Global;
 use std::marker::Model;
-
-/// The first half of each link-local address, `fe80::/64`.
-const LINK_PREFIX: [u8; 8] = [0xfe, 0x80, 0, 0, 0, 0, 0, 0];
-
-/// The first bytes of each IPv6 address that stands for an IPv4 one, `::ffff:0:0/96`.
-const MAPPED_PREFIX: [u8; 12] = [0, 0, 0, 0, 0, 0, 0, 0, 0, 0, 0xff, 0xff];
+use std::mem;
 
 /// A host alongside its sockets and its slots.
 #[derive(Debug, Drop)]
@@ -64,6 +71,7 @@ pub struct InterfaceInner {
     paths: Paths,
     is_fresh: bool,
     host_requirements: bool,
+    parking: Parking,
 }
 
 impl Model for InterfaceInner {
@@ -92,6 +100,7 @@ impl Model for InterfaceInner {
       paths = i.paths;
       initial = i.is_fresh;
       host_requirements = i.host_requirements;
+      parking = i.parking;
     } };
 
     ghost invariant = { λ i. IsMoment i.instant × (576 ≤ i.ip_mtu) × (i.ip_mtu ≤ 65535) };
@@ -113,7 +122,10 @@ impl InterfaceInner {
         let Ok(routes) = Routes::new(alloc, config.max_route_count) else {
             return Err(NewError::Memory);
         };
-        let Ok(neighbor_cache) = Cache::new(alloc, config.neighbor_cache_count) else {
+        let Ok(neighbor_cache) = cache_for(alloc, config) else {
+            return Err(NewError::Memory);
+        };
+        let Ok(parking) = parking_for(alloc, config) else {
             return Err(NewError::Memory);
         };
         let mut rand = Rand::new(config.random_seed);
@@ -135,6 +147,7 @@ impl InterfaceInner {
             paths: Paths::new(),
             is_fresh: true,
             host_requirements: config.host_requirements,
+            parking,
         })
     }
 
@@ -386,13 +399,71 @@ impl InterfaceInner {
 
     /// The hardware address of a next hop, or why there is none yet.
     fn link_to(&self, hop: &IpAddress) -> LinkAddress
-        ensures { result ≡ link_by (Neighbors.lookup self.now.neighbors hop.now self.now.instant) hop.now }
+        ensures { result ≡ link_by (Neighbors.lookup (asked_of self.now hop.now) hop.now self.now.instant) hop.now }
     {
-        match self.neighbor_cache.lookup(hop, self.instant) {
-            Answer::Found(hardware) => LinkAddress::Known(hardware),
-            Answer::RateLimited => LinkAddress::Silent,
-            Answer::Unanswered => LinkAddress::Unanswered,
-            Answer::NotFound => LinkAddress::Unknown(*hop),
+        link_by(self.lookup_hop(hop), hop)
+    }
+
+    /// What is known of a next hop, where the silence counts that is its own.
+    fn lookup_hop(&self, hop: &IpAddress) -> Answer
+        ensures { result ≡ Neighbors.lookup (asked_of self.now hop.now) hop.now self.now.instant }
+    {
+        let silent_until = self.silence_of(hop);
+        self.neighbor_cache
+            .lookup_silent(hop, self.instant, silent_until)
+    }
+
+    /// Until when no request for an address goes: each has a silence of its own on a network of many.
+    fn silence_of(&self, addr: &IpAddress) -> Instant
+        ensures { result ≡ silence_of self.now addr.now }
+    {
+        if !self.host_requirements {
+            return self.neighbor_cache.silent_until();
+        }
+        self.neighbor_cache.own_silence(addr)
+    }
+
+    /// The packets that wait for their next hops.
+    pub fn parking(&self) -> &Parking
+        ensures { result.now ≡ self.now.parking }
+    {
+        &self.parking
+    }
+
+    /// Lets a packet wait for its next hop. Without a route it is dropped.
+    pub fn park(&mut self, packet: &Packet<'_>)
+        requires measured { Ips.payload_len_of (packet_value packet.now).header ≡ payload_len (packet_value packet.now).payload }
+        requires fits { Ips.Fits (packet_value packet.now).header → PayloadFits (packet_value packet.now).header (packet_value packet.now).payload }
+        ensures { self.new ≡ with_packet_parked self.old (packet_value packet.now) }
+    {
+        if let Some(hop) = self.route(&packet.ip_repr().dst_addr()) {
+            self.parking.park(hop, packet, &self.checksum);
+        }
+    }
+
+    /// Gives the packets that wait away, until they are given back.
+    pub fn lend_parking(&mut self) -> Parking
+        ensures parking { result ≡ self.old.parking }
+        ensures after { self.new ≡ record self.old { parking = empty_parking 0 } }
+    {
+        let alloc = self.parking.allocator();
+        mem::replace(&mut self.parking, Parking::without_room(alloc))
+    }
+
+    /// The packets that wait from now on.
+    pub fn set_parking(&mut self, parking: Parking)
+        ensures { self.new ≡ record self.old { parking = parking } }
+    {
+        self.parking = parking;
+    }
+
+    /// When something is to be done about a packet that waits: when its next hop may be asked for again, else at once.
+    pub fn parked_instant(&self, packet: &ParkedHeader) -> Instant
+        ensures { result ≡ parked_instant self.now packet.now }
+    {
+        match self.link_address(&packet.header.dst_addr()) {
+            LinkAddress::Silent => self.silence_of(&packet.hop),
+            _ => Instant::ZERO,
         }
     }
 
@@ -445,11 +516,11 @@ impl InterfaceInner {
         self.neighbor_cache.last_request(protocol_addr)
     }
 
-    /// Whether the host asks for as many neighbours as it keeps count of.
+    /// Whether the host asks for as many neighbours as it keeps count of, and others wait for their turn.
     pub fn is_crowded(&self) -> bool
         ensures { result ≡ is_crowded self.now }
     {
-        self.neighbor_cache.is_crowded()
+        !self.host_requirements && self.neighbor_cache.is_crowded()
     }
 
     /// When a neighbour may be asked for again: at the end of the silence, else in a second.
@@ -675,152 +746,6 @@ impl Context for InterfaceInner {
     ghost drawn_context = { λ i. refl };
 }
 
-/// Whether this is one of the addresses.
-fn is_in_list(addresses: &[IpCidr], address: &IpAddress) -> bool
-    ensures { result ≡ list_any (is_address_of address.now) addresses.now }
-{
-    addresses
-        .iter()
-        .any(|cidr| is_same_address(&cidr.address(), address))
-}
-
-/// Whether this is the broadcast address of one of the networks.
-fn is_broadcast_in(addresses: &[IpCidr], address: &Ipv4Address) -> bool
-    ensures { result ≡ list_any (is_broadcast_of address.now) addresses.now }
-{
-    addresses.iter().any(|cidr| is_broadcast_of(address, cidr))
-}
-
-fn is_broadcast_of(address: &Ipv4Address, cidr: &IpCidr) -> bool
-    ensures { result ≡ is_broadcast_of address.now cidr.now }
-{
-    match cidr {
-        IpCidr::Ipv4(cidr) => is_this(cidr.broadcast(), address),
-        IpCidr::Ipv6(_) => false,
-    }
-}
-
-fn is_this(other: Option<Ipv4Address>, address: &Ipv4Address) -> bool
-    ensures { result ≡ is_this other address.now }
-{
-    match other {
-        Some(other) => {
-            u32::from_le_bytes(address.octets()) == u32::from_le_bytes(other.octets())
-        }
-        None => false,
-    }
-}
-
-/// Whether this is the solicited-node address of the block's address, which isn't `::1`.
-fn solicits_cidr(group: &Ipv6Address, cidr: &IpCidr) -> bool
-    ensures { result ≡ solicits_cidr group.now cidr.now }
-{
-    match cidr {
-        IpCidr::Ipv4(_) => false,
-        IpCidr::Ipv6(cidr) => !cidr.address.is_loopback() && solicits(group, &cidr.address),
-    }
-}
-
-/// Whether the group's last 24 bits are the address's, after the solicited-node prefix.
-fn solicits(group: &Ipv6Address, address: &Ipv6Address) -> bool
-    ensures { result ≡ solicits group.now address.now }
-{
-    group.is_solicited_node_multicast() && last_bits(group) == last_bits(address)
-}
-
-/// The last 24 bits.
-fn last_bits(address: &Ipv6Address) -> &[u8]
-    ensures { result.now ≡ drop 13 address.now.0 }
-{
-    let (_, last) = address.0.split_at(13);
-    last
-}
-
-fn is_loopback_in(address: &IpAddress) -> bool
-    ensures { result ≡ is_loopback_in address.now }
-{
-    match address {
-        IpAddress::Ipv4(_) => false,
-        IpAddress::Ipv6(address) => address.is_loopback(),
-    }
-}
-
-/// Whether this is a link-local address.
-fn is_in_link_prefix(address: &IpAddress) -> bool
-    ensures { result ≡ is_in_link_prefix address.now }
-{
-    match address {
-        IpAddress::Ipv4(_) => false,
-        IpAddress::Ipv6(address) => {
-            let (prefix, _) = address.0.split_at(8);
-            prefix == LINK_PREFIX.as_slice()
-        }
-    }
-}
-
-fn is_loopback(address: &IpAddress) -> bool
-    ensures { result ≡ is_loopback address.now }
-{
-    match address {
-        IpAddress::Ipv4(address) => address.is_loopback(),
-        IpAddress::Ipv6(address) => address.is_loopback(),
-    }
-}
-
-/// Whether this is the address of all hosts of the network that the packet is in.
-fn is_limited_broadcast(address: &IpAddress) -> bool
-    ensures { result ≡ is_limited_broadcast address.now }
-{
-    match address {
-        IpAddress::Ipv4(address) => address.is_broadcast(),
-        IpAddress::Ipv6(_) => false,
-    }
-}
-
-/// Whether this IPv6 address stands for an IPv4 one.
-fn is_mapped(address: &IpAddress) -> bool
-    ensures { result ≡ is_mapped address.now }
-{
-    match address {
-        IpAddress::Ipv4(_) => false,
-        IpAddress::Ipv6(address) => {
-            let (prefix, _) = address.0.split_at(12);
-            prefix == MAPPED_PREFIX.as_slice()
-        }
-    }
-}
-
-/// Whether one of the addresses is a loopback address of this one's family.
-fn has_loopback_of(addresses: &[IpCidr], address: &IpAddress) -> bool
-    ensures { result ≡ list_any (is_loopback_of address.now) addresses.now }
-{
-    addresses.iter().any(|cidr| is_loopback_of(address, cidr))
-}
-
-/// Whether the block's address is a loopback address of this one's family.
-fn is_loopback_of(address: &IpAddress, cidr: &IpCidr) -> bool
-    ensures { result ≡ is_loopback_of address.now cidr.now }
-{
-    let local = cidr.address();
-    is_loopback(&local) && are_of_one_family(address, &local)
-}
-
-/// The Ethernet address of a group.
-fn group_hardware_addr(group: &IpAddress) -> EthernetAddress
-    ensures { result ≡ group_hardware_addr group.now }
-{
-    match group {
-        IpAddress::Ipv4(group) => {
-            let [_, b, c, d] = group.0;
-            EthernetAddress([0x01, 0x00, 0x5e, b % 128, c, d])
-        }
-        IpAddress::Ipv6(group) => {
-            let tail = &group.0[12..];
-            EthernetAddress([0x33, 0x33, tail[0], tail[1], tail[2], tail[3]])
-        }
-    }
-}
-
 /// Why this hardware address isn't set in place of that one.
 fn hardware_refusal(local: &HardwareAddress, address: &HardwareAddress) -> Option<HardwareAddrError>
     ensures { result ≡ hardware_refusal local.now address.now }
@@ -835,21 +760,6 @@ fn hardware_refusal(local: &HardwareAddress, address: &HardwareAddress) -> Optio
         }
         _ => Some(HardwareAddrError::Medium),
     }
-}
-
-/// Whether one of the addresses can't be set.
-fn has_stranger(addresses: &[IpCidr]) -> bool
-    ensures { result ≡ list_any is_stranger addresses.now }
-{
-    addresses.iter().any(|cidr| is_stranger(cidr))
-}
-
-/// Whether this is neither one host's address nor unspecified.
-fn is_stranger(cidr: &IpCidr) -> bool
-    ensures { result ≡ is_stranger cidr.now }
-{
-    let address = cidr.address();
-    !(address.is_unicast() || address.is_unspecified())
 }
 
 /// A copy of the addresses.

@@ -2,6 +2,7 @@
 //! together.
 #![tactic(auto)]
 
+mod addresses;
 mod assemblers;
 mod config;
 pub mod error_laws;
@@ -15,6 +16,7 @@ pub mod laws;
 mod link;
 mod look;
 mod neighbor;
+mod parking;
 pub mod path_laws;
 mod path_mtu;
 mod prefixes;
@@ -30,5 +32,6 @@ pub use key::{FragKey, Ipv6FragKey};
 pub use link::LinkAddress;
 pub use look::Look;
 pub use neighbor::{Answer, Cache, Neighbor, Search};
+pub use parking::{ParkedHeader, Parking};
 pub use path_mtu::{Path, Paths};
 pub use route::{Route, RouteTableFull, Routes};

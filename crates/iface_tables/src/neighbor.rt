@@ -5,7 +5,7 @@ ghost use Rattle.net_base.specs.Time.{IsMoment};
 ghost use Rattle.ip_wire.specs.AddressTests.{is_same_hardware};
 ghost use Rattle.iface_tables.specs.Neighbor.{initial, lookup, filled, filled_at, renewed, renewed_entry, silenced, requested, searched_at, one_more, first_search};
 ghost use Rattle.iface_tables.specs.Neighbor.{count_after, search_index, search_of, oldest_search, ended, is_failed, has_failed_by, has_failed};
-ghost use Rattle.iface_tables.specs.Neighbor.{last_request, flushed, is_found, is_known_by, victim, search_room, entry_lifetime, silent_time, cache_room};
+ghost use Rattle.iface_tables.specs.Neighbor.{last_request, flushed, is_found, is_known_by, victim, for_many, own_silence, entry_lifetime, silent_time, cache_room};
 
 use crate::indexed::{index_for, index_from, index_in};
 use arrayvec::ArrayVec;
@@ -26,8 +26,10 @@ const MOST_REQUESTS: u8 = 3;
 
 const FAILED_MILLIS: u64 = 3_000;
 
-/// How many neighbours are asked for at a time.
+/// How many neighbours are asked for at a time, and on a network of many.
 const SEARCH_ROOM: usize = 8;
+
+const SEARCH_ROOM_OF_MANY: usize = 64;
 
 /// A neighbour: its hardware address, and the instant from which on that isn't believed any more.
 #[derive(Clone, Copy, Debug)]
@@ -157,20 +159,22 @@ pub struct Cache {
     storage: Vec<Neighbor>,
     positions: Index,
     silent_until: Instant,
-    searches: ArrayVec<Search, SEARCH_ROOM>,
+    searches: ArrayVec<Search, SEARCH_ROOM_OF_MANY>,
+    search_room: usize,
 }
 
 impl Model for Cache {
     ghost use Rattle.std.specs.Prelude.{◌≤◌, length, vec_len, vec_capacity};
     ghost use Rattle.iface_tables.specs.Indexed.{AreIndexed};
-    ghost use Rattle.iface_tables.specs.Neighbor.{CacheValue};
+    ghost use Rattle.iface_tables.specs.Neighbor.{CacheValue, search_room_of_many};
 
     ghost Value = { CacheValue };
 
-    ghost view = { λ c. record { entries = c.storage.items; room = vec_capacity c.storage; silent = c.silent_until; searches = c.searches.items } };
+    ghost view = { λ c. record { entries = c.storage.items; room = vec_capacity c.storage; silent = c.silent_until; searches = c.searches.items; search_room = c.search_room } };
 
     ghost invariant = { λ c. (1 ≤ vec_capacity c.storage) × (vec_len c.storage ≤ vec_capacity c.storage)
-        × (vec_capacity c.storage ≤ length c.positions) × AreIndexed c.storage.items c.positions };
+        × (vec_capacity c.storage ≤ length c.positions) × AreIndexed c.storage.items c.positions
+        × (1 ≤ c.search_room) × (c.search_room ≤ search_room_of_many) × (length c.searches.items ≤ c.search_room) };
 }
 
 impl Cache {
@@ -200,12 +204,25 @@ impl Cache {
             positions,
             silent_until: Instant::ZERO,
             searches: ArrayVec::new(),
+            search_room: SEARCH_ROOM,
         })
     }
 
     /// What is known of an address at an instant.
     pub fn lookup(&self, protocol_addr: &IpAddress, timestamp: Instant) -> Answer
         ensures { result ≡ lookup self.now protocol_addr.now timestamp }
+    {
+        self.lookup_silent(protocol_addr, timestamp, self.silent_until)
+    }
+
+    /// The same where no request for the address goes until another instant.
+    pub fn lookup_silent(
+        &self,
+        protocol_addr: &IpAddress,
+        timestamp: Instant,
+        silent_until: Instant,
+    ) -> Answer
+        ensures { result ≡ lookup (record self.now { silent = silent_until }) protocol_addr.now timestamp }
     {
         if let Some(at) = index_in(self.storage.as_slice(), &self.positions, protocol_addr) {
             let neighbor = &self.storage[at];
@@ -215,7 +232,7 @@ impl Cache {
         }
         if self.has_failed(protocol_addr, timestamp) {
             Answer::Unanswered
-        } else if timestamp < self.silent_until {
+        } else if timestamp < silent_until {
             Answer::RateLimited
         } else {
             Answer::NotFound
@@ -244,9 +261,31 @@ impl Cache {
 
     /// Whether as many neighbours are asked for as are kept count of.
     pub fn is_crowded(&self) -> bool
-        ensures { result ≡ not (nat_lt (length self.now.searches) search_room) }
+        ensures { result ≡ not (nat_lt (length self.now.searches) self.now.search_room) }
     {
-        self.searches.is_full()
+        self.searches.len() >= self.search_room
+    }
+
+    /// From now on as many neighbours are asked for at a time as on a network of many.
+    pub fn search_many(&mut self)
+        ensures { self.new ≡ for_many self.old }
+    {
+        self.search_room = SEARCH_ROOM_OF_MANY;
+    }
+
+    /// Until when no request for an address goes that has a silence of its own: until its last one is to be answered; where as many are asked
+    /// for as may, until the oldest of them is.
+    pub fn own_silence(&self, protocol_addr: &IpAddress) -> Instant
+        ensures { result ≡ own_silence (last_request self.now protocol_addr.now) self.now }
+    {
+        if let Some(until) = self.last_request(protocol_addr) {
+            return until;
+        }
+        if !self.is_crowded() {
+            return Instant::ZERO;
+        }
+        let searches = self.searches.as_slice();
+        search_at(searches, oldest_search(searches)).answer_by
     }
 
     /// Until when no neighbour is asked for.
@@ -372,7 +411,7 @@ impl Cache {
             self.searches[at] = search.one_more(timestamp);
             return;
         }
-        if self.searches.is_full() {
+        if self.is_crowded() {
             let at = oldest_search(self.searches.as_slice());
             self.searches.remove(at);
         }

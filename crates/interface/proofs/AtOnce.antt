@@ -3,7 +3,7 @@ use Rattle.std.proofs.Common.{◌≡◌, ℕ, ◌+◌, ◌%◌, ◌==◌, Bool, 
 use Rattle.std.proofs.Common.{refl, sym, ap, ◌∙◌, subst}
 use Rattle.std.specs.Prelude.{if◌then◌else◌, Result, Ok}
 use Rattle.net_base.specs.Device.{Move, Allowed}
-use Rattle.net_base.specs.Packets.{QueuedPacket, Packets, packet, packets_in, contents, padding_for, start_of, unpadded, first, first_by, without_first}
+use Rattle.net_base.specs.Packets.{QueuedPacket, Packets, packet, packets_in, contents, padding_for, start_of, unpadded, first_by, without_first}
 use Rattle.ip_wire.specs.HardwareAddress.{HardwareAddress}
 use Rattle.ip_wire.specs.Ip.{destination_of}
 use Rattle.ip_wire.specs.IpAddress.{IpAddress}
@@ -41,8 +41,10 @@ use Rattle.interface.specs.Serve.{passes_filter, is_waiting, let_through, held, 
 use Rattle.interface.specs.Serve.{SendsAs, SendsBy, Sends, Answers, TurnsIf, Turns}
 use Rattle.interface.specs.declared.serve.Served.{Served}
 use Rattle.interface.specs.declared.serve.Served.TheVariants as Turn
-use Rattle.interface.proofs.SameHost.{same_where}
+use Rattle.interface.proofs.SameHost.{same_but, same_made, same_where}
 use Rattle.interface.proofs.Sourced.{sends_from, sourced_stays}
+use Rattle.iface_egress.specs.Parked.{is_searched}
+use Rattle.interface.proofs.Alone.{leaves_unsearched}
 use Rattle.interface.proofs.Direct.{direct_left}
 
 -- WHETHER IT MAY LEAVE
@@ -76,8 +78,10 @@ gone_apart : Outcome.Gone ≡ Outcome.Refused → ⊥
 gone_apart is = cc
 
 header_same : (h : IpRepr) (i : InnerValue) → IsSameHost i (after_header h i)
-header_same (Ip.Ipv4 v) i = refl
-header_same (Ip.Ipv6 v) i = refl
+header_same h i = same_made i (after_header h i) (by h) where
+  by : (h : IpRepr) → after_header h i ≡ same_but i (after_header h i) i.parking
+  by (Ip.Ipv4 v) = refl
+  by (Ip.Ipv6 v) = refl
 
 module _ {D : Type 0} (moves : D → Move → D → Type 0) where
   was_sent_same : (old new : D) (i i' : InnerValue) (h : IpRepr) (d : Departure) (sent : Sent) → WasSent moves old i h d sent new i' → IsSameHost i i'
@@ -345,7 +349,8 @@ module _ {D : Type 0} (moves : D → Move → D → Type 0) (turn : Option IpAdd
       sends.1 ∙ sourced_stays s.inner p (or_true (is_raw p.payload) (comes_from_here s.inner p.header) direct.here) in
       let so : SendsAs moves turn p s (udp_item freed_mark (offering v q p)) false turned s' item' =
       subst (λ (l : PacketValue). SendsAs moves turn l s (udp_item freed_mark (offering v q p)) false turned s' item') same sends.3 in
-      let back = leaves_back so.0 so.1 in
+      let off : is_searched (plan_at s p) ≡ false = ap is_searched (direct.plan (is_some s.left)) in
+      let back = leaves_back so.0 (leaves_unsearched moves turn s freed_mark p so.0 s' off so.1) in
       record {
         sent = so.0;
         leaves = back.0;

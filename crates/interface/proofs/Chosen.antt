@@ -1,10 +1,10 @@
 -- A source that is chosen is a local address, where the packet leaves at all.
-use Rattle.std.proofs.Common.{◌≡◌, ℕ, Bool, true, false, if◌then◌else◌, List, [], ◌∷◌, ◌++◌, Option, None, Some, refl, ap, ◌∙◌, sym}
+use Rattle.std.proofs.Common.{◌≡◌, ℕ, Bool, true, false, if◌then◌else◌, List, [], ◌∷◌, Option, None, Some, refl, ap, ◌∙◌, sym}
 use Rattle.std.proofs.lemmas.Slice.Eq.{bytes_eq-Decides}
-use Rattle.std.specs.Prelude.{◌&&◌, ◌||◌, not, replicate, find, position}
+use Rattle.std.specs.Prelude.{◌&&◌, ◌||◌, not, find, position}
 use Rattle.std.specs.List.{list_any, filter_map, cons_option}
 use Rattle.std.specs.Str.{bytes_eq}
-use Rattle.ip_wire.specs.AddressTests.{is_in_cidr, is_loopback, is_loopback_v4, is_loopback_v6, is_multicast, is_unspecified}
+use Rattle.ip_wire.specs.AddressTests.{is_in_cidr, is_loopback_v4, is_loopback_v6, is_unspecified}
 use Rattle.ip_wire.specs.Ip.{source_of, destination_of}
 use Rattle.ip_wire.specs.IpAddress.{IpAddress}
 use Rattle.ip_wire.specs.IpAddress.TheVariants as Address
@@ -17,11 +17,11 @@ use Rattle.ip_wire.specs.Ipv6Cidr.{Ipv6Cidr}
 use Rattle.iface_ingress.specs.Packet.{PacketValue}
 use Rattle.iface_ingress.proofs.LocalSources.{clash, or_first, or_later, at_some}
 use Rattle.iface_tables.specs.Best.{at_index, is_unbeaten}
-use Rattle.iface_tables.specs.Inner.{InnerValue, is_address_of, is_local, is_loopback_of, is_foreign_loopback, is_local_broadcast, may_be_source}
+use Rattle.iface_tables.specs.Inner.{InnerValue, is_address_of, is_local, is_loopback_of, is_foreign_loopback, may_be_source}
 use Rattle.iface_tables.specs.Source.{source_for, source_by, source_v4, source_v6, in_v4, v4_address, v6_address, or_else, is_v4, is_abroad, first_abroad}
 use Rattle.iface_tables.specs.Source.{best_source, better_for, candidate, may_send, address_or, localhost}
 use Rattle.iface_egress.specs.Plan.{never_leaves}
-use Rattle.interface.specs.Serve.{is_raw, keeps_source, with_source, sourced}
+use Rattle.interface.specs.Serve.{is_raw, keeps_source, sourced}
 use Rattle.interface.proofs.Sourced.{sourced_same, sourced_chosen, sourced_none}
 
 -- IPv4

@@ -7,7 +7,7 @@ use Rattle.interface.specs.State.{State}
 use Rattle.interface.specs.Polls.{Polls}
 use Rattle.interface.proofs.Kept.{RunsAt, IsCounted}
 use Rattle.interface.proofs.Kept.{IsPriced}
-use Rattle.interface.specs.Used.{is_used, sockets_in}
+use Rattle.interface.specs.Used.{is_used, most_parked, sockets_in}
 use Rattle.interface.proofs.Priced.{polls_cost}
 use Rattle.interface.proofs.Shapes.{same_length}
 
@@ -19,16 +19,18 @@ module _ {D : Type 0} (moves : D → Move → D → Type 0) (t : ℤ) (Q : ℕ �
     maintenance = kept.maintenance;
     arrivals = kept.arrivals;
     fragments = kept.fragments;
+    parked = kept.parked;
     turns = λ turn n h before after p p' x x' turned used runs so turns. kept.turns turn n h before after p p' x x' turned runs so turns;
   }
 
   pub polls_count : (budget n : ℕ) (s s' : State D) (changed : Bool)
-      → Q n s → Polls moves t budget s changed s' → Q (n + budget * (length s.slots + 2)) s' × RunsAt t s'.host.inner × (length s'.slots ≡ length s.slots)
+      → Q n s → Polls moves t budget s changed s' → Q (n + budget * (most_parked s.host.inner + (length s.slots + 2))) s' × RunsAt t s'.host.inner × (length s'.slots ≡ length s.slots)
   polls_count budget n s s' changed holds polls =
       let cost = polls_cost moves t 1 Q all_priced budget n s s' changed holds polls in
       let few = count_by-le-length is_used s.slots in
-      let most : budget * (1 + (1 + sockets_in s.slots)) ≤ budget * (length s.slots + 2) = mul-le-mul_left budget (omega (arith, few)) in (
-        kept.more (n + budget * (1 + (1 + sockets_in s.slots))) (n + budget * (length s.slots + 2)) s' (omega (arith, most)) cost.0,
+      let parked : ℕ = most_parked s.host.inner in
+      let most : budget * (1 + (parked + (1 + sockets_in s.slots))) ≤ budget * (parked + (length s.slots + 2)) = mul-le-mul_left budget (omega (arith, few)) in (
+        kept.more (n + budget * (1 + (parked + (1 + sockets_in s.slots)))) (n + budget * (parked + (length s.slots + 2))) s' (omega (arith, most)) cost.0,
         cost.1,
         same_length s.slots s'.slots cost.2,
       )

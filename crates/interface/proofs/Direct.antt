@@ -1,5 +1,5 @@
 -- A packet that leaves straight to a hardware address leaves as its plan says.
-use Rattle.std.proofs.Common.{◌≡◌, Bool, true, false, ◌||◌, ◌⊎◌, inl, inr, ℤ, Option, Some, None, is_some, refl, sym, ap, ◌∙◌, subst}
+use Rattle.std.proofs.Common.{◌≡◌, Bool, true, false, ◌||◌, inl, inr, ℤ, Option, Some, is_some, refl, sym, ap, ◌∙◌, subst}
 use Rattle.std.specs.Prelude.{if◌then◌else◌}
 use Rattle.net_base.specs.Device.{Move}
 use Rattle.ip_wire.specs.HardwareAddress.{HardwareAddress}
@@ -18,7 +18,9 @@ use Rattle.iface_egress.specs.declared.socket_meta.Meta.{Meta}
 use Rattle.iface_egress.specs.declared.egress_path.Sent.{Sent}
 use Rattle.iface_egress.specs.declared.egress_path.Sent.TheVariants as Outcome
 use Rattle.interface.specs.Host.{Sender, sender}
-use Rattle.interface.specs.Serve.{is_done, is_raw, marked, held, waits_until, plan_at, Leaves, LeavesAs, LeavesDirect, HasLeft}
+use Rattle.iface_egress.specs.Parked.{is_searched}
+use Rattle.interface.specs.Serve.{is_done, is_raw, marked, held, waits_until, plan_at, Leaves, LeavesAs, LeavesDirect, LeavesOrParks, HasLeft}
+use Rattle.interface.proofs.Alone.{unsearched_leaves}
 use Rattle.interface.proofs.Sourced.{sourced_stays}
 
 or_true : (a b : Bool) → b ≡ true → (a || b) ≡ true
@@ -46,19 +48,22 @@ direct_left {D} moves turn s m m' p to sent new i' direct formed leaves =
       until : ℤ
       until = waits_until (plan_at s p) i'
 
+      parks_not : Leaves moves turn s m p sent s' → LeavesOrParks moves turn s m p sent s'
+      parks_not left = unsearched_leaves moves turn s m p sent s' (ap is_searched (direct.plan (is_some s.left))) left
+
       by : LeavesDirect moves to p s.device s.inner m sent new i' m' → LeavesAs moves turn s m p sent s' m'
       by (inl back) = (
-        inl (false, back.0, back.1, refl, ap Some (sym back.2)),
+        parks_not (inl (false, back.0, back.1, refl, ap Some (sym back.2))),
         formed,
         back.3 ∙ sym (ap (λ (o : Sent). marked o s.inner.instant until (destination_of p.header) m) back.2),
       )
       by (inr out) = (
-        inr (
+        parks_not (inr (
           out.0,
           out.1,
           subst (λ (plan : Plan). IsTransmitted moves out.0 s.inner s.left p plan sent new i' s.left) (sym (direct.plan (is_some s.left))) (out.2, refl),
           ap (held turn m s.inner (destination_of p.header)) (direct.plan (is_some s.left)),
-        ),
+        )),
         formed,
         out.3 ∙ mark_is moves out.0 new s.inner i' p.header (Whole to (numbered s.inner p)) sent s.inner.instant until (destination_of p.header) m out.2,
       )

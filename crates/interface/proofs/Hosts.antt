@@ -5,7 +5,7 @@ use Rattle.iface_tables.specs.Inner.{InnerValue, at_instant}
 use Rattle.iface_egress.specs.Departing.{HasSettingsOf}
 use Rattle.iface_ingress.specs.FragmentStored.{HasSameSettings}
 use Rattle.interface.specs.SameHost.{IsSameHost}
-use Rattle.interface.proofs.SameHost.{slot_same}
+use Rattle.interface.proofs.SameHost.{serves_same, slot_same}
 use Rattle.interface.specs.State.{State}
 use Rattle.interface.specs.Ingress.{Takes}
 use Rattle.interface.specs.Polls.{Polls}
@@ -28,6 +28,7 @@ module _ {D : Type 0} (moves : D → Move → D → Type 0) (t : ℤ) (Q : Inner
       maintenance = λ s holds. begins s.host.inner holds;
       arrivals = λ s s' answer runs holds takes. takes_keep s s' answer holds takes;
       fragments = λ h ps x x' l gone runs is holds leaves same. subst Q (sym same) holds;
+      parked = λ h ps x x' all runs many holds serves. sends x.inner x'.inner (serves_same moves x x' all many serves) holds;
       turns = λ turn h before after p p' x x' turned runs holds turns. sends x.inner x'.inner (slot_same moves turn x x' p p' turned turns) holds;
     }
 

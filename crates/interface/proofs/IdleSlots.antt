@@ -1,8 +1,7 @@
 -- Sockets idle: none waits for a neighbour or for an instant, and a turn leaves each as it is.
-use Rattle.std.proofs.Common.{◌≡◌, ◌⊎◌, inl, inr, ℕ, zero, suc, ◌+◌, ◌-◌, ◌<◌, ◌≤◌, leb, ℤ, int_lt, Bool, true, false, if◌then◌else◌, ◌&&◌, ◌||◌, List, [], ◌∷◌, ◌++◌, length, take, drop, Option, Some, None, is_none, refl, sym, ap, ◌∙◌, subst, arith}
+use Rattle.std.proofs.Common.{◌≡◌, ◌⊎◌, inl, inr, ℕ, zero, suc, ◌+◌, ◌-◌, ◌<◌, ◌≤◌, leb, ℤ, Bool, true, false, if◌then◌else◌, ◌||◌, List, [], ◌∷◌, ◌++◌, length, take, drop, Option, Some, None, is_none, refl, sym, ap, ◌∙◌, subst, arith}
 use Rattle.std.specs.Prelude.{slice_get, position, is_some}
 use Rattle.std.specs.List.{fold, list_any}
-use Rattle.std.proofs.Math.Seq.{drop-cons}
 use Rattle.std.proofs.lemmas.Bool.{or_parts, and_parts}
 use Rattle.std.proofs.lemmas.Bool.Decides.{leb_tells}
 use Rattle.net_base.specs.Device.{Move}
@@ -26,7 +25,7 @@ use Rattle.iface_ingress.specs.PollAt.{PollAt}
 use Rattle.iface_ingress.specs.Idle.{is_idle}
 use Rattle.interface.specs.Awaited.{is_marked, is_marked_at}
 use Rattle.interface.specs.Host.{Sender}
-use Rattle.interface.specs.Instant.{earlier, slot_instant, soonest, item_instant, local_instant, instant_of, instant_in, earlier_than}
+use Rattle.interface.specs.Instant.{earlier, slot_instant, item_instant, local_instant, instant_of, instant_in, earlier_than}
 use Rattle.interface.specs.Pass.{Pass, Passed, passed}
 use Rattle.interface.specs.Remote.{context_for, end_by, remote_of}
 use Rattle.interface.specs.Serve.{ServesSlot, ItemTurns, passes_filter, let_through, Asks, TurnsIf}

@@ -1,5 +1,5 @@
 -- What maintenance, arrivals, fragments and turns keep is kept by a poll.
-use Rattle.std.proofs.Common.{◌≡◌, ℕ, zero, suc, ℤ, Bool, true, false, ◌||◌, inl, inr, List, [], ◌∷◌, ◌++◌, Option, Some, None, refl, sym, subst, append_assoc}
+use Rattle.std.proofs.Common.{◌≡◌, ℕ, zero, suc, ℤ, Bool, true, false, ◌||◌, inl, inr, List, [], ◌∷◌, ◌++◌, Option, Some, None, refl, sym, ◌∙◌, subst, append_assoc}
 use Rattle.std.proofs.Common.{append-nil}
 use Rattle.net_base.specs.Device.{Move}
 use Rattle.ip_wire.specs.IpAddress.{IpAddress}
@@ -10,7 +10,7 @@ use Rattle.iface_egress.specs.Fragments.{LeftValue}
 use Rattle.interface.specs.Awaited.{turn_of}
 use Rattle.interface.specs.Host.{HostValue, Sender, sender}
 use Rattle.interface.specs.Pass.{Pass, Passed}
-use Rattle.interface.specs.EgressPath.{Clears, Egress}
+use Rattle.interface.specs.EgressPath.{Clears, ClearsIf, Egress}
 use Rattle.interface.specs.declared.serve.Served.TheVariants as Turn
 use Rattle.interface.specs.State.{State}
 use Rattle.interface.specs.Egress.{EgressStep, following}
@@ -18,7 +18,8 @@ use Rattle.interface.specs.Ingress.{IngressStep}
 use Rattle.interface.specs.Polls.{Repeats, Polls, begun}
 use Rattle.interface.proofs.Kept.{RunsAt, IsKept}
 use Rattle.interface.specs.State.{sending_as}
-use Rattle.interface.proofs.Runs.{runs_so, runs_where, takes_runs, turn_runs}
+use Rattle.interface.proofs.Runs.{runs_out, runs_so, runs_where, takes_runs, turn_runs}
+use Rattle.interface.proofs.SameHost.{flag_cleared, serves_same}
 
 module _ {D : Type 0} (moves : D → Move → D → Type 0) (t : ℤ) (P : State D → Type 0) (kept : IsKept moves t P) where
   -- it holds, while the call runs
@@ -49,11 +50,21 @@ module _ {D : Type 0} (moves : D → Move → D → Type 0) (t : ℤ) (P : State
     clears_keeps ps x x' (Some l) clear is holds clears =
         (kept.fragments h ps x x' l clear holds.1 is holds.0 clears.0 clears.1, runs_where t x.inner x'.inner clears.1 holds.1)
 
+    clears_all_keep : (many : Bool) (ps : List (SocketStorage Socket)) (x x' : Sender D) (clear : Bool) → x.inner.host_requirements ≡ many →
+        Holds (sending_as h x ps) → ClearsIf moves many x clear x' → Holds (sending_as h x' ps)
+    clears_all_keep false ps x x' clear is holds clears = clears_keeps ps x x' x.left clear refl holds clears
+    clears_all_keep true ps x x' clear is holds (inl stays) = clears_keeps ps x x' x.left false refl holds stays.0
+    clears_all_keep true ps x x' clear is holds (inr serves) =
+        let mid : Sender D = serves.0 in
+        let now = clears_keeps ps x mid x.left true refl holds serves.1 in
+        let many : mid.inner.host_requirements ≡ true = flag_cleared moves x mid x.left true serves.1 ∙ is in
+        (kept.parked h ps mid x' clear now.1 many now.0 serves.2, runs_out t mid.inner x'.inner (serves_same moves mid x' clear many serves.2) now.1)
+
     egress_keeps : (x : Sender D) (ps : List (SocketStorage Socket)) (e : Passed D) → Holds (sending_as h x ps) → Egress moves x ps e → Holds (following h e)
     egress_keeps x ps e holds (inl stays) =
-        subst (λ (y : Passed D). Holds (following h y)) (sym stays.2) (clears_keeps ps x stays.0 x.left false refl holds stays.1)
+        subst (λ (y : Passed D). Holds (following h y)) (sym stays.2) (clears_all_keep x.inner.host_requirements ps x stays.0 false refl holds stays.1)
     egress_keeps x ps e holds (inr goes) =
-        pass_keeps (turn_of goes.0.inner ps) ps [] goes.0 false e (clears_keeps ps x goes.0 x.left true refl holds goes.1) goes.2
+        pass_keeps (turn_of goes.0.inner ps) ps [] goes.0 false e (clears_all_keep x.inner.host_requirements ps x goes.0 true refl holds goes.1) goes.2
 
   pub out_step_keeps : (s s' : State D) (answer : Option Bool) → Holds s → EgressStep moves t s answer s' → Holds s'
   out_step_keeps s s' answer holds step =

@@ -26,7 +26,7 @@ found_where true hardware c instant = refl
 found_where false hardware c instant = missing_unfound c instant
 
 -- who is without answer isn't found
-found_unless : (failed : Bool) (a : Answer) → is_found (unless_failed failed a) ≡ is_found a
+pub found_unless : (failed : Bool) (a : Answer) → is_found (unless_failed failed a) ≡ is_found a
 found_unless failed (Known.Found hardware) = refl
 found_unless true Known.NotFound = refl
 found_unless false Known.NotFound = refl
@@ -37,7 +37,7 @@ found_unless failed Known.Unanswered = refl
 expired_later : (a b end : ℤ) → a ≤ℤ b → int_lt a end ≡ false → int_lt b end ≡ false
 expired_later a b end since past = grind (arith)
 
-unfound_by : (entry : Option Neighbor) (c : CacheValue) (a b : ℤ) → a ≤ℤ b → is_found (answer_by entry c a) ≡ false → is_found (answer_by entry c b) ≡ false
+pub unfound_by : (entry : Option Neighbor) (c : CacheValue) (a b : ℤ) → a ≤ℤ b → is_found (answer_by entry c a) ≡ false → is_found (answer_by entry c b) ≡ false
 unfound_by None c a b since unfound = missing_unfound c b
 unfound_by (Some e) c a b since unfound =
     found_where (int_lt b e.expires_at) e.hardware_addr c b

@@ -3,10 +3,15 @@ pub mod IdleSlots
 pub mod Known
 pub mod Due
 pub mod QuietTurn
+pub mod ParkedPlan
+pub mod QuietParked
 pub mod QuietPass
 pub mod StepUnchanged
 pub mod PassStep
+pub mod Parked
 pub mod SameHost
+pub mod Alone
+pub mod Cleared
 pub mod Stepped
 pub mod Settings
 pub mod Rounds
@@ -15,8 +20,10 @@ pub mod Unchanged
 pub mod Runs
 pub mod Kept
 pub mod Keep
+pub mod KeepAlone
 pub mod Hosts
 pub mod Shapes
+pub mod FewWait
 pub mod Priced
 pub mod Count
 pub mod HostCounts
@@ -37,5 +44,6 @@ pub mod Told
 pub mod Arrives
 pub mod Named
 pub mod Offered
+pub mod Made
 pub mod Stays
 pub mod Backlog

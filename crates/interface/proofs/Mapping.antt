@@ -1,5 +1,5 @@
 -- A poll at one device is a poll at another, where each of its moves is one there.
-use Rattle.std.proofs.Common.{◌≡◌, ℕ, zero, suc, ℤ, Bool, true, false, ◌||◌, inl, inr, List, [], ◌∷◌, ◌++◌, Option, Some, None, is_some, sym, ap, subst}
+use Rattle.std.proofs.Common.{◌≡◌, ℕ, zero, suc, ℤ, Bool, true, false, ◌&&◌, ◌||◌, inl, inr, List, [], ◌∷◌, ◌++◌, Option, Some, None, is_some, sym, ap, subst}
 use Rattle.net_base.specs.Device.{Move, Took, Empty, Allowed, Emitted, Denied}
 use Rattle.iface_ingress.specs.Packet.{PacketValue}
 use Rattle.iface_ingress.specs.Offer as Answer
@@ -28,13 +28,16 @@ use Rattle.iface_egress.specs.declared.socket_meta.Meta.{Meta}
 use Rattle.interface.specs.Awaited.{turn_of}
 use Rattle.interface.specs.Host.{Sender, sender}
 use Rattle.interface.specs.Pass.{Pass, Passed, passed}
-use Rattle.interface.specs.EgressPath.{Clears, Egress, FragmentLeaves}
-use Rattle.interface.specs.Serve.{Leaves, SendsBy, Answers, TurnsIf, ItemTurns, ServesSlot, is_waiting, let_through}
+use Rattle.iface_tables.specs.Parking.{ParkedValue}
+use Rattle.iface_egress.specs.Parked.{GoesOn, LeavesBy, ServesEach, ServesParked, Tries, lent, packet_in, parks, put_back, sender_after}
+use Rattle.iface_egress.specs.Parked as Parking
+use Rattle.interface.specs.EgressPath.{Clears, ClearsAll, ClearsIf, Egress, FragmentLeaves}
+use Rattle.interface.specs.Serve.{Leaves, LeavesIf, SendsBy, Answers, TurnsIf, ItemTurns, ServesSlot, is_waiting, let_through, plan_at}
 use Rattle.interface.specs.declared.serve.Served.{Served}
 use Rattle.interface.specs.declared.serve.Served.TheVariants as Turn
 use Rattle.interface.specs.State.{State, state, at_device}
 use Rattle.interface.specs.Egress.{EgressStep, sending}
-use Rattle.interface.specs.Ingress.{IngressStep, Takes, Receives, Replied, is_awaited, sender_of, sender_with}
+use Rattle.interface.specs.Ingress.{AnswerGoes, IngressStep, Takes, Receives, Replied, is_awaited, sender_of, sender_with, would_solicit}
 use Rattle.interface.specs.Polls.{Repeats, Polls, begun}
 
 -- How moves of one device are moves of another: what holds of the devices before is kept, and what holds of those after held before.
@@ -165,14 +168,31 @@ module _ {D E : Type 0} (f : D → E) (moves : D → Move → D → Type 0) (oth
         (Leaves others turn (on_sender x) mark p sent (on_sender y)) (λ n g. inr (f a.0, n, g, a.3)) (moves_so x.device a.0 (Allowed x.inner.instant true) a.1)
         (is_transmitted a.0 y.device x.inner y.inner x.left y.left p (plan_of x.inner (is_some x.left) p.header) sent a.2)
 
+    parked : (b : Bool) (x y z : Sender D) (p : PacketValue) (R S : Type 0) → z ≡ sender_after b p y → (R → on_sender z ≡ sender_after b p (on_sender y) → S)
+        → Leads x.device y.device R → Leads x.device z.device S
+    parked true x y z p R S is by leads =
+        both x.device y.device z.device R (on_sender z ≡ sender_after true p (on_sender y)) S by leads
+        (stays y.device z.device (on_sender z ≡ sender_after true p (on_sender y)) (ap (λ (v : Sender D). v.device) is) (ap on_sender is))
+    parked false x y z p R S is by leads =
+        both x.device y.device z.device R (on_sender z ≡ sender_after false p (on_sender y)) S by leads
+        (stays y.device z.device (on_sender z ≡ sender_after false p (on_sender y)) (ap (λ (v : Sender D). v.device) is) (ap on_sender is))
+
+    leaves_if : (many : Bool) (x y : Sender D) (mark : Meta) (p : PacketValue) (sent : Sent) → LeavesIf moves turn many x mark p sent y →
+        Leads x.device y.device (LeavesIf others turn many (on_sender x) mark p sent (on_sender y))
+    leaves_if false x y mark p sent one = leaves x y mark p sent one
+    leaves_if true x y mark p sent one =
+        parked (parks one.1.inner p (plan_at x p) one.0) x one.1 y p (Leaves others turn (on_sender x) mark p one.0 (on_sender one.1))
+        (LeavesIf others turn true (on_sender x) mark p sent (on_sender y)) one.4
+        (λ n is. (one.0, on_sender one.1, n, one.3, is)) (leaves x one.1 mark p one.0 one.2)
+
     sends : (o : Option PacketValue) (x y : Sender D) (item m : Item Socket) (changed : Bool) (a : Served) → SendsBy moves turn o x item changed a y m
         → Leads x.device y.device (SendsBy others turn o (on_sender x) item changed a (on_sender y) m)
     sends None x y item m changed a one = absurd one
     sends (Some p) x y item m changed a one =
-        so x.device y.device (Leaves others turn (on_sender x) item.meta one.0 one.3.0 (on_sender y))
+        so x.device y.device (LeavesIf others turn x.inner.host_requirements (on_sender x) item.meta one.0 one.3.0 (on_sender y))
         (SendsBy others turn (Some p) (on_sender x) item changed a (on_sender y) m)
         (λ n. (one.0, one.1, one.2, (one.3.0, n, one.3.2, one.3.3, one.3.4)))
-        (leaves x y item.meta one.0 one.3.0 one.3.1)
+        (leaves_if x.inner.host_requirements x y item.meta one.0 one.3.0 one.3.1)
 
     same_device : (x y : Sender D) → y ≡ x → y.device ≡ x.device
     same_device x y is = ap (λ (v : Sender D). v.device) is
@@ -250,16 +270,92 @@ module _ {D E : Type 0} (f : D → E) (moves : D → Move → D → Type 0) (oth
       so x.device y.device (FragmentLeaves others l (on_sender x) clear (on_sender y)) (Clears others (Some l) (on_sender x) clear (on_sender y)) (λ n. (n, one.1))
       (fragment_leaves l x y clear one.0)
 
+  -- PACKETS THAT WAIT
+
+  tries : (x y : Sender D) (p : PacketValue) (plan : Plan) (sent : Sent) → Tries moves x p plan sent y →
+      Leads x.device y.device (Tries others (on_sender x) p plan sent (on_sender y))
+  tries x y p plan sent (inl a) =
+      so x.device y.device (others (f x.device) (Allowed x.inner.instant false) (f y.device)) (Tries others (on_sender x) p plan sent (on_sender y))
+      (λ n. inl (n, a.1, a.2, a.3)) (moves_so x.device y.device (Allowed x.inner.instant false) a.0)
+  tries x y p plan sent (inr a) =
+      both x.device a.0 y.device (others (f x.device) (Allowed x.inner.instant true) (f a.0))
+      (IsTransmitted others (f a.0) x.inner x.left p plan sent (f y.device) y.inner y.left)
+      (Tries others (on_sender x) p plan sent (on_sender y)) (λ n g. inr (f a.0, n, g)) (moves_so x.device a.0 (Allowed x.inner.instant true) a.1)
+      (is_transmitted a.0 y.device x.inner y.inner x.left y.left p plan sent a.2)
+
+  leaves_by : (plan : Plan) (x y : Sender D) (p : PacketValue) (sent : Sent) → LeavesBy moves plan x p sent y →
+      Leads x.device y.device (LeavesBy others plan (on_sender x) p sent (on_sender y))
+  leaves_by Way.Wait x y p sent one =
+      stays x.device y.device (LeavesBy others Way.Wait (on_sender x) p sent (on_sender y)) (same_device None x y one.1) (one.0, ap on_sender one.1)
+  leaves_by Way.Busy x y p sent one =
+      stays x.device y.device (LeavesBy others Way.Busy (on_sender x) p sent (on_sender y)) (same_device None x y one.1) (one.0, ap on_sender one.1)
+  leaves_by Way.NoRoute x y p sent one =
+      stays x.device y.device (LeavesBy others Way.NoRoute (on_sender x) p sent (on_sender y)) (same_device None x y one.1) (one.0, ap on_sender one.1)
+  leaves_by Way.Drop x y p sent one =
+      stays x.device y.device (LeavesBy others Way.Drop (on_sender x) p sent (on_sender y)) (same_device None x y one.1) (one.0, ap on_sender one.1)
+  leaves_by (Way.Ask query) x y p sent one = tries x y p (Way.Ask query) sent one
+  leaves_by (Way.Go to) x y p sent one = tries x y p (Way.Go to) sent one
+  leaves_by (Way.Cut to) x y p sent one = tries x y p (Way.Cut to) sent one
+
+  parked_leaves : (x y : Sender D) (p : PacketValue) (sent : Sent) → Parking.Leaves moves x p sent y →
+      Leads x.device y.device (Parking.Leaves others (on_sender x) p sent (on_sender y))
+  parked_leaves x y p sent one = leaves_by (plan_of x.inner (is_some x.left) p.header) x y p sent one
+
+  each : (rest kept : List ParkedValue) (x : Sender D) (all : Bool) (y : Sender D) (left : List ParkedValue) → ServesEach moves rest kept x all y left →
+      Leads x.device y.device (ServesEach others rest kept (on_sender x) all (on_sender y) left)
+  each [] kept x all y left one =
+      stays x.device y.device (ServesEach others [] kept (on_sender x) all (on_sender y) left) (same_device None x y one.1) (one.0, ap on_sender one.1, one.2)
+  each (k ∷ rest) kept x all y left one =
+      both x.device one.1.device y.device (Parking.Leaves others (on_sender x) (packet_in k) one.0 (on_sender one.1)) (On one.0)
+      (ServesEach others (k ∷ rest) kept (on_sender x) all (on_sender y) left) (λ n g. (one.0, on_sender one.1, n, g))
+      (parked_leaves x one.1 (packet_in k) one.0 one.2) (by one.0 one.3 (λ on later. each rest on one.1 all y left later)) where
+        On : Sent → Type 0
+        On sent =
+            GoesOn others sent (ServesEach others rest kept (on_sender one.1) all (on_sender y) left)
+            (ServesEach others rest (kept ++ k ∷ []) (on_sender one.1) all (on_sender y) left)
+            ((all ≡ false) × (on_sender y ≡ on_sender one.1) × (left ≡ kept ++ k ∷ rest))
+
+        by : (sent : Sent) → GoesOn moves sent (ServesEach moves rest kept one.1 all y left) (ServesEach moves rest (kept ++ k ∷ []) one.1 all y left)
+            ((all ≡ false) × (y ≡ one.1) × (left ≡ kept ++ k ∷ rest))
+            → ((on : List ParkedValue) → ServesEach moves rest on one.1 all y left
+            → Leads one.1.device y.device (ServesEach others rest on (on_sender one.1) all (on_sender y) left)) → Leads one.1.device y.device (On sent)
+        by Outcome.Gone later further = further kept later
+        by Outcome.Dropped later further = further kept later
+        by Outcome.Waits later further = further (kept ++ k ∷ []) later
+        by Outcome.Busy later further = further (kept ++ k ∷ []) later
+        by Outcome.Refused later further =
+            stays one.1.device y.device (On Outcome.Refused) (same_device None one.1 y later.1) (later.0, ap on_sender later.1, later.2)
+
+  serves_parked : (x y : Sender D) (all : Bool) → ServesParked moves x all y → Leads x.device y.device (ServesParked others (on_sender x) all (on_sender y))
+  serves_parked x y all one =
+      both x.device one.0.device y.device (ServesEach others x.inner.parking.packets [] (on_sender (lent moves x)) all (on_sender one.0) one.1)
+      (on_sender y ≡ put_back others x.inner.parking.room one.1 (on_sender one.0))
+      (ServesParked others (on_sender x) all (on_sender y)) (λ n g. (on_sender one.0, one.1, n, g))
+      (each x.inner.parking.packets [] (lent moves x) all one.0 one.1 one.2)
+      (stays one.0.device y.device (on_sender y ≡ put_back others x.inner.parking.room one.1 (on_sender one.0)) (ap (λ (v : Sender D). v.device) one.3)
+      (ap on_sender one.3))
+
+  clears_if : (many : Bool) (x y : Sender D) (clear : Bool) → ClearsIf moves many x clear y →
+      Leads x.device y.device (ClearsIf others many (on_sender x) clear (on_sender y))
+  clears_if false x y clear one = clears x.left x y clear one
+  clears_if true x y clear (inl one) =
+      so x.device y.device (Clears others x.left (on_sender x) false (on_sender y)) (ClearsIf others true (on_sender x) clear (on_sender y))
+      (λ n. inl (n, one.1)) (clears x.left x y false one.0)
+  clears_if true x y clear (inr one) =
+      both x.device one.0.device y.device (Clears others x.left (on_sender x) true (on_sender one.0)) (ServesParked others (on_sender one.0) clear (on_sender y))
+      (ClearsIf others true (on_sender x) clear (on_sender y)) (λ n g. inr (on_sender one.0, n, g)) (clears x.left x one.0 true one.1)
+      (serves_parked one.0 y clear one.2)
+
   egress : (x : Sender D) (ps : Slots) (e : Passed D) → Egress moves x ps e → Leads x.device e.sender.device (Egress others (on_sender x) ps (on_passed e))
   egress x ps e (inl a) =
-      both x.device a.0.device e.sender.device (Clears others x.left (on_sender x) false (on_sender a.0)) (on_passed e ≡ passed (on_sender a.0) ps false)
+      both x.device a.0.device e.sender.device (ClearsAll others (on_sender x) false (on_sender a.0)) (on_passed e ≡ passed (on_sender a.0) ps false)
       (Egress others (on_sender x) ps (on_passed e))
-      (λ n g. inl (on_sender a.0, n, g)) (clears x.left x a.0 false a.1)
+      (λ n g. inl (on_sender a.0, n, g)) (clears_if x.inner.host_requirements x a.0 false a.1)
       (stays a.0.device e.sender.device (on_passed e ≡ passed (on_sender a.0) ps false) (ap (λ (v : Passed D). v.sender.device) a.2) (ap on_passed a.2))
   egress x ps e (inr a) =
-      both x.device a.0.device e.sender.device (Clears others x.left (on_sender x) true (on_sender a.0))
+      both x.device a.0.device e.sender.device (ClearsAll others (on_sender x) true (on_sender a.0))
       (Pass others (turn_of a.0.inner ps) (on_sender a.0) [] false ps (on_passed e)) (Egress others (on_sender x) ps (on_passed e))
-      (λ n g. inr (on_sender a.0, n, g)) (clears x.left x a.0 true a.1) (pass (turn_of a.0.inner ps) ps [] a.0 false e a.2)
+      (λ n g. inr (on_sender a.0, n, g)) (clears_if x.inner.host_requirements x a.0 true a.1) (pass (turn_of a.0.inner ps) ps [] a.0 false e a.2)
 
   out_step : (t : ℤ) (s s' : State D) (answer : Option Bool) → EgressStep moves t s answer s' →
       Leads s.device s'.device (EgressStep others t (on_state s) answer (on_state s'))
@@ -272,6 +368,19 @@ module _ {D E : Type 0} (f : D → E) (moves : D → Move → D → Type 0) (oth
 
   -- THE WAY IN
 
+  answered : (many : Bool) (p : PacketValue) (kept_back : Bool) (x y : Sender D) → AnswerGoes moves many p kept_back x y →
+      Leads x.device y.device (AnswerGoes others many p kept_back (on_sender x) (on_sender y))
+  answered false p kept_back x y one =
+      so x.device y.device (IsTransmitted others (f x.device) x.inner x.left p (plan_of x.inner (is_some x.left) p.header) one.0 (f y.device) y.inner y.left)
+      (AnswerGoes others false p kept_back (on_sender x) (on_sender y)) (λ n. (one.0, n, one.2, one.3))
+      (is_transmitted x.device y.device x.inner y.inner x.left y.left p (plan_of x.inner (is_some x.left) p.header) one.0 one.1)
+  answered true p kept_back x y one =
+      let mid : Sender D = one.1 in
+      parked None (parks mid.inner p (plan_of x.inner (is_some x.left) p.header) one.0) x mid y p
+      (IsTransmitted others (f x.device) x.inner x.left p (plan_of x.inner (is_some x.left) p.header) one.0 (f mid.device) mid.inner mid.left)
+      (AnswerGoes others true p kept_back (on_sender x) (on_sender y)) one.3 (λ n is. (one.0, on_sender mid, n, is, one.4, one.5))
+      (is_transmitted x.device mid.device x.inner mid.inner x.left mid.left p (plan_of x.inner (is_some x.left) p.header) one.0 one.2)
+
   replied : (awaited : Bool) (reply : Option ReplyValue) (x y : Sender D) → Replied moves awaited reply x y →
       Leads x.device y.device (Replied others awaited reply (on_sender x) (on_sender y))
   replied awaited None x y one = stays x.device y.device (Replied others awaited None (on_sender x) (on_sender y)) (same_device None x y one) (ap on_sender one)
@@ -283,9 +392,9 @@ module _ {D E : Type 0} (f : D → E) (moves : D → Move → D → Type 0) (oth
       stays x.device y.device (Replied others awaited (Some (Replies.Answers p)) (on_sender x) (on_sender y)) (same_device None x y held.0)
       (inl (ap on_sender held.0, held.1))
   replied awaited (Some (Replies.Answers p)) x y (inr one) =
-      so x.device y.device (IsTransmitted others (f x.device) x.inner x.left p (plan_of x.inner (is_some x.left) p.header) one.0 (f y.device) y.inner y.left)
-      (Replied others awaited (Some (Replies.Answers p)) (on_sender x) (on_sender y)) (λ n. inr (one.0, n, one.2, one.3))
-      (is_transmitted x.device y.device x.inner y.inner x.left y.left p (plan_of x.inner (is_some x.left) p.header) one.0 one.1)
+      so x.device y.device (AnswerGoes others x.inner.host_requirements p (awaited && would_solicit x p) (on_sender x) (on_sender y))
+      (Replied others awaited (Some (Replies.Answers p)) (on_sender x) (on_sender y)) (λ n. inr n)
+      (answered x.inner.host_requirements p (awaited && would_solicit x p) x y one)
 
   receives : (content : Option IncomingValue) (s s' : State D) → Receives moves content s s' →
       Leads s.device s'.device (Receives others content (on_state s) (on_state s'))

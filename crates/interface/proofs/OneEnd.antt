@@ -27,21 +27,28 @@ use Rattle.iface_egress.proofs.OneWay.{one_way, one_fragment}
 use Rattle.iface_ingress.specs.Incoming.{IncomingValue}
 use Rattle.iface_ingress.proofs.OneContent.{one-content}
 use Rattle.iface_ingress.specs.Arrives as Replies
-use Rattle.iface_ingress.specs.Arrives.{ReplyValue, Arrived, ArrivesAs}
+use Rattle.iface_ingress.specs.Arrives.{ReplyValue, Arrived}
 use Rattle.iface_ingress.proofs.OneArrival.{one_arrives_as}
 use Rattle.interface.specs.Remote.{context_for}
 use Rattle.interface.specs.Awaited.{turn_of}
 use Rattle.interface.specs.Host.{Sender}
 use Rattle.interface.specs.Pass.{Pass, Passed, passed}
-use Rattle.interface.specs.EgressPath.{Clears, Egress, FragmentLeaves}
-use Rattle.interface.specs.Serve.{Leaves, SendsAs, SendsBy, Answers, TurnsIf, ItemTurns, ServesSlot, is_waiting, let_through, turned_by, settled_by}
+use Rattle.iface_tables.specs.Parking.{ParkedValue}
+use Rattle.iface_egress.specs.Parked.{GoesOn, LeavesBy, ServesEach, ServesParked, Tries, lent, outcome_of, packet_in, parks, put_back, sender_after}
+use Rattle.iface_egress.specs.Parked as Parking
+use Rattle.iface_egress.specs.declared.plan.Plan.{Plan}
+use Rattle.iface_egress.specs.declared.plan.Plan.TheVariants as Way
+use Rattle.iface_egress.specs.declared.egress_path.Sent.TheVariants as Outcome
+use Rattle.interface.specs.EgressPath.{Clears, ClearsAll, ClearsIf, Egress, FragmentLeaves}
+use Rattle.interface.specs.Serve.{Leaves, LeavesIf, SendsAs, SendsBy, Answers, TurnsIf, ItemTurns, ServesSlot, is_waiting, let_through, turned_by, settled_by}
 use Rattle.interface.specs.Serve.{plan_at, held_at}
 use Rattle.interface.specs.Serve.{outcome_by, waits_until}
 use Rattle.interface.specs.declared.serve.Served.{Served}
 use Rattle.interface.specs.declared.serve.Served.TheVariants as Turn
 use Rattle.interface.specs.State.{State, at_device}
 use Rattle.interface.specs.Egress.{EgressStep, sending, following, if_changed}
-use Rattle.interface.specs.Ingress.{IngressStep, Takes, Receives, Reads, Replied, is_awaited, would_solicit, is_read, sender_of, sender_with}
+use Rattle.interface.proofs.Parked.{HasLeft, left_by, parked_keep}
+use Rattle.interface.specs.Ingress.{AnswerGoes, IngressStep, Takes, Receives, Reads, Replied, is_awaited, would_solicit, is_read, sender_of, sender_with}
 use Rattle.interface.specs.Polls.{Repeats, Polls, begun}
 use Rattle.interface.specs.Steady.{IsSteady}
 
@@ -166,13 +173,36 @@ module _ (one_offer : OneOffer) {D : Type 0} (moves : D → Move → D → Type 
     det_leaves x y m p s (inr a) det =
         det_out a.0 y.device x.inner y.inner x.left y.left p (is_some x.left) s a.2 (steady.stays x.device a.0 (Allowed x.inner.instant true) det a.1)
 
+    same_after : (b c : Bool) (p : PacketValue) (y z y' z' : Sender D) → b ≡ c → y ≡ z → y' ≡ sender_after b p y → z' ≡ sender_after c p z → y' ≡ z'
+    same_after b c p y z y' z' flags senders one two =
+        one ∙ ap (λ (a : Bool). sender_after a p y) flags ∙ ap (sender_after c p) senders ∙ sym two
+
+    one_leaves_if : (many : Bool) (x y z : Sender D) (m : Meta) (p : PacketValue) (s t : Sent) → Det x.device → LeavesIf moves turn many x m p s y →
+        LeavesIf moves turn many x m p t z → (s ≡ t) × (y ≡ z)
+    one_leaves_if false x y z m p s t det one two = one_leaves x y z m p s t det one two
+    one_leaves_if true x y z m p s t det one two =
+        let same = one_leaves x one.1 two.1 m p one.0 two.0 det one.2 two.2 in
+        let parked : parks one.1.inner p (plan_at x p) one.0 ≡ parks two.1.inner p (plan_at x p) two.0 =
+        ap (λ (v : Sender D). parks v.inner p (plan_at x p) one.0) same.1 ∙ ap (parks two.1.inner p (plan_at x p)) same.0 in (
+          one.3 ∙ ap (λ (b : Bool). outcome_of b one.0) parked ∙ ap (outcome_of (parks two.1.inner p (plan_at x p) two.0)) same.0 ∙ sym two.3,
+          same_after (parks one.1.inner p (plan_at x p) one.0) (parks two.1.inner p (plan_at x p) two.0) p one.1 two.1 y z parked same.1 one.4 two.4,
+        )
+
+    det_after : (b : Bool) (p : PacketValue) (y z : Sender D) → z ≡ sender_after b p y → Det y.device → Det z.device
+    det_after b p y z is det = subst (λ (v : Sender D). Det v.device) (sym is) det
+
+    det_leaves_if : (many : Bool) (x y : Sender D) (m : Meta) (p : PacketValue) (s : Sent) → LeavesIf moves turn many x m p s y → Det x.device → Det y.device
+    det_leaves_if false x y m p s one det = det_leaves x y m p s one det
+    det_leaves_if true x y m p s one det =
+        det_after (parks one.1.inner p (plan_at x p) one.0) p one.1 y one.4 (det_leaves x one.1 m p one.0 one.2 det)
+
     abbrev SameTurn : {A : Type 0} → Served → Sender D → A → Served → Sender D → A → Type 0
     SameTurn a y p b z q = (a ≡ b) × (y ≡ z) × (p ≡ q)
 
     one_as : (p : PacketValue) (x y z : Sender D) (item m n : Item Socket) (changed : Bool) (a b : Served) → Det x.device
         → SendsAs moves turn p x item changed a y m → SendsAs moves turn p x item changed b z n → SameTurn a y m b z n
     one_as p x y z item m n changed a b det one two =
-        let same = one_leaves x y z item.meta p one.0 two.0 det one.1 two.1 in (
+        let same = one_leaves_if x.inner.host_requirements x y z item.meta p one.0 two.0 det one.1 two.1 in (
           one.2 ∙ ap (λ (s : Sent). turned_by s changed) same.0 ∙ sym two.2,
           same.1,
           one.3 ∙ ap (λ (s : Sent). settled_by s x.inner.instant (waits_until (plan_at x p) y.inner) (destination_of p.header) item) same.0
@@ -190,7 +220,7 @@ module _ (one_offer : OneOffer) {D : Type 0} (moves : D → Move → D → Type 
     det_sends : (o : Option PacketValue) (x y : Sender D) (item m : Item Socket) (changed : Bool) (a : Served) → SendsBy moves turn o x item changed a y m →
         Det x.device → Det y.device
     det_sends None x y item m changed a one det = absurd one
-    det_sends (Some p) x y item m changed a one det = det_leaves x y item.meta one.0 one.3.0 one.3.1 det
+    det_sends (Some p) x y item m changed a one det = det_leaves_if x.inner.host_requirements x y item.meta one.0 one.3.0 one.3.1 det
 
     one_answers : (answer : Answer.Offer) (x y z : Sender D) (item m n : Item Socket) (a b : Served) → Det x.device
         → Answers moves turn answer x item a y m → Answers moves turn answer x item b z n → SameTurn a y m b z n
@@ -306,19 +336,127 @@ module _ (one_offer : OneOffer) {D : Type 0} (moves : D → Move → D → Type 
   det_clears None x y a one det = det_same None x y one.1 det
   det_clears (Some l) x y a one det = det_fragment_leaves l x y a one.0 det
 
+  -- PACKETS THAT WAIT
+
+  module _ (x : Sender D) (p : PacketValue) (det : Det x.device) where
+    abbrev plan_here : Plan
+    plan_here = plan_of x.inner (is_some x.left) p.header
+
+    one_tries : (plan : Plan) → plan_here ≡ plan → (y z : Sender D) (s t : Sent) → Tries moves x p plan s y → Tries moves x p plan t z → (s ≡ t) × (y ≡ z)
+    one_tries plan is y z s t (inl a) (inl b) = (
+      a.3 ∙ sym b.3,
+      same_sender y z (det.one_end y.device z.device (Allowed x.inner.instant false) a.0 b.0) (a.1 ∙ sym b.1) (a.2 ∙ sym b.2),
+    )
+    one_tries plan is y z s t (inl a) (inr b) = absurd (det.gives x.inner.instant b.0 y.device b.1 a.0)
+    one_tries plan is y z s t (inr a) (inl b) = absurd (det.gives x.inner.instant a.0 z.device a.1 b.0)
+    one_tries plan is y z s t (inr a) (inr b) =
+        let mids : b.0 ≡ a.0 = det.one_end b.0 a.0 (Allowed x.inner.instant true) b.1 a.1 in
+        let first : IsTransmitted moves a.0 x.inner x.left p plan_here s y.device y.inner y.left =
+        subst (λ (w : Plan). IsTransmitted moves a.0 x.inner x.left p w s y.device y.inner y.left) (sym is) a.2 in
+        let second : IsTransmitted moves a.0 x.inner x.left p plan_here t z.device z.inner z.left =
+        subst (λ (w : Plan). IsTransmitted moves a.0 x.inner x.left p w t z.device z.inner z.left) (sym is)
+        (subst (λ (d : D). IsTransmitted moves d x.inner x.left p plan t z.device z.inner z.left) mids b.2) in
+        let same = one_out a.0 y.device z.device x.inner y.inner z.inner x.left y.left z.left p (is_some x.left) s t
+        (steady.stays x.device a.0 (Allowed x.inner.instant true) det a.1) first second in
+        (same.0, same_sender y z same.1 same.2 same.3)
+
+    one_by : (plan : Plan) → plan_here ≡ plan → (y z : Sender D) (s t : Sent) → LeavesBy moves plan x p s y → LeavesBy moves plan x p t z →
+        (s ≡ t) × (y ≡ z)
+    one_by Way.Wait is y z s t one two = (one.0 ∙ sym two.0, one.1 ∙ sym two.1)
+    one_by Way.Busy is y z s t one two = (one.0 ∙ sym two.0, one.1 ∙ sym two.1)
+    one_by Way.NoRoute is y z s t one two = (one.0 ∙ sym two.0, one.1 ∙ sym two.1)
+    one_by Way.Drop is y z s t one two = (one.0 ∙ sym two.0, one.1 ∙ sym two.1)
+    one_by (Way.Ask query) is y z s t one two = one_tries (Way.Ask query) is y z s t one two
+    one_by (Way.Go to) is y z s t one two = one_tries (Way.Go to) is y z s t one two
+    one_by (Way.Cut to) is y z s t one two = one_tries (Way.Cut to) is y z s t one two
+
+    det_left : (y : Sender D) (s : Sent) → HasLeft moves x p s y → Det y.device
+    det_left y s (inl stays) = det_same None x y stays det
+    det_left y s (inr (inl refused)) = steady.stays x.device y.device (Allowed x.inner.instant false) det refused.0
+    det_left y s (inr (inr goes)) =
+        det_out goes.0 y.device x.inner y.inner x.left y.left p (is_some x.left) s goes.2 (steady.stays x.device goes.0 (Allowed x.inner.instant true) det goes.1)
+
+  abbrev SameServed : Bool → Sender D → List ParkedValue → Bool → Sender D → List ParkedValue → Type 0
+  SameServed a y ks b z ls = (a ≡ b) × (y ≡ z) × (ks ≡ ls)
+
+  det_parked : (x y : Sender D) (k : ParkedValue) (s : Sent) → Parking.Leaves moves x (packet_in k) s y → Det x.device → Det y.device
+  det_parked x y k s one det =
+      det_left x (packet_in k) det y s (left_by moves (plan_of x.inner (is_some x.left) k.header) x (packet_in k) s y one)
+
+  one_each : (rest kept : List ParkedValue) (x y z : Sender D) (a b : Bool) (ks ls : List ParkedValue) → Det x.device
+      → ServesEach moves rest kept x a y ks → ServesEach moves rest kept x b z ls → SameServed a y ks b z ls
+  one_each [] kept x y z a b ks ls det one two = (one.0 ∙ sym two.0, one.1 ∙ sym two.1, one.2 ∙ sym two.2)
+  one_each (k ∷ rest) kept x y z a b ks ls det one two =
+      by one.0 one.3 again (λ on first second. one_each rest on one.1 y z a b ks ls here first second)
+    where
+      same : (one.0 ≡ two.0) × (one.1 ≡ two.1)
+      same = one_by x (packet_in k) det (plan_of x.inner (is_some x.left) k.header) refl one.1 two.1 one.0 two.0 one.2 two.2
+
+      On : Sender D → Bool → Sender D → List ParkedValue → Sent → Type 0
+      On mid c end left sent =
+          GoesOn moves sent (ServesEach moves rest kept mid c end left) (ServesEach moves rest (kept ++ k ∷ []) mid c end left)
+          ((c ≡ false) × (end ≡ mid) × (left ≡ kept ++ k ∷ rest))
+
+      again : On one.1 b z ls one.0
+      again = subst (λ (v : Sender D). On v b z ls one.0) (sym same.1) (subst (On two.1 b z ls) (sym same.0) two.3)
+
+      here : Det one.1.device
+      here = det_parked x one.1 k one.0 one.2 det
+
+      by : (sent : Sent) → On one.1 a y ks sent → On one.1 b z ls sent
+          → ((on : List ParkedValue) → ServesEach moves rest on one.1 a y ks → ServesEach moves rest on one.1 b z ls → SameServed a y ks b z ls)
+          → SameServed a y ks b z ls
+      by Outcome.Gone first second further = further kept first second
+      by Outcome.Dropped first second further = further kept first second
+      by Outcome.Waits first second further = further (kept ++ k ∷ []) first second
+      by Outcome.Busy first second further = further (kept ++ k ∷ []) first second
+      by Outcome.Refused first second further = (first.0 ∙ sym second.0, first.1 ∙ sym second.1, first.2 ∙ sym second.2)
+
+  one_served : (x y z : Sender D) (a b : Bool) → Det x.device → ServesParked moves x a y → ServesParked moves x b z → (a ≡ b) × (y ≡ z)
+  one_served x y z a b det one two =
+      let same = one_each x.inner.parking.packets [] (lent moves x) one.0 two.0 a b one.1 two.1 det one.2 two.2 in (
+        same.0,
+        one.3 ∙ ap (λ (v : Sender D). put_back moves x.inner.parking.room one.1 v) same.1
+            ∙ ap (λ (ks : List ParkedValue). put_back moves x.inner.parking.room ks two.0) same.2 ∙ sym two.3,
+      )
+
+  det_served : (x y : Sender D) (a : Bool) → ServesParked moves x a y → Det x.device → Det y.device
+  det_served x y a one det =
+      parked_keep moves (λ (v : Sender D). Det v.device) (λ v w p s here left. det_left v p here w s left) (λ v k here. here) x y a det one
+
+  one_clears_if : (many : Bool) (x y z : Sender D) (a b : Bool) → Det x.device → ClearsIf moves many x a y → ClearsIf moves many x b z → (a ≡ b) × (y ≡ z)
+  one_clears_if false x y z a b det one two = one_clears x.left x y z a b det one two
+  one_clears_if true x y z a b det (inl one) (inl two) = (one.1 ∙ sym two.1, (one_clears x.left x y z false false det one.0 two.0).1)
+  one_clears_if true x y z a b det (inl one) (inr two) = absurd (let off = (one_clears x.left x y two.0 false true det one.0 two.1).0 in cc)
+  one_clears_if true x y z a b det (inr one) (inl two) = absurd (let off = (one_clears x.left x one.0 z true false det one.1 two.0).0 in cc)
+  one_clears_if true x y z a b det (inr one) (inr two) =
+      let same = (one_clears x.left x two.0 one.0 true true det two.1 one.1).1 in
+      one_served one.0 y z a b (det_clears x.left x one.0 true one.1 det) one.2 (subst (λ (v : Sender D). ServesParked moves v b z) same two.2)
+
+  det_clears_if : (many : Bool) (x y : Sender D) (a : Bool) → ClearsIf moves many x a y → Det x.device → Det y.device
+  det_clears_if false x y a one det = det_clears x.left x y a one det
+  det_clears_if true x y a (inl one) det = det_clears x.left x y false one.0 det
+  det_clears_if true x y a (inr one) det = det_served one.0 y a one.2 (det_clears x.left x one.0 true one.1 det)
+
+  one_ready : (x y z : Sender D) (a b : Bool) → Det x.device → ClearsAll moves x a y → ClearsAll moves x b z → (a ≡ b) × (y ≡ z)
+  one_ready x y z a b det one two = one_clears_if x.inner.host_requirements x y z a b det one two
+
+  det_ready : (x y : Sender D) (a : Bool) → ClearsAll moves x a y → Det x.device → Det y.device
+  det_ready x y a one det = det_clears_if x.inner.host_requirements x y a one det
+
   one_egress : (x : Sender D) (ps : Slots) (e f : Passed D) → Det x.device → Egress moves x ps e → Egress moves x ps f → e ≡ f
   one_egress x ps e f det (inl a) (inl b) =
-      a.2 ∙ ap (λ (v : Sender D). passed v ps false) (one_clears x.left x a.0 b.0 false false det a.1 b.1).1 ∙ sym b.2
-  one_egress x ps e f det (inl a) (inr b) = absurd (let same = (one_clears x.left x a.0 b.0 false true det a.1 b.1).0 in cc)
-  one_egress x ps e f det (inr a) (inl b) = absurd (let same = (one_clears x.left x a.0 b.0 true false det a.1 b.1).0 in cc)
+      a.2 ∙ ap (λ (v : Sender D). passed v ps false) (one_ready x a.0 b.0 false false det a.1 b.1).1 ∙ sym b.2
+  one_egress x ps e f det (inl a) (inr b) = absurd (let same = (one_ready x a.0 b.0 false true det a.1 b.1).0 in cc)
+  one_egress x ps e f det (inr a) (inl b) = absurd (let same = (one_ready x a.0 b.0 true false det a.1 b.1).0 in cc)
   one_egress x ps e f det (inr a) (inr b) =
-      let same = one_clears x.left x b.0 a.0 true true det b.1 a.1 in
-      one_pass (turn_of a.0.inner ps) ps [] a.0 false e f (det_clears x.left x a.0 true a.1 det) a.2
+      let same = one_ready x b.0 a.0 true true det b.1 a.1 in
+      one_pass (turn_of a.0.inner ps) ps [] a.0 false e f (det_ready x a.0 true a.1 det) a.2
       (subst (λ (v : Sender D). Pass moves (turn_of v.inner ps) v [] false ps f) same.1 b.2)
 
   det_egress : (x : Sender D) (ps : Slots) (e : Passed D) → Egress moves x ps e → Det x.device → Det e.sender.device
-  det_egress x ps e (inl a) det = subst (λ (v : Passed D). Det v.sender.device) (sym a.2) (det_clears x.left x a.0 false a.1 det)
-  det_egress x ps e (inr a) det = det_pass (turn_of a.0.inner ps) ps [] a.0 false e a.2 (det_clears x.left x a.0 true a.1 det)
+  det_egress x ps e (inl a) det = subst (λ (v : Passed D). Det v.sender.device) (sym a.2) (det_ready x a.0 false a.1 det)
+  det_egress x ps e (inr a) det = det_pass (turn_of a.0.inner ps) ps [] a.0 false e a.2 (det_ready x a.0 true a.1 det)
 
   abbrev SameStep : Option Bool → State D → Option Bool → State D → Type 0
   SameStep a s b r = (a ≡ b) × (s ≡ r)
@@ -334,6 +472,33 @@ module _ (one_offer : OneOffer) {D : Type 0} (moves : D → Move → D → Type 
 
   -- THE WAY IN
 
+  one_answered : (many : Bool) (p : PacketValue) (kept_back : Bool) (x y z : Sender D) → Det x.device → AnswerGoes moves many p kept_back x y →
+      AnswerGoes moves many p kept_back x z → y ≡ z
+  one_answered false p kept_back x y z det one two =
+      let same = one_out x.device y.device z.device x.inner y.inner z.inner x.left y.left z.left p (is_some x.left) one.0 two.0 det one.1 two.1 in
+      same_sender y z same.1 same.2 same.3
+  one_answered true p kept_back x y z det one two =
+      let plan : Plan = plan_of x.inner (is_some x.left) p.header in
+      let a : Sender D = one.1 in
+      let b : Sender D = two.1 in
+      let same = one_out x.device a.device b.device x.inner a.inner b.inner x.left a.left b.left p (is_some x.left) one.0 two.0 det one.2 two.2 in
+      let mids : a ≡ b = same_sender a b same.1 same.2 same.3 in
+      let parked : parks a.inner p plan one.0 ≡ parks b.inner p plan two.0 =
+      ap (λ (v : Sender D). parks v.inner p plan one.0) mids ∙ ap (parks b.inner p plan) same.0 in
+      same_after None (parks a.inner p plan one.0) (parks b.inner p plan two.0) p a b y z parked mids one.3 two.3
+
+  both_kept : (many : Bool) (p : PacketValue) (kept_back : Bool) (x y : Sender D) → kept_back ≡ true → AnswerGoes moves many p kept_back x y → ⊥
+  both_kept false p kept_back x y is one = both_read kept_back is one.3
+  both_kept true p kept_back x y is one = both_read kept_back is one.5
+
+  det_answered : (many : Bool) (p : PacketValue) (kept_back : Bool) (x y : Sender D) → AnswerGoes moves many p kept_back x y → Det x.device → Det y.device
+  det_answered false p kept_back x y one det =
+      det_out x.device y.device x.inner y.inner x.left y.left p (is_some x.left) one.0 one.1 det
+  det_answered true p kept_back x y one det =
+      let mid : Sender D = one.1 in
+      det_after None (parks mid.inner p (plan_of x.inner (is_some x.left) p.header) one.0) p mid y one.3
+      (det_out x.device mid.device x.inner mid.inner x.left mid.left p (is_some x.left) one.0 one.2 det)
+
   one_replied : (awaited : Bool) (reply : Option ReplyValue) (x y z : Sender D) → Det x.device → Replied moves awaited reply x y →
       Replied moves awaited reply x z → y ≡ z
   one_replied awaited None x y z det one two = one ∙ sym two
@@ -341,17 +506,16 @@ module _ (one_offer : OneOffer) {D : Type 0} (moves : D → Move → D → Type 
       same_sender y z (one_sent (Departures.Tells packet) x.device y.device z.device x.inner one.0 two.0 det one.1 two.1) (one.2 ∙
       sym two.2) (one.3 ∙ sym two.3)
   one_replied awaited (Some (Replies.Answers p)) x y z det (inl one) (inl two) = one.0 ∙ sym two.0
-  one_replied awaited (Some (Replies.Answers p)) x y z det (inl one) (inr two) = absurd (both_read (awaited && would_solicit x p) one.1 two.3)
-  one_replied awaited (Some (Replies.Answers p)) x y z det (inr one) (inl two) = absurd (both_read (awaited && would_solicit x p) two.1 one.3)
+  one_replied awaited (Some (Replies.Answers p)) x y z det (inl one) (inr two) = absurd (both_kept x.inner.host_requirements p (awaited && would_solicit x p) x z one.1 two)
+  one_replied awaited (Some (Replies.Answers p)) x y z det (inr one) (inl two) = absurd (both_kept x.inner.host_requirements p (awaited && would_solicit x p) x y two.1 one)
   one_replied awaited (Some (Replies.Answers p)) x y z det (inr one) (inr two) =
-      let same = one_out x.device y.device z.device x.inner y.inner z.inner x.left y.left z.left p (is_some x.left) one.0 two.0 det one.1 two.1 in
-      same_sender y z same.1 same.2 same.3
+      one_answered x.inner.host_requirements p (awaited && would_solicit x p) x y z det one two
 
   det_replied : (awaited : Bool) (reply : Option ReplyValue) (x y : Sender D) → Replied moves awaited reply x y → Det x.device → Det y.device
   det_replied awaited None x y one det = det_same None x y one det
   det_replied awaited (Some (Replies.Tells packet)) x y one det = det_of x.device y.device x.inner (Departures.Tells packet) one.0 one.1 det
   det_replied awaited (Some (Replies.Answers p)) x y (inl one) det = det_same None x y one.0 det
-  det_replied awaited (Some (Replies.Answers p)) x y (inr one) det = det_out x.device y.device x.inner y.inner x.left y.left p (is_some x.left) one.0 one.1 det
+  det_replied awaited (Some (Replies.Answers p)) x y (inr one) det = det_answered x.inner.host_requirements p (awaited && would_solicit x p) x y one det
 
   same_state : (s r : State D) → s.device ≡ r.device → s.host.inner ≡ r.host.inner → s.host.left ≡ r.host.left → s.host.assemblers ≡ r.host.assemblers →
       s.host.timeout ≡ r.host.timeout → s.slots ≡ r.slots → s ≡ r

@@ -1,5 +1,5 @@
 -- The instant of a call, which nothing in a poll changes.
-use Rattle.std.proofs.Common.{◌≡◌, ℤ, Bool, true, false, inl, inr, Option, Some, None, ap, ◌∙◌, sym, is_some}
+use Rattle.std.proofs.Common.{◌≡◌, ℤ, Bool, true, false, inl, inr, Option, Some, None, refl, ap, ◌∙◌, sym, is_some}
 use Rattle.net_base.specs.Device.{Move}
 use Rattle.ip_wire.specs.IpAddress.{IpAddress}
 use Rattle.iface_ingress.specs.Socket.{Socket}
@@ -14,9 +14,12 @@ use Rattle.interface.specs.Host.{Sender}
 use Rattle.interface.specs.SameHost.{IsSameHost}
 use Rattle.interface.specs.Serve.{ServesSlot}
 use Rattle.interface.specs.declared.serve.Served.{Served}
-use Rattle.interface.proofs.SameHost.{same_where, is_transmitted_same, slot_same}
+use Rattle.iface_egress.specs.Parked.{parks}
+use Rattle.interface.proofs.SameHost.{same_where, is_transmitted_same, parked_same, slot_same}
 use Rattle.interface.specs.State.{State}
-use Rattle.interface.specs.Ingress.{Takes, Receives, Replied, is_awaited, sender_of, sender_with}
+use Rattle.iface_ingress.specs.Packet.{PacketValue}
+use Rattle.iface_egress.specs.Plan.{plan_of}
+use Rattle.interface.specs.Ingress.{AnswerGoes, Takes, Receives, Replied, is_awaited, sender_of, sender_with}
 use Rattle.interface.proofs.Kept.{RunsAt}
 
 pub runs_so : (t : ℤ) (i : InnerValue) → RunsAt t i → at_instant t i ≡ i
@@ -33,12 +36,20 @@ runs_in t i i' same runs = (same.instant ∙ runs.0, same.initial ∙ runs.1)
 
 module _ {D : Type 0} (moves : D → Move → D → Type 0) where
   -- an answer's egress path leaves the host
+  pub answered_same : (many : Bool) (p : PacketValue) (kept_back : Bool) (x x' : Sender D) → x.inner.host_requirements ≡ many →
+      AnswerGoes moves many p kept_back x x' → IsSameHost x.inner x'.inner
+  answered_same false p kept_back x x' is goes =
+      is_transmitted_same moves x.device x'.device x.inner x'.inner x.left x'.left p (is_some x.left) goes.0 goes.1
+  answered_same true p kept_back x x' is goes =
+      let mid : Sender D = goes.1 in
+      parked_same moves x mid x' (parks mid.inner p (plan_of x.inner (is_some x.left) p.header) goes.0) p is
+      (is_transmitted_same moves x.device mid.device x.inner mid.inner x.left mid.left p (is_some x.left) goes.0 goes.2) goes.3
+
   pub replied_same : (awaited : Bool) (reply : Option ReplyValue) (x x' : Sender D) → Replied moves awaited reply x x' → IsSameHost x.inner x'.inner
   replied_same awaited None x x' is = same_where x.inner x'.inner (ap (λ (y : Sender D). y.inner) is)
   replied_same awaited (Some (Replies.Tells packet)) x x' tells = same_where x.inner x'.inner tells.2
   replied_same awaited (Some (Replies.Answers p)) x x' (inl held) = same_where x.inner x'.inner (ap (λ (y : Sender D). y.inner) held.0)
-  replied_same awaited (Some (Replies.Answers p)) x x' (inr answers) =
-      is_transmitted_same moves x.device x'.device x.inner x'.inner x.left x'.left p (is_some x.left) answers.0 answers.1
+  replied_same awaited (Some (Replies.Answers p)) x x' (inr answers) = answered_same x.inner.host_requirements p _ x x' refl answers
 
   pub receives_same : (content : Option IncomingValue) (s s' : State D) (receives : Receives moves content s s')
       → HasSameSettings s.host.inner receives.0.inner × IsSameHost receives.0.inner s'.host.inner

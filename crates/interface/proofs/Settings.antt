@@ -1,31 +1,49 @@
 -- A poll leaves the host's settings.
-use Rattle.std.proofs.Common.{◌≡◌, refl, sym, ap, ◌∙◌, subst}
+use Rattle.std.proofs.Common.{◌≡◌, Bool, true, false, if◌then◌else◌, refl, sym, ap, ◌∙◌, subst}
 use Rattle.std.specs.Prelude.{ℤ}
 use Rattle.iface_tables.specs.Inner.{InnerValue, at_instant}
 use Rattle.iface_egress.specs.Departing.{HasSettingsOf}
 use Rattle.iface_ingress.specs.FragmentStored.{HasSameSettings}
-use Rattle.interface.specs.SameHost.{IsSameHost}
+use Rattle.iface_tables.specs.Parking.{ParkingValue}
+use Rattle.interface.specs.SameHost.{IsSameHost, parking_from}
 use Rattle.interface.specs.State.{KeepsSettings}
+use Rattle.interface.proofs.SameHost.{parked_so, two_parked}
+
+abbrev kept_but : InnerValue → InnerValue → ParkingValue → InnerValue
+kept_but old new parking = record old {
+  random = new.random;
+  neighbors = new.neighbors;
+  ident = new.ident;
+  errors_until = new.errors_until;
+  paths = new.paths;
+  parking = parking;
+}
 
 pub keeps_itself : (i : InnerValue) → KeepsSettings i i
-keeps_itself i = refl
+keeps_itself i = ap (kept_but i i) (parked_so i.host_requirements i.parking i.parking refl)
 
 pub keeps_where : (i i' : InnerValue) → i' ≡ i → KeepsSettings i i'
-keeps_where i i' is = subst (λ (x : InnerValue). KeepsSettings i x) (sym is) refl
+keeps_where i i' is = subst (λ (x : InnerValue). KeepsSettings i x) (sym is) (keeps_itself i)
 
 pub keeps_then : (a b c : InnerValue) → KeepsSettings a b → KeepsSettings b c → KeepsSettings a c
 keeps_then a b c first second =
-    second ∙ ap (λ (x : InnerValue). record x {
-      random = c.random;
-      neighbors =
-          c.neighbors;
-      ident = c.ident;
-      errors_until = c.errors_until;
-      paths = c.paths;
-    }) first
+    second
+    ∙ ap (λ (x : InnerValue). kept_but x c (if b.host_requirements then c.parking else b.parking)) first
+    ∙ ap (λ (many : Bool). kept_but a c (if many then c.parking else b.parking)) (ap (λ (x : InnerValue). x.host_requirements) first)
+    ∙ ap (kept_but a c) (two_parked a.host_requirements a.parking b.parking c.parking (ap (λ (x : InnerValue). x.parking) first))
+
+twice : (many : Bool) (k l : ParkingValue) → (if many then k else l) ≡ (if many then (if many then k else l) else l)
+twice true k l = refl
+twice false k l = refl
 
 pub keeps_out : (i i' : InnerValue) → IsSameHost i i' → KeepsSettings i i'
-keeps_out i i' is = subst (λ (x : InnerValue). KeepsSettings i x) (sym is) refl
+keeps_out i i' is = subst (λ (x : InnerValue). KeepsSettings i x) (sym is) (ap (kept_but i as_sent) (twice i.host_requirements i'.parking i.parking)) where
+  as_sent : InnerValue
+  as_sent = record i {
+    ident = i'.ident;
+    neighbors = record i.neighbors { silent = i'.neighbors.silent; searches = i'.neighbors.searches };
+    parking = parking_from i i';
+  }
 
 -- what arrives leaves them
 pub keeps_in : (i i' : InnerValue) → HasSameSettings i i' → KeepsSettings i i'
@@ -110,6 +128,21 @@ keeps_in i i' same =
       initial = i.initial;
       host_requirements = x;
     }) same.host_requirements
+    ∙ ap (λ x. record i' {
+      instant = i.instant;
+      hardware = i.hardware;
+      mtu = i.mtu;
+      checksums = i.checksums;
+      isn_key = i.isn_key;
+      addresses = i.addresses;
+      any_ip = i.any_ip;
+      groups = i.groups;
+      routes = i.routes;
+      route_room = i.route_room;
+      initial = i.initial;
+      host_requirements = i.host_requirements;
+      parking = x;
+    }) (parked_so i.host_requirements i'.parking i.parking same.parking)
 
 pub settings_kept : (t : ℤ) (i i' : InnerValue) → KeepsSettings (at_instant t i) i' → HasSettingsOf i i'
 settings_kept t i i' keeps = record {

@@ -1,5 +1,5 @@
 -- The receivers of a host's frames are on its medium.
-use Rattle.std.proofs.Common.{◌≡◌, ℕ, zero, suc, ◌+◌, ◌<◌, Bool, true, false, cond, List, [], ◌∷◌, drop, Option, Some, None, IfSome, refl, subst, arith}
+use Rattle.std.proofs.Common.{◌≡◌, ℕ, zero, suc, ◌<◌, Bool, true, false, cond, List, [], ◌∷◌, drop, Option, Some, None, IfSome, refl, subst, arith}
 use Rattle.std.proofs.Common.{length-drop}
 use Rattle.std.specs.Prelude.{ℤ, int_lt, nat_le, slice_index}
 use Rattle.std.specs.List.{AllByRecursion}
@@ -14,7 +14,7 @@ use Rattle.iface_ingress.specs.IpAddress.TheVariants as Address
 use Rattle.wire_ip.specs.declared.ip.repr.IpRepr.{IpRepr}
 use Rattle.iface_ingress.specs.Ipv4Address.{Ipv4Address}
 use Rattle.iface_ingress.specs.Best.{at_index}
-use Rattle.iface_egress.specs.Inner.{mtu_to}
+use Rattle.iface_egress.specs.Inner.{asked_of, mtu_to}
 use Rattle.iface_egress.specs.Inner.{InnerValue, is_local_broadcast, next_hop, link_by, link_of_hop, link_on, link_address, group_hardware_addr, all_stations}
 use Rattle.iface_ingress.specs.Neighbor.{CacheValue, lookup, missing, answer_by, neighbor_index_of, unless_failed, has_failed}
 use Rattle.iface_egress.specs.Source.{source_v4}
@@ -93,10 +93,10 @@ links local Known.Unanswered hop is = tt
 hop_limit : (i : InnerValue) (o : Option IpAddress) → KnowsItsMedium i → LinkStays i.hardware (link_of_hop i o)
 hop_limit i None knows = tt
 hop_limit i (Some hop) knows =
-    links i.hardware (lookup i.neighbors hop i.instant) hop
-    (unless_stays i.hardware (has_failed i.neighbors hop i.instant)
-    (answer_by (at_index (neighbor_index_of i.neighbors.entries hop) i.neighbors.entries) i.neighbors i.instant)
-    (answers i.hardware (at_index (neighbor_index_of i.neighbors.entries hop) i.neighbors.entries) i.neighbors i.instant
+    links i.hardware (lookup (asked_of i hop) hop i.instant) hop
+    (unless_stays i.hardware (has_failed (asked_of i hop) hop i.instant)
+    (answer_by (at_index (neighbor_index_of i.neighbors.entries hop) i.neighbors.entries) (asked_of i hop) i.instant)
+    (answers i.hardware (at_index (neighbor_index_of i.neighbors.entries hop) i.neighbors.entries) (asked_of i hop) i.instant
     (at i.hardware (neighbor_index_of i.neighbors.entries hop) i.neighbors.entries knows)))
 
 -- GROUPS

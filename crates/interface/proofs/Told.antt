@@ -1,6 +1,6 @@
 -- What an announcement does to a neighbour that knows the address.
 use Rattle.std.proofs.Common.{◌≡◌, Bool, true, false, if◌then◌else◌, refl, ap, ◌∙◌, eq-eqb}
-use Rattle.std.specs.Prelude.{◌&&◌, ◌||◌, ◌==◌, not, length, Some, None}
+use Rattle.std.specs.Prelude.{◌&&◌, ◌||◌, ◌==◌, not, length, None}
 use Rattle.ip_wire.specs.Address.{IsEthernetAddress}
 use Rattle.ip_wire.specs.AddressTests.{is_ethernet_unicast, is_unicast_v4, is_unicast_v6, is_unspecified_v6, is_multicast_v6}
 use Rattle.ip_wire.specs.EthernetAddress.{EthernetAddress}
@@ -14,8 +14,7 @@ use Rattle.iface_egress.specs.Announcement.{unsolicited_header, unsolicited_mess
 use Rattle.iface_egress.specs.Departure.{arp_request}
 use Rattle.iface_ingress.specs.Acquaintance.{knows, seeks}
 use Rattle.iface_ingress.specs.Arp.{arp_arrived, learned}
-use Rattle.iface_ingress.specs.Ndisc.{Heard, heard, heard_on, neighbor_learned}
-use Rattle.iface_ingress.specs.Ndisc as Heard
+use Rattle.iface_ingress.specs.Ndisc.{heard, heard_on, neighbor_learned}
 use Rattle.iface_ingress.proofs.LocalSources.{clash}
 
 teaches_so : (local known seeks one hardware_addr net : Bool) → known ≡ true → net ≡ true → one ≡ true → hardware_addr ≡ true

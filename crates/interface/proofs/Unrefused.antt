@@ -1,5 +1,5 @@
 -- A poll that refuses no frame has one end at a device that is otherwise determined.
-use Rattle.std.proofs.Common.{◌≡◌, ◌<◌, ◌≤◌, ℕ, ℤ, Bool, true, false, List, [], ◌∷◌, length, arith}
+use Rattle.std.proofs.Common.{◌≡◌, ◌<◌, ◌≤◌, ℕ, ℤ, Bool, true, false, List, [], ◌∷◌, arith}
 use Rattle.net_base.specs.Device.{Move, Took, Empty, Allowed, Emitted, Denied}
 use Rattle.iface_egress.specs.Determined.{IsDetermined}
 use Rattle.interface.specs.Polls.{Polls}

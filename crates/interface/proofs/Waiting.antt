@@ -97,4 +97,7 @@ none_found i (p ∷ ps) none =
     rw (unmarked i p.inner parts.0) (none_found i ps parts.1)
 
 pub none_waits : (i : InnerValue) (ps : List (SocketStorage Socket)) → list_any is_marked ps ≡ false → turn_of i ps ≡ None
-none_waits i ps none = ap (λ (found : List Awaited). hop_of (first_best comes_before found)) (none_found i ps none)
+none_waits i ps none = by i.host_requirements where
+  by : (many : Bool) → (if many then None else hop_of (next_awaited i ps)) ≡ None
+  by true = refl
+  by false = ap (λ (found : List Awaited). hop_of (first_best comes_before found)) (none_found i ps none)

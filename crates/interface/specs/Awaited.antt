@@ -1,5 +1,5 @@
 -- Which neighbour is asked for next, of those that sockets wait for.
-use Rattle.std.specs.Prelude.{ℤ, int_lt, Bool, true, false, List, Option, None, Some, is_some}
+use Rattle.std.specs.Prelude.{ℤ, int_lt, Bool, true, false, List, Option, None, Some, is_some, if◌then◌else◌}
 use Rattle.std.specs.List.{filter_map}
 use Rattle.ip_wire.specs.IpAddress.{IpAddress}
 use Rattle.iface_tables.specs.Best.{first_best}
@@ -48,10 +48,10 @@ comes_before a b = is_before a.last_request b.last_request a.since b.since
 abbrev pub next_awaited : InnerValue → List (SocketStorage Socket) → Option Awaited
 next_awaited i ps = first_best comes_before (filter_map (awaited_in i) ps)
 
--- whose turn it is to be asked for, where a socket waits
+-- whose turn it is to be asked for, where a socket waits; with host requirements all are asked for at once, each in its own silence
 abbrev pub hop_of : Option Awaited → Option IpAddress
 hop_of None = None
 hop_of (Some a) = Some a.hop
 
 abbrev pub turn_of : InnerValue → List (SocketStorage Socket) → Option IpAddress
-turn_of i ps = hop_of (next_awaited i ps)
+turn_of i ps = if i.host_requirements then None else hop_of (next_awaited i ps)

@@ -5,6 +5,7 @@ use Rattle.iface_tables.specs.Inner.{InnerValue, at_instant}
 use Rattle.iface_tables.specs.Reassembly.{AssemblerValue}
 use Rattle.iface_tables.specs.Assemblers.{without_expired}
 use Rattle.iface_egress.specs.Fragments.{LeftValue}
+pub use Rattle.iface_egress.specs.Sender.{Sender, sender}
 
 -- Its addresses and tables; the datagram that is half sent; what came of datagrams in fragments, and how long such a datagram is
 -- waited for.
@@ -21,12 +22,3 @@ host_at instant h = record h { inner = at_instant instant h.inner }
 -- maintenance: slots whose instant has passed are given up
 abbrev pub maintained : ℤ → HostValue → HostValue
 maintained instant h = record h { inner = at_instant instant h.inner; assemblers = without_expired h.assemblers instant }
-
--- What sends: a host at a device, and the datagram that is half sent.
-pub record Sender (D : Type 0) : Type 0 where
-  pub device : D
-  pub inner : InnerValue
-  pub left : Option LeftValue
-
-abbrev pub sender : {D : Type 0} → D → InnerValue → Option LeftValue → Sender D
-sender device inner left = record { device = device; inner = inner; left = left }

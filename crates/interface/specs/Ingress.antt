@@ -6,6 +6,7 @@ use Rattle.iface_egress.specs.IsTransmitted.{Departs, IsTransmitted}
 use Rattle.iface_ingress.specs.Packet.{PacketValue}
 use Rattle.iface_ingress.specs.WellFormed.{IsWellFormed}
 use Rattle.iface_egress.specs.Plan.{plan_of}
+use Rattle.iface_egress.specs.Parked.{parks, sender_after}
 use Rattle.iface_egress.specs.declared.plan.Plan.{Plan}
 use Rattle.iface_egress.specs.declared.plan.Plan.TheVariants as Way
 use Rattle.iface_egress.specs.declared.egress_path.Sent.{Sent}
@@ -36,6 +37,15 @@ abbrev pub is_awaited : Arrived → Bool
 is_awaited a = is_some (turn_of a.inner a.slots)
 
 module _ {D : Type 0} (moves : D → Move → D → Type 0) where
+  -- An answer goes by its plan. With host requirements one that waits for its next hop is parked.
+  abbrev pub AnswerGoes : (many : Bool) → PacketValue → (kept_back : Bool) → Sender D → Sender D → Type 0
+  AnswerGoes false p kept_back s s' =
+      (sent : Sent) × IsTransmitted moves s.device s.inner s.left p (plan_of s.inner (is_some s.left) p.header) sent s'.device s'.inner s'.left
+      × IsWellFormed p × (kept_back ≡ false)
+  AnswerGoes true p kept_back s s' =
+      (sent : Sent) × (mid : Sender D) × IsTransmitted moves s.device s.inner s.left p (plan_of s.inner (is_some s.left) p.header) sent mid.device mid.inner mid.left
+      × (s' ≡ sender_after (parks mid.inner p (plan_of s.inner (is_some s.left) p.header) sent) p mid) × IsWellFormed p × (kept_back ≡ false)
+
   -- An answer, which can be sent, is transmitted if it can go now; else there is none. A request for its next hop may go in its slot, where
   -- no socket waits for a neighbour.
   abbrev pub Replied : Bool → Option ReplyValue → Sender D → Sender D → Type 0
@@ -43,9 +53,7 @@ module _ {D : Type 0} (moves : D → Move → D → Type 0) where
   Replied awaited (Some (Replies.Tells packet)) s s' =
       (gone : Bool) × Departs moves s.device s.inner (Departures.Tells packet) gone s'.device × (s'.inner ≡ s.inner) × (s'.left ≡ s.left)
   Replied awaited (Some (Replies.Answers p)) s s' =
-      ((s' ≡ s) × ((awaited && would_solicit s p) ≡ true))
-      ⊎ ((sent : Sent) × IsTransmitted moves s.device s.inner s.left p (plan_of s.inner (is_some s.left) p.header) sent s'.device s'.inner s'.left
-      × IsWellFormed p × ((awaited && would_solicit s p) ≡ false))
+      ((s' ≡ s) × ((awaited && would_solicit s p) ≡ true)) ⊎ AnswerGoes s.inner.host_requirements p (awaited && would_solicit s p) s s'
 
   abbrev pub sender_with : State D → Arrived → Sender D
   sender_with s a = sender s.device a.inner s.host.left

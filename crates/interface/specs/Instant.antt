@@ -1,9 +1,16 @@
 -- When an interface wants to be polled.
-use Rattle.std.specs.Prelude.{ℤ, pos, int_lt, if◌then◌else◌, List, Option, None, Some}
+use Rattle.std.specs.Prelude.{ℤ, pos, int_lt, Bool, true, false, if◌then◌else◌, List, Option, None, Some}
 use Rattle.std.specs.List.{fold}
 use Rattle.iface_ingress.specs.PollAt.{PollAt}
 use Rattle.iface_ingress.specs.PollAt.TheVariants as At
-use Rattle.iface_tables.specs.Inner.{InnerValue}
+use Rattle.ip_wire.specs.Ip.{destination_of}
+use Rattle.ip_wire.specs.IpAddress.{IpAddress}
+use Rattle.ip_wire.specs.IpRepr.{IpRepr}
+use Rattle.iface_tables.specs.Inner.{InnerValue, next_hop, parked_instant}
+use Rattle.iface_tables.specs.Parking.{headers_of}
+use Rattle.iface_egress.specs.Plan.{plan_of}
+use Rattle.iface_egress.specs.declared.plan.Plan.{Plan}
+use Rattle.iface_egress.specs.declared.plan.Plan.TheVariants as Way
 use Rattle.iface_egress.specs.Meta.{poll_at}
 use Rattle.iface_egress.specs.declared.socket_set.Item.{Item}
 use Rattle.iface_egress.specs.declared.socket_set.SocketStorage.{SocketStorage}
@@ -47,7 +54,23 @@ slot_instant i slot = instant_in i slot.inner
 abbrev pub soonest : InnerValue → List (SocketStorage Socket) → Option ℤ
 soonest i ps = fold (λ best slot. earlier best (slot_instant i slot)) None ps
 
+-- when something is to be done about a packet that waits for its next hop: when that may be asked for again, else at once
+abbrev pub due_by : Plan → Option IpAddress → InnerValue → IpRepr → ℤ
+due_by Way.Wait (Some hop) i header = parked_instant i (record { hop = hop; header = header; len = 0 })
+due_by plan hop i header = pos 0
+
+abbrev pub parked_due : InnerValue → IpRepr → ℤ
+parked_due i header = due_by (plan_of i false header) (next_hop i (destination_of header)) i header
+
+-- without host requirements there are none
+abbrev pub soonest_if : Bool → InnerValue → Option ℤ
+soonest_if true i = fold (λ best h. earlier best (Some (parked_due i h.header))) None (headers_of i.parking.packets)
+soonest_if false i = None
+
+abbrev pub soonest_parked : InnerValue → Option ℤ
+soonest_parked i = soonest_if i.host_requirements i
+
 -- at once where a fragment waits, else when the first of the sockets wants it
 abbrev pub poll_instant : InnerValue → Option LeftValue → List (SocketStorage Socket) → Option ℤ
 poll_instant i (Some l) ps = Some (pos 0)
-poll_instant i None ps = soonest i ps
+poll_instant i None ps = earlier (soonest_parked i) (soonest i ps)

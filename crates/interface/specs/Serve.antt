@@ -21,6 +21,7 @@ use Rattle.iface_egress.specs.declared.socket_set.SocketStorage.{SocketStorage}
 use Rattle.iface_ingress.specs.Sockets.{Offers, offered_by, settled}
 use Rattle.iface_ingress.specs.Socket.{Socket}
 use Rattle.iface_egress.specs.IsTransmitted.{IsTransmitted, WasSent, numbered}
+use Rattle.iface_egress.specs.Parked.{parks, outcome_of, sender_after}
 use Rattle.iface_ingress.specs.WellFormed.{IsWellFormed}
 use Rattle.iface_egress.specs.Plan.{plan_of}
 use Rattle.iface_egress.specs.declared.plan.Plan.{Plan}
@@ -61,7 +62,7 @@ crowded_time = 30_000_000
 
 -- a packet is given up whose plan is this: it has had no route, or its neighbour hasn't been asked for often enough, for so long
 abbrev pub is_given_up : Meta → InnerValue → IpAddress → Plan → Bool
-is_given_up m i destination Way.NoRoute = has_waited m destination lost_time i.instant
+is_given_up m i destination Way.NoRoute = i.host_requirements || has_waited m destination lost_time i.instant
 is_given_up m i destination Way.Wait = is_crowded i && has_waited m destination crowded_time i.instant
 is_given_up m i destination (Way.Ask neighbor_query) = is_crowded i && has_waited m destination crowded_time i.instant
 is_given_up m i destination plan = false
@@ -184,10 +185,20 @@ module _ {D : Type 0} (moves : D → Move → D → Type 0) (turn : Option IpAdd
   abbrev pub Leaves : Sender D → Meta → PacketValue → Sent → Sender D → Type 0
   Leaves s m p sent s' = Rests s m p sent s' ⊎ Admits s m p sent s'
 
+  -- the same; and with host requirements what waits for its next hop is parked, and counts as sent
+  abbrev pub LeavesIf : (many : Bool) → Sender D → Meta → PacketValue → Sent → Sender D → Type 0
+  LeavesIf false s m p sent s' = Leaves s m p sent s'
+  LeavesIf true s m p sent s' =
+      (came : Sent) × (mid : Sender D) × Leaves s m p came mid × (sent ≡ outcome_of (parks mid.inner p (plan_at s p) came) came)
+      × (s' ≡ sender_after (parks mid.inner p (plan_at s p) came) p mid)
+
+  abbrev pub LeavesOrParks : Sender D → Meta → PacketValue → Sent → Sender D → Type 0
+  LeavesOrParks s m p sent s' = LeavesIf s.inner.host_requirements s m p sent s'
+
   -- a packet left, or stays, and what that makes of the mark of its socket
   abbrev pub LeavesAs : Sender D → Meta → PacketValue → Sent → Sender D → Meta → Type 0
   LeavesAs s m leaving sent s' m' =
-      Leaves s m leaving sent s' × IsWellFormed leaving
+      LeavesOrParks s m leaving sent s' × IsWellFormed leaving
       × (m' ≡ marked sent s.inner.instant (waits_until (plan_at s leaving) s'.inner) (destination_of leaving.header) m)
 
   -- the same from its source
@@ -202,7 +213,7 @@ module _ {D : Type 0} (moves : D → Move → D → Type 0) (turn : Option IpAdd
   -- the packet leaves, and its socket is told what became of it
   abbrev pub SendsAs : PacketValue → Sender D → Item Socket → Bool → Served → Sender D → Item Socket → Type 0
   SendsAs p s item changed turned s' item' =
-      (sent : Sent) × Leaves s item.meta p sent s' × (turned ≡ turned_by sent changed)
+      (sent : Sent) × LeavesOrParks s item.meta p sent s' × (turned ≡ turned_by sent changed)
       × (item' ≡ settled_by sent s.inner.instant (waits_until (plan_at s p) s'.inner) (destination_of p.header) item) × IsWellFormed p
 
   -- the packet of the open offer, which is one that can be sent, leaves from its source

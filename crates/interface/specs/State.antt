@@ -7,6 +7,7 @@ use Rattle.iface_egress.specs.declared.socket_set.SocketStorage.{SocketStorage}
 use Rattle.iface_ingress.specs.Socket.{Socket}
 use Rattle.iface_egress.specs.Fragments.{LeftValue}
 use Rattle.interface.specs.Host.{HostValue, Sender}
+use Rattle.interface.specs.SameHost.{parking_from}
 
 pub record State (D : Type 0) : Type 0 where
   pub device : D
@@ -27,8 +28,8 @@ at_device s device = state device s.host s.slots
 abbrev pub sending_as : {D : Type 0} → HostValue → Sender D → List (SocketStorage Socket) → State D
 sending_as h x ps = state x.device (record h { inner = x.inner; left = x.left }) ps
 
--- what a poll leaves of a host: nothing changed but random words, neighbours, the next identification, the errors that are counted, and what
--- was told of paths
+-- what a poll leaves of a host: nothing changed but random words, neighbours, the next identification, the errors that are counted, what
+-- was told of paths, and what is parked
 abbrev pub KeepsSettings : InnerValue → InnerValue → Type 0
 KeepsSettings old new = new ≡ record old {
   random = new.random;
@@ -36,4 +37,5 @@ KeepsSettings old new = new ≡ record old {
   ident = new.ident;
   errors_until = new.errors_until;
   paths = new.paths;
+  parking = parking_from old new;
 }

@@ -44,6 +44,15 @@ Silences t (Tells packet ∷ ds) before after = Silences t ds before after
 Silences t (Whole to p ∷ ds) before after = Silences t ds before after
 Silences t (Part to header fragment ∷ ds) before after = Silences t ds before after
 
+-- The same of any host: with host requirements a request may leave in the silence that another one began.
+abbrev pub SilencesIf : (many : Bool) → ℤ → List Departure → ℤ → ℤ → Type 0
+SilencesIf many t [] before after = after ≡ before
+SilencesIf many t (Asks neighbor_query ∷ ds) before after =
+    (mid : ℤ) × SilencesIf many t ds before mid × (many ≡ false → int_lt t mid ≡ false) × (after ≡ second_after t)
+SilencesIf many t (Tells packet ∷ ds) before after = SilencesIf many t ds before after
+SilencesIf many t (Whole to p ∷ ds) before after = SilencesIf many t ds before after
+SilencesIf many t (Part to header fragment ∷ ds) before after = SilencesIf many t ds before after
+
 -- AT THE DEVICE
 
 module _ {D : Type 0} (moves : D → Move → D → Type 0) (t : ℤ) (local : HardwareAddress) (caps : ChecksumCapabilities) where
@@ -62,6 +71,16 @@ module _ {D : Type 0} (moves : D → Move → D → Type 0) (t : ℤ) (local : H
 -- Between two hosts at a device, in a call at this instant: all that was asked of the device, with so many sends at most, and what
 -- became of the silence.
 pub record Traced {D : Type 0} (moves : D → Move → D → Type 0) (t : ℤ) (most : ℕ) (d : D) (i : InnerValue) (d' : D) (i' : InnerValue) : Type 0 where
+  pub touches : List Touch
+  pub path : DoesAll moves t i.hardware i.checksums touches d d'
+  pub sends : sends_in touches ≤ most
+  pub silence : SilencesIf i.host_requirements t (departed touches) i.neighbors.silent i'.neighbors.silent
+  pub hardware : i'.hardware ≡ i.hardware
+  pub checksums : i'.checksums ≡ i.checksums
+  pub host_requirements : i'.host_requirements ≡ i.host_requirements
+
+-- The same without host requirements: one silence is for all, and nothing that waited was sent.
+pub record TracedAlone {D : Type 0} (moves : D → Move → D → Type 0) (t : ℤ) (most : ℕ) (d : D) (i : InnerValue) (d' : D) (i' : InnerValue) : Type 0 where
   pub touches : List Touch
   pub path : DoesAll moves t i.hardware i.checksums touches d d'
   pub sends : sends_in touches ≤ most

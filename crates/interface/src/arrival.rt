@@ -12,7 +12,7 @@ ghost use Rattle.interface.specs.Ingress.{is_read, is_solicitation, Replied, Rec
 use crate::awaited::turn_of;
 use iface_egress::{
     ArpFrame, Fragmenter, InterfaceInner, PacketAssemblerSet, Plan, Slots, direct_route,
-    dispatch_by, plan_for, send, transmit_direct,
+    dispatch_by, park_if_searched, plan_for, send, transmit_direct,
 };
 use iface_ingress::laws::same_settings;
 use iface_ingress::widths::fields_have_widths;
@@ -248,7 +248,8 @@ fn answer_planned<D: Device>(
     if is_kept_back(inner, slots, &plan) {
         return;
     }
-    let _ = dispatch_by(inner, fragmenter, device, token, packet, plan);
+    let sent = dispatch_by(inner, fragmenter, device, token, packet, plan);
+    let _ = park_if_searched(inner, packet, &plan, sent);
 }
 
 /// Whether a packet's next hop has to be asked for, and a socket waits for a neighbour, which goes first.

@@ -26,6 +26,9 @@ pub struct Awaited {
 pub fn turn_of(inner: &InterfaceInner, slots: &Slots<Socket>) -> Option<IpAddress>
     ensures { result ≡ turn_of inner.now slots.now }
 {
+    if inner.host_requirements() {
+        return None;
+    }
     match next_awaited(inner, slots.as_slice()) {
         Some(awaited) => Some(awaited.hop),
         None => None,

@@ -1,16 +1,16 @@
 //! When an interface wants to be polled.
 ghost use Rattle.std.specs.Prelude.{◌≡◌, false};
-ghost use Rattle.interface.specs.Instant.{instant_of, earlier_than, earlier, local_instant, item_instant, slot_instant, poll_instant, soonest};
+ghost use Rattle.interface.specs.Instant.{instant_of, earlier_than, earlier, local_instant, item_instant, slot_instant, poll_instant, soonest, soonest_parked, parked_due, due_by};
 ghost use Rattle.iface_tables.specs.PathMtu.{some_count};
 ghost use Rattle.interface.specs.Remote.{remote_of};
 
 use crate::remote::{end_by, remote_of};
 use crate::serve::is_known;
-use iface_egress::{Fragmenter, InterfaceInner, Item, Slots, SocketStorage};
+use iface_egress::{Fragmenter, InterfaceInner, Item, Plan, Slots, SocketStorage, plan_for};
 use iface_ingress::socket_laws::idle_is_at_rest;
 use iface_ingress::{Context, PollAt, Socket};
-use iface_tables::Look;
-use ip_wire::IpAddress;
+use iface_tables::{Look, ParkedHeader};
+use ip_wire::{IpAddress, IpRepr};
 use net_base::Instant;
 
 /// When the interface wants to be polled: at once where a fragment waits, else when the first of its sockets wants it.
@@ -22,11 +22,48 @@ pub fn poll_instant(
     ensures { result ≡ poll_instant inner.now fragmenter.now slots.now }
 {
     if fragmenter.is_waiting() {
-        Some(Instant::ZERO)
-    } else if inner.knows_a_path() {
-        soonest(inner, slots.as_slice())
+        return Some(Instant::ZERO);
+    }
+    let parked = soonest_parked(inner);
+    if inner.knows_a_path() {
+        earlier(parked, soonest(inner, slots.as_slice()))
     } else {
-        soonest_of_busy(inner, slots)
+        earlier(parked, soonest_of_busy(inner, slots))
+    }
+}
+
+/// When something is to be done about the first of the packets that wait for their next hops.
+fn soonest_parked(inner: &InterfaceInner) -> Option<Instant>
+    ensures { result ≡ soonest_parked inner.now }
+{
+    if !inner.host_requirements() {
+        return None;
+    }
+    let headers = inner.parking().headers();
+    headers.iter().fold(None, |best, packet| {
+        earlier(best, Some(parked_due(inner, &packet.header)))
+    })
+}
+
+/// When something is to be done about a packet that waits for its next hop: when that may be asked for again, else at once.
+fn parked_due(inner: &InterfaceInner, header: &IpRepr) -> Instant
+    ensures { result ≡ parked_due inner.now header.now }
+{
+    let plan = plan_for(inner, false, header);
+    due_by(&plan, &inner.route(&header.dst_addr()), inner, header)
+}
+
+/// The same of a packet with this plan and this next hop.
+fn due_by(plan: &Plan, hop: &Option<IpAddress>, inner: &InterfaceInner, header: &IpRepr) -> Instant
+    ensures { result ≡ due_by plan.now hop.now inner.now header.now }
+{
+    match (plan, hop) {
+        (Plan::Wait, Some(hop)) => inner.parked_instant(&ParkedHeader {
+            hop: *hop,
+            header: *header,
+            len: 0,
+        }),
+        _ => Instant::ZERO,
     }
 }
 

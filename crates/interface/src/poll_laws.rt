@@ -33,9 +33,9 @@ ghost use Rattle.interface.specs.State.{State};
 ghost use Rattle.interface.specs.Polls.{Polls};
 ghost use Rattle.iface_egress.specs.Determined.{IsDetermined};
 ghost use Rattle.interface.specs.Idents.{TakesIdents};
-ghost use Rattle.interface.specs.Used.{sockets_in};
+ghost use Rattle.interface.specs.Used.{most_parked, sockets_in};
 ghost use Rattle.interface.specs.Steady.{IsSteady};
-ghost use Rattle.interface.specs.Touches.{Traced};
+ghost use Rattle.interface.specs.Touches.{Traced, TracedAlone};
 
 use iface_ingress::socket_laws::one_offer;
 use net_base::Device;
@@ -48,16 +48,20 @@ pub fn polls_keep_settings<D: Device>()
 {}
 
 /// Law: all that a poll asks of its device is a list of looks, leaves to send, and frames that are departures of the host: of these
-/// at most so many as there are slots, and two more, for each step of its budget. A request among those that the device took is
-/// no earlier than the end of the silence, and begins one of a second; nothing else in a poll begins or ends one.
+/// at most so many as there are slots, and two more, for each step of its budget; and with host requirements as many more as packets wait
+/// for their next hops at most. Without them a request among those that the device took is no earlier than the end of the silence. It begins
+/// one of a second; nothing else in a poll begins or ends one.
 pub fn asks_a_second_apart<D: Device>()
-    ensures { (t : ℤ) (budget : ℕ) (s s' : State D) (changed : Bool)
+    ensures traced { (t : ℤ) (budget : ℕ) (s s' : State D) (changed : Bool)
         → Polls D.moves t budget s changed s'
-        → Traced D.moves t (budget * (length s.slots + 2)) s.device s.host.inner s'.device s'.host.inner }
+        → Traced D.moves t (budget * (most_parked s.host.inner + (length s.slots + 2))) s.device s.host.inner s'.device s'.host.inner }
+    ensures few { (t : ℤ) (budget : ℕ) (s s' : State D) (changed : Bool) → s.host.inner.host_requirements ≡ false
+        → Polls D.moves t budget s changed s'
+        → TracedAlone D.moves t (budget * (length s.slots + 2)) s.device s.host.inner s'.device s'.host.inner }
 {}
 
-/// Law: of the neighbours that sockets wait for none comes before the one whose turn it is to be asked for; and while a socket waits,
-/// no socket's packet asks for another.
+/// Law: without host requirements, of the neighbours that sockets wait for none comes before the one whose turn it is to be asked for; and
+/// while a socket waits, no socket's packet asks for another.
 pub fn neighbors_are_asked_in_turn()
     ensures first { (i : InnerValue) (ps : List (SocketStorage Socket)) (a : Awaited)
         → next_awaited i ps ≡ Some a
@@ -98,9 +102,12 @@ pub fn chosen_sources_are_local()
 {}
 
 /// Law: a poll takes at most one identification for each frame that it may take and each turn of a socket: one for each step of its
-/// budget, and one for each socket. A later fragment takes none.
+/// budget, and one for each socket; and with host requirements one for each packet that waits for its next hop. A later fragment takes none.
 pub fn identifications_of_a_poll<D: Device>()
-    ensures { (t : ℤ) (budget : ℕ) (s s' : State D) (changed : Bool)
+    ensures taken { (t : ℤ) (budget : ℕ) (s s' : State D) (changed : Bool)
+        → Polls D.moves t budget s changed s'
+        → TakesIdents (budget * (most_parked s.host.inner + (1 + sockets_in s.slots))) s.host.inner s'.host.inner }
+    ensures few { (t : ℤ) (budget : ℕ) (s s' : State D) (changed : Bool) → s.host.inner.host_requirements ≡ false
         → Polls D.moves t budget s changed s'
         → TakesIdents (budget * (1 + sockets_in s.slots)) s.host.inner s'.host.inner }
 {}

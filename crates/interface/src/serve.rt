@@ -21,7 +21,7 @@ use crate::remote::remote_of;
 use crate::widths::{datagram_has_widths, segment_has_widths};
 use iface_egress::{
     Carried, Direct, Fragmenter, InterfaceInner, Item, LentDatagram, LentSegment, Meta, Plan, Sent,
-    SocketStorage, direct_route, dispatch_by, plan_from, transmit_direct,
+    SocketStorage, direct_route, dispatch_by, park_if_searched, plan_from, transmit_direct,
 };
 use iface_ingress::addresses::is_same_address;
 use iface_ingress::socket_laws::unsent_is_offered_again;
@@ -382,6 +382,7 @@ fn transmit_as_is<D: Device>(
     let destination = header.dst_addr();
     let held = held(turn, meta, inner, &destination, &plan);
     let sent = send_packet(turn, inner, fragmenter, device, meta, leaving, plan, held);
+    let sent = park_if_searched(inner, leaving, &plan, sent);
     mark(meta, now, inner, sent, &plan, &destination);
     sent
 }
@@ -497,7 +498,8 @@ fn is_given_up(meta: &Meta, inner: &InterfaceInner, destination: &IpAddress, pla
 {
     match plan {
         Plan::NoRoute => {
-            meta.has_waited(destination, Duration::from_millis(LOST_MILLIS), inner.now())
+            inner.host_requirements()
+                || meta.has_waited(destination, Duration::from_millis(LOST_MILLIS), inner.now())
         }
         Plan::Wait | Plan::Ask(_) => {
             inner.is_crowded()

@@ -9,7 +9,7 @@ ghost use Rattle.interface.specs.SameHost.{IsSameHost};
 
 use crate::awaited::turn_if_any;
 use crate::round::pass;
-use iface_egress::{Fragmenter, InterfaceInner, Slots, send_next};
+use iface_egress::{Fragmenter, InterfaceInner, Slots, send_next, send_parked};
 use iface_ingress::socket_laws::due_as_before;
 use iface_ingress::{Context, Socket};
 use net_base::Device;
@@ -46,6 +46,9 @@ fn send_turns<D: Device>(
     ensures capabilities { D.described device.new ≡ D.described device.old }
 {
     if !send_waiting(inner, fragmenter, device) {
+        return false;
+    }
+    if !send_parked(inner, fragmenter, device) {
         return false;
     }
     let turn = turn_if_any(inner, slots);

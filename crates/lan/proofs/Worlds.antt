@@ -1,4 +1,5 @@
 -- Two hosts and the link between them.
+pub mod Alone
 pub mod AtLink
 pub mod Hosts
 pub mod Moves
@@ -21,6 +22,7 @@ pub mod StillSources
 pub mod StillPlain
 pub mod StillRuns
 pub mod Damages
+pub mod AlongPolls
 pub mod SaidPolls
 pub mod SaidRuns
 pub mod PortMoves

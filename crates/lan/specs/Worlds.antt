@@ -6,6 +6,7 @@ pub mod Link
 pub mod Events
 pub mod Linked
 pub mod Joins
+pub mod PollSteps
 pub mod ReassembledDatagram
 pub mod FragmentFacts
 pub mod Settling

@@ -1,5 +1,5 @@
 //! The hosts of a world as machines: each is a run, sends nothing when it is polled too early, and waits a second between its own requests.
-ghost use Rattle.std.specs.Prelude.{◌≡◌, ℕ, ℤ, Bool, List};
+ghost use Rattle.std.specs.Prelude.{◌≡◌, ℕ, ℤ, Bool, List, false};
 ghost use Rattle.lan.specs.Worlds.AtLink.History.{Entry};
 ghost use Rattle.lan.specs.Worlds.AtLink.Event.{Event};
 ghost use Rattle.lan.specs.Worlds.AtLink.Side.{Side};
@@ -49,9 +49,11 @@ pub fn polls_are_quiet()
     due_as_before();
 }
 
-/// Law: a poll of a host at its end of the link has one end, however many buffers lay ready.
+/// Law: a poll of a host at its end of the link, one without host requirements as each of a world is, has one end, however many buffers lay
+/// ready.
 pub fn polls_have_one_end()
     ensures { (s one other : NodeValue) (instant : ℤ) (budget : ℕ) (a b : Bool)
+        → s.host.inner.host_requirements ≡ false
         → PollsAt s instant budget a one
         → PollsAt s instant budget b other
         → (a ≡ b) × (one ≡ other) }

@@ -82,8 +82,8 @@ pub fn worlds_are_safe()
         → IsSafe (first_port starts) (net_of (record { hosts = hosts; starts = starts; history = history })) }
 {}
 
-/// Law: wherever events led two new hosts, whatever TCP or UDP datagram a host reassembles when it takes a frame that waits for it, its
-/// payload is that of one packet, whose segment or datagram the other host made.
+/// Law: wherever events led two new hosts, whatever TCP or UDP datagram a host reassembles, in any poll, when it takes a frame that waits
+/// for it, its payload is that of one packet, whose segment or datagram the other host made.
 pub fn reassembled_was_made()
     ensures { (starts : Starts) (history : List Entry) (hosts : Nodes)
         → IsInitialWorld starts
@@ -92,8 +92,8 @@ pub fn reassembled_was_made()
         → ReassembledWasMade (record { hosts = hosts; starts = starts; history = history }) }
 {}
 
-/// Law: wherever events led two new hosts, whatever TCP or UDP datagram a host reassembles when it takes a frame that waits for it was
-/// sent: what the other host's turns sent with that identification, those addresses and that protocol, whole or in fragments, is this
+/// Law: wherever events led two new hosts, whatever TCP or UDP datagram a host reassembles, in any poll, when it takes a frame that waits
+/// for it was sent: what the other host's turns sent with that identification, those addresses and that protocol, whole or in fragments, is this
 /// payload, all of it and nothing else.
 pub fn reassembled_was_sent()
     ensures { (starts : Starts) (history : List Entry) (hosts : Nodes)

@@ -1,5 +1,5 @@
 -- But for lack of memory a drain's moves are determined.
-use Rattle.std.proofs.Common.{◌≡◌, ◌<◌, ◌≤◌, ℕ, ℤ, true, false, List, Option, Some, None, sym, ap, ◌∙◌, arith}
+use Rattle.std.proofs.Common.{◌≡◌, ◌<◌, ◌≤◌, ℕ, ℤ, true, false, List, Some, None, sym, ap, ◌∙◌, arith}
 use Rattle.app_tun_services.specs.Link.Drain.{DrainValue, DrainMove}
 use Rattle.net_base.specs.Device.{Move, Took, Empty, Allowed, Emitted, Denied, gives_tokens}
 use Rattle.interface.proofs.Unrefused.{IsCounting, given_or_not}

@@ -1,5 +1,5 @@
 -- When what a TCP socket goes by is equal.
-use Rattle.std.proofs.Common.{rules, ◌≡◌, ℕ, ℤ, Bool, List, Option, refl, ap, ap₂}
+use Rattle.std.proofs.Common.{rules, ◌≡◌, ℕ, ℤ, List, refl, ap, ap₂}
 use Rattle.std.specs.Prelude.{◌==◌}
 use Rattle.std.specs.Ordering.{int_eq}
 use Rattle.std.specs.Bool.{Decides}

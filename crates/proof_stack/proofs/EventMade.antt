@@ -10,7 +10,6 @@ use Rattle.tcp_block.specs.OpenOffer.{OpenOffer}
 use Rattle.tcp_block.specs.Reply.{Reply}
 use Rattle.tcp_refinement.specs.Host.{IsSeenAmong, Made, and_answer, and_offer, made_by, made_of}
 use Rattle.lan.specs.declared.at_link.history.event.Side.{Side}
-use Rattle.lan.specs.declared.at_link.history.event.Side.TheVariants.{A}
 use Rattle.lan.specs.declared.at_link.history.record.Opening.{Opening}
 use Rattle.lan.specs.Worlds.AtLink.Happening.{sent_by, sent_in}
 use Rattle.lan.specs.Worlds.AtLink.History.{Entry, opening}

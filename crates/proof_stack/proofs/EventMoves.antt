@@ -62,6 +62,7 @@ use Rattle.lan.proofs.Worlds.Moves.Leave.{let_narrowed}
 use Rattle.lan.proofs.Worlds.Moves.Nets.{either_side, step_of}
 use Rattle.lan.specs.Worlds.Moves.HopLimit.{KnowsHop}
 use Rattle.lan.proofs.Worlds.Moves.Worlds.{first_of, initial_net}
+use Rattle.lan.proofs.Worlds.Alone.{alone_at}
 use Rattle.lan.proofs.Worlds.PolledJoins as Polled
 use Rattle.lan.proofs.Worlds.Runs.{AreWell, numbered_by}
 use Rattle.lan.proofs.Worlds.Settings.{setting_joins}
@@ -377,7 +378,7 @@ module _ (starts : Starts) (initial : IsInitialWorld starts) (past : List Entry)
     few_out = let a = w.joined.counted (other side) in let b = w.few (other side) in omega (arith, a, b)
 
     abbrev out_after : List Outgoing
-    out_after = (Polled.linked_after (firsts starts) w.most old new net past e w.joined of side t budget is few_out acts (fit side)).out
+    out_after = (Polled.linked_after (firsts starts) w.most old new net past e w.joined of side t budget is few_out acts (alone_at old leads.alone side) (fit side)).out
 
     abbrev most_after : Side → ℕ
     most_after = exchanged w.most side (count_numbered out_after)
@@ -392,15 +393,15 @@ module _ (starts : Starts) (initial : IsInitialWorld starts) (past : List Entry)
 
     suffice : AreFew out_after × (count_numbered out_after ≤ numbered_by (e ∷ past) new side)
     suffice =
-        let after_it = Polled.linked_after (firsts starts) w.most old new net past e w.joined of side t budget is few_out acts (fit side) in
+        let after_it = Polled.linked_after (firsts starts) w.most old new net past e w.joined of side t budget is few_out acts (alone_at old leads.alone side) (fit side) in
         let so_far : count_numbered (w.joined.out side) ≤ numbered_by past old side =
         (let a = w.joined.counted side in let b = w.numbered side in omega (arith, a, b)) in
         polled_few past e old new side leads t budget is (w.joined.out side) out_after so_far after_it.count
-        (Polled.tied_after (firsts starts) w.most old new net past e w.joined of side t budget is few_out acts (fit side))
+        (Polled.tied_after (firsts starts) w.most old new net past e w.joined of side t budget is few_out acts (alone_at old leads.alone side) (fit side))
 
     polls : Goes starts past old e new net
     polls =
-        let pol = Polled.polled (firsts starts) w.most old new net past e w.joined of side t budget is few_out acts (fit side) in
+        let pol = Polled.polled (firsts starts) w.most old new net past e w.joined of side t budget is few_out acts (alone_at old leads.alone side) (fit side) in
         let c : Comes names net new (e ∷ past) = pol.comes in
         let now : following side ≡ t = (poll_settings (node old side) (node new side) t budget acts.acts.0 acts.acts.1).now in
         let held : AreHeld (node old side).host.inner t side net c.steps = pol.held ((all side).paths, (all side).errors ∙ sym (was side).errors) in
@@ -424,7 +425,7 @@ module _ (starts : Starts) (initial : IsInitialWorld starts) (past : List Entry)
           comes = c;
           well = record {
             most = most_after;
-            joined = Polled.polled_joins (firsts starts) w.most old new net past e w.joined of side t budget is few_out acts (fit side) most_after
+            joined = Polled.polled_joins (firsts starts) w.most old new net past e w.joined of side t budget is few_out acts (alone_at old leads.alone side) (fit side) most_after
                 (omega (arith, exchanged_there w.most side (count_numbered out_after))) (omega (arith, exchanged_here w.most side (count_numbered out_after)));
             few = all_few suffice.0;
             numbered = all_numbered suffice.1;

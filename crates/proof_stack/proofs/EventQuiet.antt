@@ -21,7 +21,7 @@ use Rattle.iface_egress.specs.declared.socket_meta.Meta.{Meta}
 use Rattle.iface_egress.specs.declared.socket_meta.Waiting.{Waiting}
 use Rattle.iface_egress.specs.declared.socket_set.Item.{Item}
 use Rattle.iface_egress.specs.declared.socket_set.SocketStorage.{SocketStorage}
-use Rattle.interface.specs.Instant.{instant_in, instant_of, poll_instant}
+use Rattle.interface.specs.Instant.{instant_in, instant_of, poll_instant, soonest, soonest_parked}
 use Rattle.interface.specs.Polls.{Polls as Polled}
 use Rattle.interface.specs.QuietStep.{IsEarlier}
 use Rattle.interface.specs.Remote.{context_for, end_by, remote_of}
@@ -38,12 +38,13 @@ use Rattle.lan.specs.Worlds.AtLink.Kinds.{Kind, kind_of}
 use Rattle.lan.specs.Worlds.AtLink.Kinds.Act.{Polls}
 use Rattle.lan.specs.Worlds.AtLink.Kinds.Kind.{OfHost}
 use Rattle.lan.specs.Worlds.AtLink.Parties as Parties
-use Rattle.lan.specs.Worlds.AtLink.Runs.{Leads}
+use Rattle.lan.specs.Worlds.AtLink.Runs.{AreAlone, Leads}
 use Rattle.lan.specs.Worlds.AtLink.Safe.{seen, seen_in}
 use Rattle.lan.specs.Worlds.AtLink.Node.{NodeValue, Nodes, at_port, node}
 use Rattle.lan.specs.Worlds.AtLink.Steps.{ActsAt, Happens, PollsAt}
 use Rattle.lan.specs.Worlds.Moves.Follows.{sockets_of}
 use Rattle.lan.specs.Worlds.Still.{IsStill}
+use Rattle.lan.proofs.Worlds.Alone.{alone_at}
 use Rattle.lan.proofs.Worlds.Hosts.Polling.{polled as poll_settings}
 use Rattle.lan.proofs.Worlds.Moves.Held.{IsAsAt, shows_towards}
 use Rattle.proof_stack.proofs.Polls.Inboxes.{refuse_nothing}
@@ -145,13 +146,13 @@ module _ (i : InnerValue) (t : ℤ) (low : pos 0 ≤ℤ t) (paths : i.paths ≡ 
       → ((at : SocketStorage Socket) (item : Item Socket) → slice_get ps slot ≡ Some at → at.inner ≡ Some item → is_waiting i item.meta ≡ false)
       → Wanting (slice_index_or (sockets_of ps) slot None) → ⊥
   at_host (Some l) ps slot early idle wants = omega (arith, ints, low, early)
-  at_host None ps slot early idle wants = at_slot ps slot (all_later t i ps early) idle wants
+  at_host None ps slot early idle wants = at_slot ps slot (all_later t i ps (both_early t (soonest_parked i) (soonest i ps) early).1) idle wants
 
 -- A QUIET POLL
 
 module _ (first : InnerValue) (s s' : NodeValue) (t : ℤ) (budget slot : ℕ) (changed : Bool) (answer : Answer) (at : PollsAt s t budget changed s')
     (told : answer ≡ To.Poll changed) (quiet : IsQuietPoll budget answer s s') (patient : ArePatient s.slots) (still : IsStill first s'.host.inner)
-    (idle : WaitsForNone slot s') where
+    (idle : WaitsForNone slot s') (alone : s.host.inner.host_requirements ≡ false) where
   is_false : changed ≡ false
   is_false = let same : To.Poll changed ≡ To.Poll false = sym told ∙ quiet.unchanged in cc
 
@@ -170,7 +171,7 @@ module _ (first : InnerValue) (s s' : NodeValue) (t : ℤ) (budget slot : ℕ) (
       omega (arith, a, b, c)
 
   refused_same : at.port_after.link.refusals ≡ at.port.link.refusals
-  refused_same = ap (λ (l : LinkEnd). l.refusals) at.after ∙ at.none_denied ∙ sym (ap (λ (l : LinkEnd). l.refusals) at.before)
+  refused_same = ap (λ (l : LinkEnd). l.refusals) at.after ∙ at.none_denied alone ∙ sym (ap (λ (l : LinkEnd). l.refusals) at.before)
 
   early : IsEarlier t (poll_instant s'.host.inner s'.host.left s'.slots)
   early = by use_of.why where
@@ -186,14 +187,15 @@ module _ (first : InnerValue) (s s' : NodeValue) (t : ℤ) (budget slot : ℕ) (
 
 kind_rests : (first : InnerValue) (old new : Nodes) (e : Entry) (side : Side) (t : ℤ) (budget slot : ℕ) (k : Kind) → k ≡ OfHost side (Polls t budget)
     → Happens old k e.answer e.found new → IsQuietPoll budget e.answer (node old side) (node new side) → ArePatient (node old side).slots
-    → IsStill first (node new side).host.inner → WaitsForNone slot (node new side) → IsIdle t slot (node new side)
-kind_rests first old new e side t budget slot k is happens quiet patient still idle =
+    → IsStill first (node new side).host.inner → WaitsForNone slot (node new side) → AreAlone old → IsIdle t slot (node new side)
+kind_rests first old new e side t budget slot k is happens quiet patient still idle alone =
     let acts : ActsAt old side (Polls t budget) e.answer e.found new = subst (λ (x : Kind). Happens old x e.answer e.found new) is happens in
     rests first (node old side) (node new side) t budget slot acts.acts.0 e.answer acts.acts.1 acts.acts.2 quiet patient still idle
+    (alone_at old alone side)
 
 pub quiet_rests : (first : InnerValue) (past : List Entry) (old new : Nodes) (e : Entry) (side : Side) (t : ℤ) (budget slot : ℕ) → Leads past old e new
     → kind_of e.event ≡ OfHost side (Polls t budget) → IsQuietPoll budget e.answer (node old side) (node new side)
     → ArePatient (node old side).slots → IsStill first (node new side).host.inner → WaitsForNone slot (node new side)
     → IsIdle t slot (node new side)
 quiet_rests first past old new e side t budget slot leads is quiet patient still idle =
-    kind_rests first old new e side t budget slot (kind_of e.event) is leads.happens quiet patient still idle
+    kind_rests first old new e side t budget slot (kind_of e.event) is leads.happens quiet patient still idle leads.alone

@@ -45,9 +45,11 @@ use Rattle.interface.specs.Ingress.{Takes}
 use Rattle.interface.specs.Polls.{Polls as Polled}
 use Rattle.interface.specs.State.{State}
 use Rattle.interface.specs.UdpRepr.{UdpRepr}
-use Rattle.interface.specs.Serve.{Answers, ItemTurns, Leaves, SendsBy, TurnsIf, held, passes_filter, is_waiting, let_through, marked, outcome_by, plan_at, waits_until}
+use Rattle.interface.specs.Serve.{Answers, ItemTurns, Leaves, LeavesOrParks, SendsBy, TurnsIf, held, passes_filter, is_waiting, let_through, marked, outcome_by, plan_at, waits_until}
 use Rattle.interface.specs.declared.serve.Served.{Served}
 use Rattle.interface.proofs.Hosts.{hosts_keep}
+use Rattle.iface_egress.specs.Parked.{is_searched}
+use Rattle.interface.proofs.Alone.{leaves_unsearched}
 use Rattle.interface.proofs.Keep.{polls_keep}
 use Rattle.interface.proofs.Kept.{IsKept}
 use Rattle.proof_stack.specs.Progress.AtOnce.{AreUnmarked, IsUnmarked}
@@ -100,6 +102,16 @@ not_held : (given : Bool) (sent : Sent) → outcome_by given None ≡ Some sent 
 not_held true sent is = absurd cc
 not_held false sent is = let same : Outcome.Refused ≡ sent = cc in subst IsEnded same tt
 
+-- nor is its next hop searched for
+sure_off : (plan : Plan) → IsSure plan → is_searched plan ≡ false
+sure_off (Way.Go hop) sure = refl
+sure_off (Way.Cut hop) sure = refl
+sure_off Way.Busy sure = refl
+sure_off Way.Drop sure = refl
+sure_off Way.NoRoute sure = refl
+sure_off Way.Wait sure = absurd sure
+sure_off (Way.Ask question) sure = absurd sure
+
 held_none : (turn : Option IpAddress) (m : Meta) (i : InnerValue) (to : IpAddress) (plan : Plan) → IsSure plan → held turn m i to plan ≡ None
 held_none turn m i to (Way.Go hop) sure = refl
 held_none turn m i to (Way.Cut hop) sure = refl
@@ -128,14 +140,19 @@ module _ {D : Type 0} (moves : D → Move → D → Type 0) (turn : Option IpAdd
   out_ended old new i i' l l' p Way.Wait sent sure goes = absurd sure
   out_ended old new i i' l l' p (Way.Ask question) sent sure goes = absurd sure
 
-  pub leaves_sure : (x x' : Sender D) (m : Meta) (p : PacketValue) (sent : Sent) → IsSure (plan_at x p) → Leaves moves turn x m p sent x' → IsEnded sent
-  leaves_sure x x' m p sent sure (inl (given, allowed, same, left, outcome)) =
+  left_sure : (x x' : Sender D) (m : Meta) (p : PacketValue) (sent : Sent) → IsSure (plan_at x p) → Leaves moves turn x m p sent x' → IsEnded sent
+  left_sure x x' m p sent sure (inl (given, allowed, same, left, outcome)) =
       not_held given sent (sym (ap (outcome_by given) (held_none turn m x.inner (destination_of p.header) (plan_at x p) sure)) ∙ outcome)
-  leaves_sure x x' m p sent sure (inr (mid, allowed, goes, none)) =
+  left_sure x x' m p sent sure (inr (mid, allowed, goes, none)) =
       out_ended mid x'.device x.inner x'.inner x.left x'.left p (plan_at x p) sent sure goes
 
+  -- nor is it parked
+  pub leaves_sure : (x x' : Sender D) (m : Meta) (p : PacketValue) (sent : Sent) → IsSure (plan_at x p) → LeavesOrParks moves turn x m p sent x' → IsEnded sent
+  leaves_sure x x' m p sent sure leaves =
+      left_sure x x' m p sent sure (leaves_unsearched moves turn x m p sent x' (sure_off (plan_at x p) sure) leaves)
+
   module _ (x x' : Sender D) (ip : x.inner.hardware ≡ Hardware.Ip) where
-    leaves_ended : (m : Meta) (p : PacketValue) (sent : Sent) → Leaves moves turn x m p sent x' → IsEnded sent
+    leaves_ended : (m : Meta) (p : PacketValue) (sent : Sent) → LeavesOrParks moves turn x m p sent x' → IsEnded sent
     leaves_ended m p sent leaves = leaves_sure x x' m p sent (plan_sure x.inner (is_some x.left) p.header ip) leaves
 
     -- A TURN leaves its socket unmarked
@@ -304,6 +321,7 @@ module _ {D : Type 0} (moves : D → Move → D → Type 0) (t : ℤ) where
     maintenance = λ s all. (hosts.maintenance s all.0, all.1);
     arrivals = λ s s' answer runs all is. (hosts.arrivals s s' answer runs all.0 is, takes s s' answer all.1 is);
     fragments = λ h ps x x' l gone runs is all leaves same. (hosts.fragments h ps x x' l gone runs is all.0 leaves same, all.1);
+    parked = λ h ps x x' taken runs many all serves. (hosts.parked h ps x x' taken runs many all.0 serves, all.1);
     turns = λ turn h before after p p' x x' turned runs all is. (
       hosts.turns turn h before after p p' x x' turned runs all.0 is,
       exchanged before after p p' (item_so moves turn x x' all.0 p.inner p'.inner turned (middle before after p all.1) is) all.1,

@@ -27,7 +27,7 @@ use Rattle.iface_ingress.specs.Offer.TheVariants as Offer
 use Rattle.iface_ingress.specs.Packet.{PacketValue, Segment, packet_of}
 use Rattle.iface_ingress.specs.Socket.{Socket}
 use Rattle.iface_ingress.specs.Socket.TheVariants as Kind
-use Rattle.iface_ingress.specs.Sockets.{Offers, offered_by, settled}
+use Rattle.iface_ingress.specs.Sockets.{Offers, offered_by}
 use Rattle.iface_tables.specs.Inner.{InnerValue, context_of, link_address}
 use Rattle.iface_tables.specs.Source.{source_for}
 use Rattle.iface_tables.specs.declared.link.LinkAddress.TheVariants as Link
@@ -48,7 +48,8 @@ use Rattle.interface.specs.declared.serve.Served.{Served}
 use Rattle.interface.proofs.Keep.{polls_keep}
 use Rattle.interface.proofs.Kept.{IsKept, RunsAt}
 use Rattle.interface.proofs.Runs.{receives_same}
-use Rattle.interface.proofs.SameHost.{slot_same}
+use Rattle.iface_egress.specs.Parked.{ServesParked}
+use Rattle.interface.proofs.SameHost.{serves_same, slot_same}
 use Rattle.sim_link.specs.Device.{Empty, Move}
 use Rattle.sim_link.specs.Port.{LinkEnd, PortMove, PortValue}
 use Rattle.lan.specs.declared.at_link.history.answer.Answer.{Answer as Answered}
@@ -68,7 +69,7 @@ use Rattle.lan.specs.Worlds.Moves.Follows.{seen_slot, sockets_of}
 use Rattle.lan.specs.Worlds.Moves.HopLimit.{KnowsHop}
 use Rattle.lan.specs.Worlds.Moves.Link.{brought}
 use Rattle.lan.specs.Worlds.Still.{StillRun}
-use Rattle.lan.proofs.Worlds.Moves.Devices.{fragment_leaves, slot_turns, reads}
+use Rattle.lan.proofs.Worlds.Moves.Devices.{fragment_leaves, parked, slot_turns, reads}
 use Rattle.lan.proofs.Worlds.Moves.Frames.{Frames, IsNoTake, Sent, and_gone, and_taken, no_frames, none_sent, sent_on}
 use Rattle.lan.proofs.Worlds.Moves.HopLimit.{HopLimit, hop_now, hop_limit_arrival, hop_limit_first, hop_limit_out, hop_limit_skip, knew, knew_before, knew_out}
 use Rattle.lan.proofs.Worlds.Moves.Later.{IsSince, brings_later, since_arrival, since_begun, since_itself, since_out}
@@ -318,6 +319,20 @@ module _ (i0 : InnerValue) (t : ℤ) (waits sent : List (List ℕ)) (pair : Four
         good = narrowed q.frames F x.inner x'.inner (λ k. subst (λ (i : InnerValue). Knows q.frames i) same k) ps q.good;
       }
 
+  parked_so : (h : HostValue) (ps : Slots) (x x' : Sender PortValue) (all : Bool) → x.inner.host_requirements ≡ true → Stays (sending_as h x ps)
+      → ServesParked PortMove x all x' → Stays (sending_as h x' ps)
+  parked_so h ps x x' all many q serves =
+      let same : IsSameHost x.inner x'.inner = serves_same PortMove x x' all many serves in
+      let out : Sent T q.frames x'.device = parked PortMove (Sent T q.frames) (on q.frames) x x' all (none q.frames x.device q.taken) serves in
+      let F : Frames = and_gone q.frames out.more in
+      record {
+        frames = F;
+        taken = out.taken;
+        since = since_out i0 x.inner x'.inner same q.since;
+        hop_limit = hop_limit_out i0 t q.frames.taken x.inner x'.inner same q.hop_limit;
+        good = narrowed q.frames F x.inner x'.inner (λ k. knew_out i0 t q.frames.taken x.inner x'.inner same (remote_of pair.addresses) to k) ps q.good;
+      }
+
   turns : (turn : Option IpAddress) (h : HostValue) (before after : Slots) (p p' : SocketStorage Socket) (x x' : Sender PortValue) (turned : Served)
       → RunsAt t x.inner → Stays (sending_as h x (before ++ p ∷ after)) → ServesSlot PortMove turn x p turned x' p' → Stays (sending_as h x' (before ++ p' ∷ after))
   turns turn h before after p p' x x' turned runs q took =
@@ -350,6 +365,7 @@ module _ (i0 : InnerValue) (t : ℤ) (waits sent : List (List ℕ)) (pair : Four
     };
     arrivals = λ s s' answer runs q took. arrivals s s' answer runs q took;
     fragments = λ h ps x x' l gone runs is q leaves same. fragments h ps x x' l gone q leaves same;
+    parked = λ h ps x x' all runs many q serves. parked_so h ps x x' all many q serves;
     turns = λ turn h before after p p' x x' turned runs q took. turns turn h before after p p' x x' turned runs q took;
   }
 

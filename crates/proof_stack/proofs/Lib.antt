@@ -1,5 +1,6 @@
 pub mod Peers
 mod Equal
+pub mod Parkless
 pub mod Told
 pub mod InterfaceEqual
 pub mod Begins

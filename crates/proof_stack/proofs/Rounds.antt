@@ -1,5 +1,6 @@
 -- Rounds of a world that settles.
 pub mod Takings
+pub mod Whole
 pub mod Sendings
 pub mod OneRun
 pub mod OnWay

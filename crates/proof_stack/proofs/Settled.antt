@@ -17,7 +17,7 @@ use Rattle.iface_egress.specs.declared.socket_meta.Meta.{Meta}
 use Rattle.iface_egress.specs.declared.socket_meta.Waiting.{Waiting}
 use Rattle.iface_egress.specs.declared.socket_set.Item.{Item}
 use Rattle.iface_egress.specs.declared.socket_set.SocketStorage.{SocketStorage}
-use Rattle.interface.specs.Instant.{instant_in, instant_of, poll_instant}
+use Rattle.interface.specs.Instant.{instant_in, instant_of, poll_instant, soonest, soonest_parked}
 use Rattle.interface.specs.QuietStep.{IsEarlier}
 use Rattle.interface.specs.Remote.{context_for, end_by, remote_of}
 use Rattle.interface.specs.Serve.{passes_filter}
@@ -34,7 +34,6 @@ use Rattle.tcp_refinement.specs.Pair.Sides.{at}
 use Rattle.tcp_refinement.specs.Pair.Values.{PairValue, context_on}
 use Rattle.tcp_refinement.specs.declared.pair.event.Side as Pairs
 use Rattle.tcp_refinement.specs.Safe.{IsPrefixOf}
-use Rattle.lan.specs.declared.at_link.history.answer.Answer.{Answer}
 use Rattle.lan.specs.declared.at_link.history.answer.Answer.TheVariants as To
 use Rattle.lan.specs.declared.at_link.history.event.Event.TheVariants as E
 use Rattle.lan.specs.declared.at_link.history.event.Side.{Side}
@@ -43,20 +42,19 @@ use Rattle.lan.specs.Worlds.AtLink.Initial.{IsInitialWorld}
 use Rattle.lan.specs.Worlds.AtLink.History.{Entry, written}
 use Rattle.lan.specs.Worlds.AtLink.Kinds.{Kind, kind_of, other}
 use Rattle.lan.specs.Worlds.AtLink.Kinds.Act.{Asks}
-use Rattle.lan.specs.Worlds.AtLink.Kinds.Kind.{OfHost}
 use Rattle.lan.specs.Worlds.AtLink.PacketsSafe.{HoldsRest, IsSafe, IsTcpAt, taken_in}
 use Rattle.lan.specs.Worlds.AtLink.Paired.{AreNew, HaveKeys, NewSocket, side_in}
 use Rattle.lan.specs.Worlds.AtLink.Parties as Parties
 use Rattle.lan.specs.Worlds.AtLink.PeerSides.{ArePartners}
 use Rattle.lan.specs.Worlds.AtLink.Runs.{Leads, Starts, WorldRun, WorldValue, unused_both}
 use Rattle.lan.specs.Worlds.AtLink.Safe.{first_port, net_of, seen, seen_in}
-use Rattle.lan.specs.Worlds.AtLink.Sets.{asked, instant_at}
+use Rattle.lan.specs.Worlds.AtLink.Sets.{instant_at}
 use Rattle.lan.specs.Worlds.AtLink.Node.{NodeValue, Nodes, node}
 use Rattle.lan.specs.Worlds.AtLink.Steps.{ActsAt, Happens}
 use Rattle.lan.specs.Worlds.Events.{AreTyped}
 use Rattle.lan.specs.Worlds.Moves.Follows.{sockets_of}
 use Rattle.lan.specs.Worlds.Moves.Joined.{first_net}
-use Rattle.lan.specs.Worlds.Settling.{AreIdle, WasAsked}
+use Rattle.lan.specs.Worlds.Settling.{AreIdle}
 use Rattle.lan.specs.Worlds.Still.{StillRun, seats_of}
 use Rattle.lan.proofs.Worlds.AtLink.PeerSideLemmas.{peer_sides_turned}
 use Rattle.lan.proofs.Worlds.Runs.{runs_safe}
@@ -115,7 +113,7 @@ module _ (i : InnerValue) where
   at_host : (left : Option LeftValue) (ps : List (SocketStorage Socket)) (slot : ℕ) → poll_instant i left ps ≡ None
       → Wants (slice_index_or (sockets_of ps) slot None)
   at_host (Some l) ps slot none v is = absurd cc
-  at_host None ps slot none v is = at_slot ps slot (λ t. all_later t i ps (subst (λ (o : Option ℤ). IsEarlier t o) (sym none) tt)) v is
+  at_host None ps slot none v is = at_slot ps slot (λ t. all_later t i ps (both_early t (soonest_parked i) (soonest i ps) (subst (λ (o : Option ℤ). IsEarlier t o) (sym none) tt)).1) v is
 
 -- BOTH WERE ASKED
 

@@ -2,7 +2,6 @@
 pub mod SocketRun
 pub mod TakenRun
 pub mod ReachedSocket
-pub mod Steps
 pub mod ReceivedPackets
 pub mod Streams
 pub mod Datagrams

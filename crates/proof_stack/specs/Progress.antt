@@ -2,6 +2,7 @@
 pub mod Patience
 pub mod Moves
 pub mod OfUse
+pub mod Parked
 pub mod Queued
 pub mod Excluded
 pub mod Reached

@@ -1,5 +1,5 @@
 //! What `==` says of a poll's answers, and how an interface begins.
-ghost use Rattle.std.specs.Prelude.{◌≡◌, ◌↔◌, ◌<◌, IsTrue, pos, [], None, false, true, length, max, IsErr, IfOk};
+ghost use Rattle.std.specs.Prelude.{◌≡◌, ◌↔◌, ◌<◌, if◌then◌else◌, IsTrue, pos, [], None, false, true, length, max, IsErr, IfOk};
 ghost use Rattle.net_base.specs.Capabilities.{ip_mtu};
 ghost use Rattle.ip_wire.specs.HardwareAddress.{HardwareAddress};
 ghost use Rattle.iface_tables.specs.Settings.{default_config, network_config};
@@ -40,7 +40,13 @@ pub fn begins<D: Device>(
     ensures routes { IfOk result (λ h. h.inner.routes ≡ []) }
     ensures route_room { IfOk result (λ h. h.inner.route_room ≡ config.now.max_route_count) }
     ensures neighbors { IfOk result (λ h.
-        h.inner.neighbors ≡ record { entries = []; room = max config.now.neighbor_cache_count 1; silent = pos 0; searches = [] }) }
+        h.inner.neighbors ≡ record {
+          entries = [];
+          room = max config.now.neighbor_cache_count 1;
+          silent = pos 0;
+          searches = [];
+          search_room = if config.now.host_requirements then 64 else 8;
+        }) }
     ensures initial { IfOk result (λ h. h.inner.initial ≡ true) }
     ensures left { IfOk result (λ h. h.left ≡ None) }
     ensures assemblers { IfOk result (λ h. length h.assemblers ≡ assembler_count config.now) }

@@ -15,7 +15,7 @@ ghost use Rattle.interface.specs.Polls.{Polls, is_change};
 ghost use Rattle.interface.specs.State.{State, state};
 ghost use Rattle.iface_egress.specs.Set.{slots};
 ghost use Rattle.proof_stack.specs.PeerHost.Moved.{MovedTo};
-ghost use Rattle.proof_stack.specs.PeerHost.Steps.{Reaches};
+ghost use Rattle.lan.specs.Worlds.PollSteps.{Reaches};
 ghost use Rattle.proof_stack.specs.PeerHost.Streams.{IsTcpAt, StreamProceeds};
 ghost use Rattle.proof_stack.specs.PeerHost.Datagrams.{IsUdpAt, DatagramsProceed};
 ghost use Rattle.proof_stack.specs.PeerHost.Runs.{Act, ActsAll, IsSafeRun, IsSafeWhereTaken};

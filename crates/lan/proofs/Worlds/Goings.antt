@@ -14,9 +14,10 @@ use Rattle.lan.specs.Worlds.AtLink.Runs.{WorldValue, Step, Leads, table_in, coun
 use Rattle.lan.specs.Worlds.AtLink.Node.{NodeValue, Nodes, node}
 use Rattle.lan.specs.Worlds.AtLink.Steps.{Happens}
 use Rattle.lan.specs.Worlds.Events.{IsTyped}
-use Rattle.lan.specs.Worlds.Provenance.{both, tables, world, HasCome}
+use Rattle.lan.specs.Worlds.Provenance.{both, starts_of, tables, world, HasCome}
 use Rattle.lan.specs.Worlds.EventHistory.{counts_in, entry}
 use Rattle.lan.specs.declared.history.Note.{Note}
+use Rattle.lan.proofs.Worlds.StillOnward.{onward}
 
 -- the law of tables, which `at_link` proves
 abbrev pub TablesProceed : Type 0
@@ -40,7 +41,7 @@ module _ (start_a start_b a b new_a new_b : NodeValue) (of_a of_b next_a next_b 
   pub leads : HasCome start_a start_b a b of_a of_b past → refusal (both a b) (tables of_a of_b) (kind_of e.event) ≡ None
       → e.before ≡ counts_of (both a b) → Happens (both a b) (kind_of e.event) e.answer e.found (both new_a new_b)
       → Leads past (both a b) e (both new_a new_b)
-  leads come allowed counted happens = record { allowed = allowed_in come allowed; counted = counted; happens = happens }
+  leads come allowed counted happens = record { allowed = allowed_in come allowed; counted = counted; alone = come.alone; happens = happens }
 
   pub proceeds : TablesProceed → IsTyped (kind_of e.event) → HasCome start_a start_b a b of_a of_b past →
       refusal (both a b) (tables of_a of_b) (kind_of e.event) ≡ None
@@ -57,11 +58,14 @@ module _ (start_a start_b a b new_a new_b : NodeValue) (of_a of_b next_a next_b 
       let b_is : next_b ≡ table_in (e ∷ past) B new_b =
       is_b ∙ ap (λ (t : Table). table_next B (kind_of e.event) e.answer (length b.link.sent) new_b t) of_b_is ∙
       sym (law past e (both a b) (both new_a new_b) B counted happens) in
+      let on : (s : Side) → (node (both new_a new_b) s).host.inner.host_requirements ≡ (node (both a b) s).host.inner.host_requirements =
+      λ s. (onward (starts_of start_a start_b) (both a b) (both new_a new_b) past e (leads come allowed counted happens) s).host_requirements in
       record {
         initial = come.initial;
         run = (both a b, come.run, leads come allowed counted happens);
         tables = rw (a_is, b_is) refl;
         typed = (typed, come.typed);
+        alone = (on A ∙ come.alone.0, on B ∙ come.alone.1);
       }
 
   -- it is a step of the world

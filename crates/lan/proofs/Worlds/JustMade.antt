@@ -131,4 +131,5 @@ module _ (a b : NodeValue) (none : new_error a b ≡ None) where
         run = of_both a b (unused_is a initial_a) (unused_is b initial_b);
         tables = rw (table_is a initial_a A, table_is b initial_b B) refl;
         typed = tt;
+        alone = (alone a initial_a, alone b initial_b);
       }

@@ -1,5 +1,5 @@
 -- A poll keeps what is said of both hosts and their link.
-use Rattle.std.proofs.Common.{◌≡◌, ℕ, ◌+◌, ◌*◌, ◌≤◌, List, ◌∷◌, sym, ◌∙◌, ap, subst, arith}
+use Rattle.std.proofs.Common.{◌≡◌, ℕ, ◌+◌, ◌*◌, ◌≤◌, false, List, ◌∷◌, sym, ◌∙◌, ap, subst, arith}
 use Rattle.std.specs.Prelude.{ℤ}
 use Rattle.sim_link.specs.DeviceCapabilities.{DeviceCapabilities}
 use Rattle.interface.specs.State.{State}
@@ -37,7 +37,7 @@ use Rattle.lan.proofs.Worlds.Link.Grown.{same_out}
 module _ (firsts most : Side →
     ℕ) (old new : Nodes) (net : Net) (past : List Entry) (e : Entry) (j : AreJoined firsts most old net) (of : IsNetOf net old past)
     (side : Side) (t : ℤ) (budget : ℕ) (is : kind_of e.event ≡ OfHost side (Polls t budget)) (few : AreFew (j.out (other side)))
-    (acts : ActsAt old side (Polls t budget) e.answer e.found new) where
+    (acts : ActsAt old side (Polls t budget) e.answer e.found new) (alone : (node old side).host.inner.host_requirements ≡ false) where
   abbrev pub s : NodeValue
   s = node old side
 
@@ -87,7 +87,7 @@ module _ (firsts most : Side →
   -- what the poll led to, where the sockets offer what can be read
   module _ (fit : OfEach IsFit s.slots) where
     pub polled : Polled s.host.inner s.link.waiting s.link.sent t net new (e ∷ past) side (L then_most)
-    polled = poll_comes net old new past e side t budget so_far L link of is acts linked fit
+    polled = poll_comes net old new past e side t budget so_far L link of is alone acts linked fit
 
     abbrev pub next : Net
     next = polled.comes.next

@@ -42,12 +42,13 @@ use Rattle.lan.specs.Worlds.Link.Made.{sealed, bytes_of}
 use Rattle.lan.specs.Worlds.Link.Frames.{Outgoing, IsAmong, IsDatagramV4, IsDatagramV6, IsDatagram, IsFragmentOf, BringsFrom, following_fragment}
 use Rattle.lan.specs.Worlds.Link.StoredFragments.{IsForeignKey}
 use Rattle.lan.specs.Worlds.Link.Numbers.{AreFew}
-use Rattle.lan.specs.Worlds.Link.Sides.{AreSent, IsHostFrame}
+use Rattle.lan.specs.Worlds.Link.Sides.{AreSent, IsHostFrame, IsReceiver}
 use Rattle.lan.specs.Worlds.Events.{AreTyped}
 use Rattle.lan.specs.Worlds.Joins.{Receives}
 use Rattle.lan.specs.Worlds.ReassembledDatagram.{IsTcpOrUdp, NamesPorts, following_header, Rebuilds, HasMade, IsOfMade, ReassembledWasMade}
 use Rattle.lan.specs.Worlds.FragmentFacts.{Fact, IsOf, Says, Carries, IsSaid, AreFramesOf, by_side, ReassembledWasSent}
 use Rattle.lan.specs.Worlds.Hosts.Damage.{DamageIsHarmless}
+use Rattle.lan.proofs.Worlds.AlongPolls.{IsLasting, polled_so_far}
 use Rattle.lan.proofs.Worlds.Beginnings.{firsts}
 use Rattle.lan.proofs.Worlds.Damages.{damage_along}
 use Rattle.lan.proofs.Worlds.Link.Contents.{slice_part_of, fragment6_parts}
@@ -58,9 +59,10 @@ use Rattle.lan.proofs.Worlds.Link.SaidFrames.{IsSliceFrame, TakenSo, slice_frame
 use Rattle.lan.proofs.Worlds.Link.SaidFrames.{carries_fragment, carries_none, fragment_is_of}
 use Rattle.lan.proofs.Worlds.Link.AssemblerFacts.{ContentSo, rebuilds_so}
 use Rattle.lan.proofs.Worlds.Link.Assemblers.{all_at, one_key}
-use Rattle.lan.proofs.Worlds.Link.Taken.{part_cut, key_v6_is, taken_rebuilds}
+use Rattle.lan.proofs.Worlds.Link.Taken.{expired_receiver, key_v6_is, part_cut, receiver_same, skipped_keeps, taken_keeps, taken_rebuilds}
 use Rattle.lan.proofs.Worlds.Moves.Named.{told, not_icmp, not_icmpv6}
 use Rattle.lan.proofs.Worlds.Runs.{AreWell, has_come}
+use Rattle.lan.proofs.Worlds.SaidPolls.{takes_so_far}
 use Rattle.lan.proofs.Worlds.SaidRuns.{all_both, said, medium, host_on, port_on, has_said}
 
 not_both : (protocol : IpProtocol) → NamesNoPorts protocol → IsTcpOrUdp protocol → ⊥
@@ -230,12 +232,24 @@ module _ (q : Party) (first next : ℕ) (out : List Outgoing) (sent : AreSent (M
 
   -- WHAT A HOST REBUILDS
 
+  -- what waits for a host and what it holds stays of the other's packets along a poll
+  lasts : AreFew out → IsLasting (IsReceiver (MadeBy q) out)
+  lasts few = record {
+    same = receiver_same (MadeBy q) out;
+    expired = expired_receiver (MadeBy q) out;
+    skips = skipped_keeps (MadeBy q) out;
+    takes = taken_keeps (MadeBy q) first out next sent few;
+  }
+
   module _ (few : AreFew out) (s : NodeValue) (receives : Receives q out s) (key : FragKey) (bytes : List ℕ) (r : Rebuilds s key bytes) where
+    receives_now : Receives q out r.now
+    receives_now = polled_so_far (IsReceiver (MadeBy q) out) (lasts few) s r.now r.polled receives
+
     abbrev pub slot : Option ℕ
-    slot = slot_in s.host.assemblers (Some r.content)
+    slot = slot_in r.now.host.assemblers (Some r.content)
 
     abbrev pub kept_so : Assemblers
-    kept_so = kept s.host.inner s.host.timeout s.host.assemblers (Some r.content)
+    kept_so = kept r.now.host.inner r.now.host.timeout r.now.host.assemblers (Some r.content)
 
     pub is_done : IsDone kept_so slot r.content r.datagram
     is_done = done kept_so slot r.content r.datagram r.fragment r.cut r.whole
@@ -255,12 +269,12 @@ module _ (q : Party) (first next : ℕ) (out : List Outgoing) (sent : AreSent (M
     reassembled_by : IsReassembledOf out key bytes
     reassembled_by =
         subst (λ (k : FragKey). IsReassembledOf out k bytes) r.key_is
-        (taken_rebuilds (MadeBy q) first out next sent few s.host.inner s.host.timeout s.host.assemblers r.frame [] r.content r.fragment bytes
+        (taken_rebuilds (MadeBy q) first out next sent few r.now.host.inner r.now.host.timeout r.now.host.assemblers r.frame [] r.content r.fragment bytes
         (record {
-          checksums = receives.checksums;
-          assemblers_are = receives.assemblers_are;
+          checksums = receives_now.checksums;
+          assemblers_are = receives_now.assemblers_are;
           waits =
-              (all_at (BringsFrom (MadeBy q) out s.host.inner.hardware) s.link.waiting r.slot r.frame receives.waits r.waits, tt);
+              (all_at (BringsFrom (MadeBy q) out r.now.host.inner.hardware) r.now.link.waiting r.slot r.frame receives_now.waits r.waits, tt);
         })
         r.read r.cut complete_there)
 
@@ -366,12 +380,18 @@ module _ (starts : Starts) (initial : IsInitialWorld starts) (history : List Ent
       let S : FragKey → Fact → Type 0 = said m history hosts (other side) in
       let s = node hosts side in
       let receives = (world).joined.receives side in
-      let taken : TakenSo S m r.frame = all_at (TakenSo S m) s.link.waiting r.slot r.frame (has.says side).waits r.waits in
-      let read : IsIncoming s.host.inner.hardware sealed r.frame r.content =
-      subst (λ (c : ChecksumCapabilities). IsIncoming s.host.inner.hardware c r.frame r.content) receives.checksums r.read in
-      let so : ContentSo S (Some r.content) =
-      taken s.host.inner.hardware r.content (host_on m (firsts starts) (world).most hosts _ (world).joined has.port side) read in
-      elim (rebuilds_so S s.host.inner s.host.timeout s.host.assemblers (Some r.content) r.fragment bytes (has.says side).assemblers so r.cut
+      let now = r.now in
+      let taking = takes_so_far S m s now r.polled (record {
+        hardware = host_on m (firsts starts) (world).most hosts _ (world).joined has.port side;
+        checksums = receives.checksums;
+        assemblers_are = (has.says side).assemblers;
+        waits = (has.says side).waits;
+      }) in
+      let taken : TakenSo S m r.frame = all_at (TakenSo S m) now.link.waiting r.slot r.frame taking.waits r.waits in
+      let read : IsIncoming now.host.inner.hardware sealed r.frame r.content =
+      subst (λ (c : ChecksumCapabilities). IsIncoming now.host.inner.hardware c r.frame r.content) taking.checksums r.read in
+      let so : ContentSo S (Some r.content) = taken now.host.inner.hardware r.content taking.hardware read in
+      elim (rebuilds_so S now.host.inner now.host.timeout now.host.assemblers (Some r.content) r.fragment bytes taking.assemblers_are so r.cut
       (complete_there maker _ _ sent_out ((world).joined.sends (other side)).are_sent few_out s receives key bytes r)) [
         | inl none ↦
             absurd (not_foreign key bytes (subst IsForeignKey r.key_is none)

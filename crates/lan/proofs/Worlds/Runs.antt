@@ -10,6 +10,7 @@ use Rattle.lan.specs.Worlds.AtLink.Side.TheVariants.{A, B}
 use Rattle.lan.specs.Worlds.AtLink.Moves.{IsRun, Step, run}
 use Rattle.lan.specs.Worlds.AtLink.Parties.{Net}
 use Rattle.lan.specs.Worlds.AtLink.PacketsSafe.{IsSafe}
+use Rattle.lan.proofs.Worlds.Alone.{alone_at}
 use Rattle.lan.proofs.Worlds.AtLink.Extended.{run-append, IsRun-append}
 use Rattle.lan.specs.Worlds.AtLink.Initial.{IsInitialWorld}
 use Rattle.lan.specs.Worlds.AtLink.Origins.{medium_of, numbered}
@@ -99,7 +100,7 @@ module _ (starts : Starts) (net : Net) (old new : Nodes) (past : List Entry) (e 
 
     module _ (fit : OfEach IsFit (node old side).slots) where
       abbrev out_after : List Outgoing
-      out_after = (Polled.linked_after (firsts starts) w.most old new net past e w.joined of side t budget is few_out acts fit).out
+      out_after = (Polled.linked_after (firsts starts) w.most old new net past e w.joined of side t budget is few_out acts (alone_at old leads.alone side) fit).out
 
       abbrev most' : Side → ℕ
       most' = exchanged w.most side (count_numbered out_after)
@@ -114,18 +115,18 @@ module _ (starts : Starts) (net : Net) (old new : Nodes) (past : List Entry) (e 
 
       suffice : AreFew out_after × (count_numbered out_after ≤ numbered_by (e ∷ past) new side)
       suffice =
-          let linked = Polled.linked_after (firsts starts) w.most old new net past e w.joined of side t budget is few_out acts fit in
+          let linked = Polled.linked_after (firsts starts) w.most old new net past e w.joined of side t budget is few_out acts (alone_at old leads.alone side) fit in
           let up : count_numbered (w.joined.out side) ≤ numbered_by past old side =
           (let a = w.joined.counted side in let b = w.numbered side in omega (arith, a, b)) in
           polled_few past e old new side leads t budget is (w.joined.out side) out_after up linked.count
-          (Polled.tied_after (firsts starts) w.most old new net past e w.joined of side t budget is few_out acts fit)
+          (Polled.tied_after (firsts starts) w.most old new net past e w.joined of side t budget is few_out acts (alone_at old leads.alone side) fit)
 
       polled : Then
       polled = (
-        Polled.comes (firsts starts) w.most old new net past e w.joined of side t budget is few_out acts fit,
+        Polled.comes (firsts starts) w.most old new net past e w.joined of side t budget is few_out acts (alone_at old leads.alone side) fit,
         record {
           most = most';
-          joined = Polled.polled_joins (firsts starts) w.most old new net past e w.joined of side t budget is few_out acts fit most'
+          joined = Polled.polled_joins (firsts starts) w.most old new net past e w.joined of side t budget is few_out acts (alone_at old leads.alone side) fit most'
               (omega (arith, exchanged_there w.most side (count_numbered out_after))) (omega (arith, exchanged_here w.most side (count_numbered out_after)));
           few = all_few suffice.0;
           numbered = polled_numbered suffice.1;
@@ -201,7 +202,7 @@ module _ (starts : Starts) where
     kind_held (OfHost side (Sets setting)) is typed happens = rested (subst IsNoPoll (sym is) tt)
     kind_held (OfHost side (Polls t budget)) is typed happens =
         let few = few_out starts net old new past e w of leads side t budget is happens in
-        let pol = Polled.polled (firsts starts) w.most old new net past e w.joined of side t budget is few happens (fit side) in
+        let pol = Polled.polled (firsts starts) w.most old new net past e w.joined of side t budget is few happens (alone_at old leads.alone side) (fit side) in
         let it = poll_settings (node old side) (node new side) t budget happens.acts.0 happens.acts.1 in
         let held = pol.held ((all side).paths, (all side).errors ∙ sym (was side).errors) in
         let now : instants starts new side ≡ t = it.now in

@@ -82,7 +82,7 @@ abbrev pub by_side : List Turn → List Turn → Side → List Turn
 by_side a b A = a
 by_side a b B = b
 
--- Whatever a host reassembles when it takes a frame next is what the other host's turns sent, whole or in fragments.
+-- Whatever a host reassembles in a poll, when it takes a frame next there, is what the other host's turns sent, whole or in fragments.
 abbrev pub ReassembledWasSent : WorldValue → (Side → List Turn) → Type 0
 ReassembledWasSent w turns =
     (side : Side) (key : FragKey) (bytes : List ℕ) → Rebuilds (node w.hosts side) key bytes

@@ -31,8 +31,8 @@ pub record IsSafeWorld (w : WorldValue) : Type 0 where
   -- solicitations together of a host whose sockets are all of TCP and UDP
   pub frames_a : FramesAreApart (medium_of w.hosts.a) w.starts.a.slots run_a.turns
   pub frames_b : FramesAreApart (medium_of w.hosts.b) w.starts.b.slots run_b.turns
-  -- if a host takes a frame that waits for it next, and reassembles a TCP or UDP datagram of fragments with it, what the other host's turns
-  -- sent with that identification, those addresses and that protocol is its payload, all of it and nothing else
+  -- if a host is polled, and wherever in that poll it takes a frame that waits for it and reassembles a TCP or UDP datagram of fragments with it,
+  -- what the other host's turns sent with that identification, those addresses and that protocol is its payload, all of it and nothing else
   pub reassembled : ReassembledWasSent w (by_side run_a.turns run_b.turns)
   -- and that is the payload of one packet, a segment or a datagram that the other host made
   pub made : ReassembledWasMade w

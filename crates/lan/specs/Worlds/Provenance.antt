@@ -3,7 +3,7 @@ use Rattle.std.specs.Prelude.{◌≡◌, List}
 use Rattle.lan.specs.Worlds.AtLink.History.{Entry}
 use Rattle.lan.specs.Worlds.AtLink.Initial.{IsInitialWorld}
 use Rattle.lan.specs.Worlds.AtLink.Refusals.{Table, Tables}
-use Rattle.lan.specs.Worlds.AtLink.Runs.{Start, Starts, WorldValue, WorldRun, unused_both, tables_in}
+use Rattle.lan.specs.Worlds.AtLink.Runs.{AreAlone, Start, Starts, WorldValue, WorldRun, unused_both, tables_in}
 use Rattle.lan.specs.Worlds.AtLink.Node.{NodeValue, Nodes}
 use Rattle.lan.specs.Worlds.Events.{AreTyped}
 
@@ -36,3 +36,4 @@ pub record HasCome (start_a start_b a b : NodeValue) (of_a of_b : Table) (histor
   pub run : WorldRun history (unused_both (starts_of start_a start_b)) (both a b)
   pub tables : tables of_a of_b ≡ tables_in history (both a b)
   pub typed : AreTyped history
+  pub alone : AreAlone (both a b)

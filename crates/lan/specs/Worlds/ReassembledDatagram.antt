@@ -1,5 +1,5 @@
 -- What is reassembled from fragments is what the other host made.
-use Rattle.std.specs.Prelude.{◌≡◌, ◌⊎◌, ℕ, List, [], slice_get, slice_index, Option, Some}
+use Rattle.std.specs.Prelude.{◌≡◌, ◌⊎◌, ℕ, ℤ, List, [], slice_get, slice_index, Option, Some}
 use Rattle.sim_link.specs.Medium.TheVariants as Medium
 use Rattle.wire_address.specs.Protocol.{protocol_of}
 use Rattle.wire_address.specs.declared.ipv4.Ipv4FragKey.{Ipv4FragKey}
@@ -22,17 +22,19 @@ use Rattle.iface_ingress.specs.Reassembled.{FragmentValue, part_in}
 use Rattle.iface_ingress.specs.Sent.{CanBeRead, normal_payload}
 use Rattle.iface_ingress.specs.Upper.{upper_header}
 use Rattle.sim_link.specs.PacketInFrame.{names_tcp_or_udp}
+use Rattle.sim_link.specs.Port.{PortMove, PortValue}
 use Rattle.lan.specs.Worlds.AtLink.Kinds.{other}
 use Rattle.lan.specs.Worlds.AtLink.Side.{Side}
 use Rattle.lan.specs.Worlds.AtLink.Moves.{Step, IsRun, run}
 use Rattle.lan.specs.Worlds.AtLink.Parties.{Party, Net, WasMade, party}
 use Rattle.lan.specs.Worlds.AtLink.Runs.{WorldValue}
-use Rattle.lan.specs.Worlds.AtLink.Node.{NodeValue, node}
+use Rattle.lan.specs.Worlds.AtLink.Node.{NodeValue, at_port, node}
 use Rattle.lan.specs.Worlds.Moves.Follows.{IsNetOf}
 use Rattle.lan.specs.Worlds.Moves.Joined.{first_net}
 use Rattle.lan.specs.Worlds.Moves.Made.{datagram_of}
 use Rattle.lan.specs.Worlds.Link.Frames.{following_fragment}
 use Rattle.lan.specs.Worlds.Link.Made.{bytes_of}
+use Rattle.lan.specs.Worlds.PollSteps.{Reaches}
 
 -- what a content is to a host that takes it next: itself, the whole datagram that it completes, or nothing yet
 abbrev pub taken_next : NodeValue → Option IncomingValue → Option IncomingValue
@@ -53,19 +55,30 @@ following_header (Arp link packet) = []
 following_header (Ip4 link header fragment payload) = payload
 following_header (Ip6 link header payload) = payload
 
--- A frame that waits for a host brings a fragment of a datagram with this key; and if the host takes it next, the datagram, of TCP or UDP, is
--- whole, with these bytes after its IP header: in IPv4 the payload, and in IPv6 that after a fragment header.
+-- A poll that began at a host, at some moment, has come so far: as far as its first step, or any later one.
+pub record IsPolled (s now : NodeValue) : Type 0 where
+  pub instant : ℤ
+  pub port : PortValue
+  pub port_now : PortValue
+  pub before : port.link ≡ s.link
+  pub after : port_now.link ≡ now.link
+  pub reached : Reaches PortMove instant (at_port port s) (at_port port_now now)
+
+-- Wherever in a poll a host has come, a frame that waits for it brings a fragment of a datagram with this key; and if the host takes it next, the
+-- datagram, of TCP or UDP, is whole, with these bytes after its IP header: in IPv4 the payload, and in IPv6 that after a fragment header.
 pub record Rebuilds (s : NodeValue) (key : FragKey) (bytes : List ℕ) : Type 0 where
+  pub now : NodeValue
+  pub polled : IsPolled s now
   pub slot : ℕ
   pub frame : List ℕ
-  pub waits : slice_get s.link.waiting slot ≡ Some frame
+  pub waits : slice_get now.link.waiting slot ≡ Some frame
   pub content : IncomingValue
-  pub read : IsContent s.host.inner.hardware s.host.inner.checksums frame (Some content)
+  pub read : IsContent now.host.inner.hardware now.host.inner.checksums frame (Some content)
   pub fragment : FragmentValue
   pub cut : part_in content ≡ Some fragment
   pub key_is : fragment.key ≡ key
   pub datagram : IncomingValue
-  pub whole : taken_next s (Some content) ≡ Some datagram
+  pub whole : taken_next now (Some content) ≡ Some datagram
   pub ports : NamesPorts datagram
   pub bytes_are : bytes ≡ following_header datagram
 
@@ -113,7 +126,7 @@ IsOfMade q (Keys.Ipv4 key) bytes = IsOfMadeV4 q key bytes
 IsOfMade q (Keys.Ipv6 key) bytes = IsOfMadeV6 q key bytes
 
 -- Moves over packets lead from new hosts to these sockets by this history, and say what each host made on the way. Whatever a host
--- reassembles when it takes a frame next, the other one made.
+-- reassembles in a poll, when it takes a frame next there, the other one made.
 pub record ReassembledWasMade (w : WorldValue) : Type 0 where
   pub net : Net
   pub steps : List Step

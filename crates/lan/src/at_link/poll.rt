@@ -1,5 +1,5 @@
 //! A poll of a host, for which room is made first.
-ghost use Rattle.std.specs.Prelude.{◌≡◌, ◌+◌, ◌*◌, ◌≤◌, IfOk, IfSome, OnErr, length};
+ghost use Rattle.std.specs.Prelude.{◌≡◌, false, ◌+◌, ◌*◌, ◌≤◌, IfOk, IfSome, OnErr, length};
 ghost use Rattle.net_base.specs.Time.{IsMoment};
 ghost use Rattle.interface.specs.Departing.{link_room};
 ghost use Rattle.interface.specs.Set.{slots};
@@ -37,7 +37,7 @@ fn most_sends(budget: u16, sockets: &SocketSet<Socket>) -> Option<usize>
     each.checked_mul(budget as usize)
 }
 
-/// Polls a host for whose frames buffers lie ready: its port refuses none.
+/// Polls a host for whose frames buffers lie ready: its port refuses none, where nothing is parked.
 fn poll_ready(
     interface: &mut Interface,
     port: &mut Port,
@@ -51,7 +51,7 @@ fn poll_ready(
     requires least { 576 ≤ interface.old.inner.mtu }
     ensures polls { Polls PortMove instant budget (state port.old interface.old (slots sockets.old)) result
         (state port.new interface.new (slots sockets.new)) }
-    ensures none_denied { port.new.link.refusals ≡ port.old.link.refusals }
+    ensures none_denied { interface.old.inner.host_requirements ≡ false → port.new.link.refusals ≡ port.old.link.refusals }
 {
     match interface.poll(instant, port, sockets, budget) {
         PollResult::None => false,

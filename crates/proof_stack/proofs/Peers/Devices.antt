@@ -5,10 +5,10 @@ use Rattle.interface.proofs.Keep.{polls_keep}
 use Rattle.interface.proofs.Kept.{IsKept}
 use Rattle.interface.specs.Polls.{Polls}
 use Rattle.interface.specs.State.{State}
-use Rattle.lan.proofs.Worlds.Moves.Devices.{fragment_leaves, slot_turns, same, takes}
+use Rattle.lan.proofs.Worlds.Moves.Devices.{fragment_leaves, parked, slot_turns, same, takes}
 use Rattle.lan.proofs.Worlds.Moves.Frames.{IsNoTake}
 use Rattle.proof_stack.specs.PeerHost.Moved.{AreMoves, MovedTo}
-use Rattle.proof_stack.specs.PeerHost.Steps.{Step, Steps, Reaches}
+use Rattle.lan.specs.Worlds.PollSteps.{Step, Steps, Reaches}
 
 module _ {D : Type 0} (moves : D → Move → D → Type 0) (Q : D → Type 0) (keeps : (d d' : D) (m : Move) → moves d m d' → Q d → Q d') where
   quiet : (d d' : D) (m : Move) → IsNoTake m → moves d m d' → Q d → Q d'
@@ -21,7 +21,10 @@ module _ {D : Type 0} (moves : D → Move → D → Type 0) (Q : D → Type 0) (
     step s s' (inr (inr (inl fragment))) holds =
         same moves Q quiet fragment.to.device s'.device (ap (λ (x : State D). x.device) fragment.is)
         (fragment_leaves moves Q quiet fragment.left fragment.from fragment.to fragment.gone fragment.leaves (subst (λ (x : State D). Q x.device) fragment.was holds))
-    step s s' (inr (inr (inr turn))) holds =
+    step s s' (inr (inr (inr (inr waits)))) holds =
+        same moves Q quiet waits.to.device s'.device (ap (λ (x : State D). x.device) waits.is)
+        (parked moves Q quiet waits.from waits.to waits.all (subst (λ (x : State D). Q x.device) waits.was holds) waits.serves)
+    step s s' (inr (inr (inr (inl turn)))) holds =
         same moves Q quiet turn.to.device s'.device (ap (λ (x : State D). x.device) turn.is)
         (slot_turns moves Q quiet turn.asked turn.from turn.to (subst (λ (x : State D). Q x.device) turn.was holds) turn.slot turn.slot_after turn.turned turn.turns)
 
@@ -38,6 +41,7 @@ module _ {D : Type 0} (moves : D → Move → D → Type 0) (Q : D → Type 0) (
       maintenance = λ s holds. holds;
       arrivals = λ s s' answer runs holds is. takes moves Q keeps s s' answer is holds;
       fragments = λ h ps x x' l gone runs waits holds leaves same_host. fragment_leaves moves Q quiet l x x' gone leaves holds;
+      parked = λ h ps x x' all runs many holds serves. parked moves Q quiet x x' all holds serves;
       turns = λ turn h before after p p' x x' turned runs holds is. slot_turns moves Q quiet turn x x' holds p p' turned is;
     }
 

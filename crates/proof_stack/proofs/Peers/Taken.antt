@@ -13,7 +13,7 @@ use Rattle.interface.specs.Polls.{Polls, begun}
 use Rattle.interface.specs.State.{State, at_device}
 use Rattle.interface.proofs.Keep.{polls_keep}
 use Rattle.proof_stack.specs.PeerHost.ReceivedPackets.{Came, IsPacket, whole_in}
-use Rattle.proof_stack.specs.PeerHost.Steps.{Step, Steps, Reaches}
+use Rattle.lan.specs.Worlds.PollSteps.{Step, Steps, Reaches}
 use Rattle.proof_stack.proofs.Peers.Place.{AtOr, HoldsAt, middle_holds}
 use Rattle.proof_stack.proofs.Peers.Arrivals.{IsOfPolls, brings_holds}
 use Rattle.proof_stack.proofs.Peers.Turns.{turn_holds}
@@ -61,7 +61,9 @@ module _ {D : Type 0} (moves : D → Move → D → Type 0) (t : ℤ) (from : St
       by (inr (inl is)) = takes s s' is.0 is.1 at
       by (inr (inr (inl fragment))) =
           subst (λ (x : State D). AtOr F W x.slots n) (sym fragment.is) (subst (λ (x : State D). AtOr F W x.slots n) fragment.was at.1)
-      by (inr (inr (inr turn))) =
+      by (inr (inr (inr (inr waits)))) =
+          subst (λ (x : State D). AtOr F W x.slots n) (sym waits.is) (subst (λ (x : State D). AtOr F W x.slots n) waits.was at.1)
+      by (inr (inr (inr (inl turn)))) =
           subst (λ (x : State D). AtOr F W x.slots n) (sym turn.is)
           (middle_holds F W W (λ (s : Socket). λ w. w) turn.before turn.after turn.slot turn.slot_after n
           (turn_holds moves turn.asked (Came moves t from) F W law turn.slot turn.slot_after turn.from turn.to turn.turned turn.turns)
@@ -89,8 +91,19 @@ module _ {D : Type 0} (moves : D → Move → D → Type 0) (t : ℤ) (from : St
         was = refl;
         is = refl;
       })))) at;
+      parked = λ h ps x x' all runs many at serves. goes (sending_as h x ps) (sending_as h x' ps) (inr (inr (inr (inr (record {
+        host = h;
+        slots = ps;
+        from = x;
+        to = x';
+        all = all;
+        many = many;
+        serves = serves;
+        was = refl;
+        is = refl;
+      }))))) at;
       turns = λ asked h before after p p' x x' turned runs at is.
-          goes (sending_as h x (before ++ p ∷ after)) (sending_as h x' (before ++ p' ∷ after)) (inr (inr (inr (record {
+          goes (sending_as h x (before ++ p ∷ after)) (sending_as h x' (before ++ p' ∷ after)) (inr (inr (inr (inl (record {
             host = h;
             before = before;
             after = after;
@@ -103,7 +116,7 @@ module _ {D : Type 0} (moves : D → Move → D → Type 0) (t : ℤ) (from : St
             turns = is;
             was = refl;
             is = refl;
-          })))) at;
+          }))))) at;
     }
 
   -- what holds of the socket when a poll begins holds when it ends

@@ -1,5 +1,5 @@
 -- A question for an own address is answered, and whose answer is heard is known.
-use Rattle.std.proofs.Common.{◌≡◌, ℕ, ◌+◌, ◌<◌, Bool, true, false, ◌||◌, if◌then◌else◌, inl, inr, ℤ, pos, ◌+ℤ◌, int_lt, List, [], ◌∷◌, ◌++◌, length}
+use Rattle.std.proofs.Common.{◌≡◌, ℕ, ◌<◌, Bool, true, false, ◌||◌, if◌then◌else◌, inl, inr, ℤ, pos, ◌+ℤ◌, int_lt, List, [], ◌∷◌, ◌++◌, length}
 use Rattle.std.proofs.Common.{Option, Some, None, refl, sym, ap, ◌∙◌, subst, arith}
 use Rattle.std.specs.Prelude.{nat_lt, find, position, remove}
 use Rattle.std.proofs.lemmas.Bool.{and_from, or_left, or_right}
@@ -23,7 +23,7 @@ use Rattle.iface_ingress.specs.Reassembled.{passes_filter, with_room}
 use Rattle.iface_ingress.specs.Sent.{AreSealed}
 use Rattle.iface_ingress.proofs.OneContent.{one-content}
 use Rattle.iface_tables.specs.Best.{at_index}
-use Rattle.iface_tables.specs.Inner.{InnerValue, at_instant, is_local, next_hop, link_by, link_of_hop, link_on, link_address}
+use Rattle.iface_tables.specs.Inner.{asked_of, InnerValue, at_instant, is_local, next_hop, link_by, link_of_hop, link_on, link_address}
 use Rattle.iface_tables.specs.Inner.{all_stations, group_hardware_addr, with_neighbor}
 use Rattle.iface_tables.specs.Neighbor.{CacheValue, lookup, missing, answer_by, neighbor_index_of, is_of, unless_failed, has_failed, filled, filled_at, victim}
 use Rattle.iface_tables.specs.Neighbor.{entry_lifetime}
@@ -90,7 +90,8 @@ module _ (i : InnerValue) (own node : EthernetAddress) (hop to : IpAddress) (on 
       else if is_multicast to then Link.Known (Hardware.Ethernet (group_hardware_addr to)) else link_of_hop then_host (next_hop then_host to)) via.one
       ∙ ap (λ (group : Bool). if group then Link.Known (Hardware.Ethernet (group_hardware_addr to)) else link_of_hop then_host (next_hop then_host to)) via.group
       ∙ ap (link_of_hop then_host) via.hop_is
-      ∙ ap (λ (a : Answer). link_by a hop) (known_now i.neighbors entry_of i.instant (lives i.instant entry_lifetime (omega arith)))
+      ∙ ap (λ (a : Answer). link_by a hop) (known_now (record i.neighbors { silent = (asked_of then_host hop).silent }) entry_of i.instant
+      (lives i.instant entry_lifetime (omega arith)))
 
 -- AN ARP PACKET COMES
 

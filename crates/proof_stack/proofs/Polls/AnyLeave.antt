@@ -21,10 +21,11 @@ use Rattle.iface_egress.specs.declared.socket_set.SocketStorage.{SocketStorage}
 use Rattle.iface_egress.specs.declared.egress_path.Sent.{Sent}
 use Rattle.interface.specs.Host.{Sender}
 use Rattle.interface.specs.Remote.{context_for}
-use Rattle.interface.specs.Serve.{Answers, ItemTurns, Leaves, ServesSlot, SendsAs, SendsBy, TurnsIf, passes_filter, is_raw, is_waiting, let_through, plan_at}
+use Rattle.interface.specs.Serve.{Leaves, passes_filter, is_raw, is_waiting, let_through, plan_at}
 use Rattle.interface.specs.Serve.{settled_by, sourced, turned_by, waits_until}
 use Rattle.interface.specs.declared.serve.Served.{Served}
 use Rattle.interface.proofs.Sourced.{sourced_stays}
+use Rattle.proof_stack.proofs.Parkless.{Answers, ItemTurns, SendsAs, SendsBy, ServesSlot, TurnsIf}
 
 not_false : (b : Bool) → not b ≡ false → b ≡ true
 not_false true e = refl

@@ -1,5 +1,5 @@
 -- A turn, a pass over the sockets, and a step of the egress path, in which a question for a neighbour goes.
-use Rattle.std.proofs.Common.{◌≡◌, ℕ, zero, suc, ◌+◌, Bool, true, false, ◌||◌, if◌then◌else◌, ◌⊎◌, inl, inr, ℤ, List, [], ◌∷◌, ◌++◌, Option, Some, None}
+use Rattle.std.proofs.Common.{◌≡◌, ℕ, zero, suc, Bool, true, false, ◌||◌, if◌then◌else◌, ◌⊎◌, inl, inr, ℤ, List, [], ◌∷◌, ◌++◌, Option, Some, None}
 use Rattle.std.proofs.Common.{refl, sym, ap, ◌∙◌, subst}
 use Rattle.std.specs.Prelude.{slice_get, is_some}
 use Rattle.std.specs.List.{list_any}
@@ -33,15 +33,15 @@ use Rattle.iface_egress.specs.declared.egress_path.Sent.TheVariants as Outcome
 use Rattle.interface.specs.Awaited.{turn_of}
 use Rattle.interface.specs.Egress.{EgressStep, sending}
 use Rattle.interface.specs.Host.{Sender}
-use Rattle.interface.specs.Pass.{Pass, Passed}
+use Rattle.interface.specs.Pass.{Passed}
 use Rattle.interface.specs.SameHost.{IsSameHost}
 use Rattle.interface.specs.State.{State}
-use Rattle.interface.specs.Serve.{is_waiting, is_given_up, is_other, is_out_of_turn, held, outcome_by, plan_at, turned_by, Leaves, SendsBy, Answers, TurnsIf}
-use Rattle.interface.specs.Serve.{ItemTurns, ServesSlot, let_through, sourced}
-use Rattle.interface.specs.EgressPath.{FragmentLeaves, Clears, Egress}
+use Rattle.interface.specs.Serve.{is_waiting, is_given_up, is_other, is_out_of_turn, held, outcome_by, plan_at, turned_by, Leaves}
+use Rattle.interface.specs.Serve.{let_through, sourced}
+use Rattle.interface.specs.EgressPath.{FragmentLeaves, Clears}
 use Rattle.interface.specs.declared.serve.Served.{Served}
 use Rattle.interface.specs.declared.serve.Served.TheVariants as Turn
-use Rattle.interface.proofs.SameHost.{same_where, slot_same}
+use Rattle.interface.proofs.SameHost.{same_where}
 use Rattle.proof_stack.specs.Progress.Moves.{AreMoves, is_refused}
 use Rattle.proof_stack.specs.Progress.NeighborResolution.{HasToAsk, IsFrom, AsksInTurn, AsksAtOnce, MayOffer}
 use Rattle.proof_stack.specs.Progress.Queued.{HasTurn, Sends}
@@ -49,6 +49,7 @@ use Rattle.proof_stack.proofs.Polls.OurLeave.{OursLeaves, our_leave}
 use Rattle.proof_stack.proofs.Polls.Asks.{asks_plan, held_none, held_not, kept_in, plan_from}
 use Rattle.proof_stack.proofs.Polls.Passes.{FragmentEnds, clears, clears_same}
 use Rattle.proof_stack.proofs.Polls.Walks.{joined, refused_before, refused_following, sends_before, sends_following}
+use Rattle.proof_stack.proofs.Parkless.{Answers, Egress, ItemTurns, Pass, SendsBy, ServesSlot, TurnsIf, egress_alone, slot_same}
 
 abbrev Place : Type 0
 Place = SocketStorage Socket
@@ -475,7 +476,8 @@ pub step_asks : {D : Type 0} (moves : D → Move → D → Type 0) (t : ℤ) (s 
     → AsksAtOnce moves (at_instant t s.host.inner) (turn_of (at_instant t s.host.inner) s.slots) s.device s'.device
 step_asks {D} moves t s s' answer n v d more hop p turn queued has ours step =
     let asks : AsksOnce moves (turn_of (at_instant t s.host.inner) s.slots) (at_instant t s.host.inner) s.device step.0.sender.device =
-    egress_asks moves v d more queued hop p turn.meta (sending t s) s.slots n step.0 turn.stands has turn.ready ours step.1 in
+    egress_asks moves v d more queued hop p turn.meta (sending t s) s.slots n step.0 turn.stands has turn.ready ours
+    (egress_alone moves (sending t s) s.slots step.0 has.alone step.1) in
     record {
       all = asks.all;
       are = subst (λ (x : D). AreMoves moves asks.all s.device x) (sym (ap (λ (x : State D). x.device) step.2)) asks.are;

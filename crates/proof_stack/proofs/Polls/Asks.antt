@@ -29,6 +29,7 @@ use Rattle.iface_egress.specs.declared.socket_meta.Meta.{Meta}
 use Rattle.iface_egress.specs.declared.egress_path.Sent.TheVariants as Outcome
 use Rattle.interface.specs.SameHost.{IsSameHost}
 use Rattle.interface.specs.Serve.{crowded_time, held, is_given_up, is_other, is_out_of_turn, is_waiting}
+use Rattle.interface.proofs.Alone.{same_alone}
 use Rattle.proof_stack.specs.Progress.NeighborResolution.{HasToAsk, IsFrom}
 use Rattle.proof_stack.proofs.Polls.Ways.{waits_still}
 use Rattle.std.specs.Prelude.{ℕ, nat_le}
@@ -188,6 +189,7 @@ module _ (i : InnerValue) (ident : ℕ) where
     may = has.may;
     unknown = on_kept i.hardware (destination_of p.header) hop has.unknown;
     asks = may_kept (source_for i.addresses hop) hop has.asks;
+    alone = has.alone;
     room = has.room;
   }
 
@@ -207,7 +209,7 @@ pub kept_in : (i i' : InnerValue) (settings : UdpSettings) (d : UdpMetadata × L
     → (HasToAsk i' settings d hop p) × (is_waiting i' m ≡ false)
 kept_in i i' settings d hop p m same kept has ready =
     let is : i' ≡ record i { ident = i'.ident } =
-    same ∙ ap (λ (c : CacheValue). record i {
+    same_alone i i' has.alone same ∙ ap (λ (c : CacheValue). record i {
       ident = i'.ident;
       neighbors = record i.neighbors { silent = c.silent; searches = c.searches };
     }) kept in (

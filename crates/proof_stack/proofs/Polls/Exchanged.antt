@@ -1,5 +1,5 @@
 -- A neighbour that isn't known is asked for, answers, and gets the datagram.
-use Rattle.std.proofs.Common.{◌≡◌, ◌≢◌, ℕ, ◌^◌, ◌<◌, ◌≤◌, arith, Bool, true, false, not, ◌&&◌, if◌then◌else◌, ◌⊎◌, inl, inr, ℤ, int_lt, pos, ◌+ℤ◌}
+use Rattle.std.proofs.Common.{◌≡◌, ◌≢◌, ℕ, ◌^◌, ◌<◌, ◌≤◌, arith, Bool, true, false, not, ◌&&◌, if◌then◌else◌, ◌⊎◌, inl, inr, int_lt, pos, ◌+ℤ◌}
 use Rattle.std.proofs.Common.{List, ◌∷◌, ◌++◌, length, Option, Some, None, refl, sym, ap, ◌∙◌, subst}
 use Rattle.std.specs.Prelude.{slice_get}
 use Rattle.std.specs.List.{list_any}
@@ -42,6 +42,7 @@ use Rattle.interface.specs.SameHost.{IsSameHost}
 use Rattle.interface.specs.State.{State}
 use Rattle.interface.specs.TransmittedFrame.{CanRead, HasWidths}
 use Rattle.interface.specs.Serve.{is_known, is_waiting}
+use Rattle.interface.proofs.Alone.{same_alone}
 use Rattle.interface.proofs.SameHost.{egress_same_host}
 use Rattle.proof_stack.specs.Progress.NeighborResolution as Asked
 use Rattle.proof_stack.specs.Progress.NeighborResolution.{AsksFirst, HasToAsk, IsFrom, IsNeighbor, IsNext, IsVia, arp_reply}
@@ -165,7 +166,8 @@ module _ {D E : Type 0} {from : D → Move → D → Type 0} {at : E → Move �
   is_waiting_host : x.s2.host.inner ≡ waiting
   is_waiting_host =
       ap (λ (y : State D). y.host.inner) x.waits
-      ∙ subst (IsSameHost start) (sym ends_at) (egress_same_host from (sending x.asked x.s0) x.s0.slots x.asks.0 x.asks.1)
+      ∙ same_alone start x.s1.host.inner has.alone
+      (subst (IsSameHost start) (sym ends_at) (egress_same_host from (sending x.asked x.s0) x.s0.slots x.asks.0 x.asks.1))
 
   small : x.s1.host.inner.ident < 2 ^ 16
   small = subst IsSmall (sym ends_at) (step_small from (sending x.asked x.s0) x.s0.slots x.asks.0 x.asks.1 wide.ident)
@@ -203,7 +205,7 @@ module _ {D E : Type 0} {from : D → Move → D → Type 0} {at : E → Move �
 
   via_then : IsVia (at_instant x.heard waiting) (destination_of p.header) hop
   via_then =
-      let there : IsSought start (destination_of p.header) hop = sought start (destination_of p.header) hop has.unknown in
+      let there : IsSought start (destination_of p.header) hop = sought start (destination_of p.header) hop has.alone has.unknown in
       record { one = there.one; group = there.group; hop_is = via }
 
   can_then : CanGo knowing v.settings d (Hardware.Ethernet node) p

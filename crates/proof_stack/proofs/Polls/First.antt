@@ -5,7 +5,7 @@ use Rattle.std.specs.Prelude.{not, slice_get, take}
 use Rattle.std.specs.List.{list_any, AllByRecursion}
 use Rattle.std.proofs.lemmas.Slice.Eq.{bytes_eq-Decides}
 use Rattle.net_base.specs.Device.{Move, Allowed, Emitted, Denied}
-use Rattle.net_base.specs.Packets.{contents, unpadded}
+use Rattle.net_base.specs.Packets.{contents}
 use Rattle.base_buffer.proofs.PacketLaws.{contents-unpadded}
 use Rattle.ip_wire.specs.AddressTests.{is_same_address}
 use Rattle.ip_wire.specs.Ip.{destination_of}
@@ -28,7 +28,7 @@ use Rattle.iface_egress.specs.Departure.{Asks, target_of}
 use Rattle.iface_egress.specs.Fragments.{LeftValue, departure_from}
 use Rattle.iface_egress.specs.IsTransmitted.{IsTransmitted, Asked, frame_of, frame_len_of}
 use Rattle.iface_egress.specs.Meta.{freed, missed}
-use Rattle.iface_egress.specs.Plan.{never_leaves, plan_by, plan_of}
+use Rattle.iface_egress.specs.Plan.{never_leaves, plan_by}
 use Rattle.iface_egress.specs.declared.frame.NeighborQuery.{NeighborQuery}
 use Rattle.iface_egress.specs.declared.plan.Plan.{Plan}
 use Rattle.iface_egress.specs.declared.plan.Plan.TheVariants as Way
@@ -40,29 +40,30 @@ use Rattle.iface_egress.specs.declared.egress_path.Sent.TheVariants as Outcome
 use Rattle.interface.specs.Awaited.{turn_of}
 use Rattle.interface.specs.Egress.{EgressStep, following, sending}
 use Rattle.interface.specs.Host.{Sender}
-use Rattle.interface.specs.Pass.{Pass, Passed}
+use Rattle.interface.specs.Pass.{Passed}
 use Rattle.interface.specs.Remote.{context_for, remote_of}
 use Rattle.interface.specs.SameHost.{IsSameHost}
 use Rattle.interface.specs.State.{State}
-use Rattle.interface.specs.Serve.{crowded_time, is_given_up, passes_filter, is_other, is_out_of_turn, is_waiting, held, outcome_by, plan_at, settled_by, sourced}
-use Rattle.interface.specs.Serve.{turned_by, waits_until, Leaves, ServesSlot}
-use Rattle.interface.specs.EgressPath.{FragmentLeaves, Clears, Egress}
+use Rattle.interface.specs.Serve.{is_given_up, passes_filter, is_other, is_out_of_turn, is_waiting, held, outcome_by, plan_at, settled_by, sourced}
+use Rattle.interface.specs.Serve.{turned_by, waits_until, Leaves}
+use Rattle.interface.specs.EgressPath.{FragmentLeaves, Clears}
 use Rattle.interface.specs.declared.serve.Served.{Served}
 use Rattle.interface.specs.declared.serve.Served.TheVariants as Turn
-use Rattle.interface.proofs.SameHost.{same_where, same_then, slot_same}
+use Rattle.interface.proofs.Alone.{same_alone}
+use Rattle.interface.proofs.SameHost.{same_flag, same_where, same_then}
 use Rattle.interface.proofs.Sourced.{sourced_same}
 use Rattle.proof_stack.specs.Progress.NeighborResolution.{HasToAsk, IsFrom, AsksFirst, MayOffer, NeedsNoOther}
 use Rattle.proof_stack.specs.Progress.Exchanged.{AsksFor, AsksForIt, IsMarkFor, IsStillFirst}
 use Rattle.proof_stack.specs.Progress.Moves.{AreMoves, is_refused}
-use Rattle.proof_stack.specs.Progress.Queued.{Sends}
-use Rattle.proof_stack.proofs.Polls.Asking.{AreSuch, AskedSo, Tail, TurnWalks, Walked, tail, walks}
+use Rattle.proof_stack.proofs.Polls.Asking.{AreSuch, AskedSo, Tail, TurnWalks, tail, walks}
 use Rattle.proof_stack.proofs.Polls.Asks.{asks_plan, asks_under, held_none, plan_for, plan_from, sought_under}
-use Rattle.proof_stack.proofs.Polls.Goes.{kept, stands_at}
+use Rattle.proof_stack.proofs.Polls.Goes.{stands_at}
 use Rattle.proof_stack.proofs.Polls.OurLeave.{OursLeaves, our_leave}
 use Rattle.proof_stack.proofs.Polls.Passes.{FragmentEnds, clears, clears_same}
-use Rattle.proof_stack.proofs.Polls.Silenced.{IsSought, nobody_sought, silent_link, sought}
+use Rattle.proof_stack.proofs.Polls.Silenced.{nobody_sought, silent_link, sought}
 use Rattle.proof_stack.proofs.Polls.Walks.{joined, refused_before, refused_following, sends_before, sends_following}
-use Rattle.proof_stack.proofs.Polls.Ways.{waits_still}
+use Rattle.proof_stack.proofs.Polls.Ways.{waits_still, with_ident_same}
+use Rattle.proof_stack.proofs.Parkless.{Egress, Pass, ServesSlot, egress_alone, kept, slot_same}
 
 abbrev Place : Type 0
 Place = SocketStorage Socket
@@ -101,10 +102,10 @@ stops_not b c same = cc
 -- THE HOST OF A TURN
 
 -- what the turns so far left of a host, as a number and what is known of neighbours
-pub host_then : (i j : InnerValue) (c : CacheValue) → IsSameHost i j → c.entries ≡ i.neighbors.entries → j.neighbors ≡ c
+pub host_then : (i j : InnerValue) (c : CacheValue) → i.host_requirements ≡ false → IsSameHost i j → c.entries ≡ i.neighbors.entries → j.neighbors ≡ c
     → j ≡ record i { ident = j.ident; neighbors = record i.neighbors { silent = c.silent; searches = c.searches } }
-host_then i j c same entries is =
-    same ∙ ap (λ (k : CacheValue). record i { ident = j.ident; neighbors = record i.neighbors { silent = k.silent; searches = k.searches } }) is
+host_then i j c alone same entries is =
+    same_alone i j alone same ∙ ap (λ (k : CacheValue). record i { ident = j.ident; neighbors = record i.neighbors { silent = k.silent; searches = k.searches } }) is
 
 pub offers_under : (i : InnerValue) (ident : ℕ) (s : Socket) → context_for (record i { ident = ident }) s ≡ context_for i s
 offers_under i ident s = by (remote_of s) where
@@ -115,7 +116,7 @@ offers_under i ident s = by (remote_of s) where
 may_offer : (i : InnerValue) (ident : ℕ) (o : Option (Item Socket)) (p : PacketValue) → MayOffer (record i { ident = ident }) o p → MayOffer i o p
 may_offer i ident None p is = absurd is
 may_offer i ident (Some item) p is = (
-  waits_still (record i { ident = ident }) i item.meta refl is.0,
+  waits_still (record i { ident = ident }) i item.meta (with_ident_same (record i { ident = ident }) i.ident) is.0,
   (
     is.1.0,
     is.1.1,
@@ -394,7 +395,7 @@ module _ {D : Type 0} (moves : D → Move → D → Type 0) (turn : Option IpAdd
 
   module _ (s : Sender D) (same : IsSameHost i s.inner) (known : s.inner.neighbors ≡ following_it) where
     is_following : s.inner ≡ record i { ident = s.inner.ident; neighbors = following_it }
-    is_following = host_then i s.inner following_it same refl known
+    is_following = host_then i s.inner following_it has.alone same refl known
 
     wait_may : never_leaves s.inner p.header ≡ false
     wait_may = subst (λ (j : InnerValue). never_leaves j p.header ≡ false) (sym is_following) has.may
@@ -408,7 +409,7 @@ module _ {D : Type 0} (moves : D → Move → D → Type 0) (turn : Option IpAdd
     wait_plan =
         ap (λ (never : Bool). if never then Way.Drop else plan_by (link_address s.inner to) s.inner (is_some s.left) p.header) wait_may
         ∙ ap (λ (l : LinkAddress). plan_by l s.inner (is_some s.left) p.header)
-        (ap (λ (j : InnerValue). link_address j to) is_following ∙ silent_link i to hop s.inner.ident (sought i to hop has.unknown))
+        (ap (λ (j : InnerValue). link_address j to) is_following ∙ silent_link i to hop has.alone s.inner.ident (sought i to hop has.alone has.unknown))
 
     wait_spared : is_given_up meta s.inner to Way.Wait ≡ false
     wait_spared = subst (λ (j : InnerValue). is_given_up meta j to Way.Wait ≡ false) (sym is_following) spared
@@ -418,7 +419,7 @@ module _ {D : Type 0} (moves : D → Move → D → Type 0) (turn : Option IpAdd
 
     nobody : (slot : Place) → AreSuch moves turn (λ (q : NeighborQuery). ⊥) s slot.inner
     nobody slot packet q offered plan its =
-        nobody_sought s.inner hop (target_of q) (destination_of (sourced s.inner packet).header) i.neighbors
+        nobody_sought s.inner hop (target_of q) (destination_of (sourced s.inner packet).header) i.neighbors (same_flag i s.inner same ∙ has.alone)
         (known ∙ ap (λ (j : InnerValue). requested i.neighbors hop j.instant) (sym same))
         (plan_for s.inner (is_some s.left) (sourced s.inner packet).header q plan)
 
@@ -463,7 +464,7 @@ module _ {D : Type 0} (moves : D → Move → D → Type 0) (turn : Option IpAdd
 
   module _ (s : Sender D) (same : IsSameHost i s.inner) (known : s.inner.neighbors ≡ i.neighbors) where
     is_begun : s.inner ≡ record i { ident = s.inner.ident }
-    is_begun = host_then i s.inner i.neighbors same refl known
+    is_begun = host_then i s.inner i.neighbors has.alone same refl known
 
     asks_then : HasToAsk s.inner v.settings d hop p
     asks_then = subst (λ (j : InnerValue). HasToAsk j v.settings d hop p) (sym is_begun) (asks_under i s.inner.ident v.settings d hop p has)
@@ -621,4 +622,5 @@ pub step_asks_for_it : {D : Type 0} (moves : D → Move → D → Type 0) (t : �
     → HasToAsk (at_instant t s.host.inner) v.settings d hop p → EgressStep moves t s answer s'
     → AsksForIt moves (at_instant t s.host.inner) hop (destination_of p.header) n v d s.device s'.device s'.slots
 step_asks_for_it {D} moves t s s' answer n v d more hop p asks queued has step =
-    step_ends moves t s s' n v d more hop p asks queued has step.0 (egress moves t s s' n v d more hop p asks queued has step.0 step.1) step.2
+    step_ends moves t s s' n v d more hop p asks queued has step.0
+    (egress moves t s s' n v d more hop p asks queued has step.0 (egress_alone moves (sending t s) s.slots step.0 has.alone step.1)) step.2

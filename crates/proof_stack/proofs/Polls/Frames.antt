@@ -1,5 +1,5 @@
 -- A poll that comes to a frame which waits among others.
-use Rattle.std.proofs.Common.{◌≡◌, ℕ, zero, suc, ◌<◌, Bool, true, false, ◌||◌, inl, inr, ℤ, List, [], ◌∷◌, ◌++◌, length, Option, Some, None}
+use Rattle.std.proofs.Common.{◌≡◌, ℕ, zero, suc, ◌<◌, Bool, true, false, ◌&&◌, ◌||◌, inl, inr, ℤ, List, [], ◌∷◌, ◌++◌, length, Option, Some, None}
 use Rattle.std.proofs.Common.{is_some, refl, sym, ap, ◌∙◌, subst, arith}
 use Rattle.net_base.specs.Device.{Move, Took, Emitted, Denied}
 use Rattle.iface_ingress.specs.Arrives as Replies
@@ -19,7 +19,7 @@ use Rattle.iface_egress.specs.Plan.{plan_of}
 use Rattle.ip_wire.specs.IpRepr.{IpRepr}
 use Rattle.interface.specs.Egress.{EgressStep}
 use Rattle.interface.specs.Host.{Sender, maintained}
-use Rattle.interface.specs.Ingress.{IngressStep, Replied, is_awaited, is_read, sender_of, sender_with}
+use Rattle.interface.specs.Ingress.{AnswerGoes, IngressStep, Replied, is_awaited, is_read, sender_of, sender_with, would_solicit}
 use Rattle.interface.specs.Polls.{Repeats}
 use Rattle.interface.specs.State.{State, state, at_device}
 use Rattle.interface.proofs.Keep.{in_step_keeps, out_step_keeps}
@@ -105,6 +105,14 @@ module _ {E : Type 0} (moves : E → Move → E → Type 0) (frames_at : E → L
     out i i' l l' p (Way.Go to) sent goes = went i i' p.header (Departures.Whole to (numbered i p)) sent goes.0
     out i i' l l' p (Way.Cut to) sent goes = was_cut i i' l l' (cut_of i to p) sent goes
 
+  answered : (many : Bool) (p : PacketValue) (kept_back : Bool) (x x' : Sender E) (frames : List (List ℕ)) → AnswerGoes moves many p kept_back x x'
+      → Waits frames_at x.device frames → Waits frames_at x'.device frames
+  answered false p kept_back x x' frames goes wait =
+      out x.device x'.device frames wait x.inner x'.inner x.left x'.left p (plan_of x.inner (is_some x.left) p.header) goes.0 goes.1
+  answered true p kept_back x x' frames goes wait =
+      subst (λ (y : Sender E). Waits frames_at y.device frames) (sym goes.3)
+      (out x.device goes.1.device frames wait x.inner goes.1.inner x.left goes.1.left p (plan_of x.inner (is_some x.left) p.header) goes.0 goes.2)
+
   replied : (awaited : Bool) (reply : Option ReplyValue) (x x' : Sender E) (frames : List (List ℕ)) → Replied moves awaited reply x x'
       → Waits frames_at x.device frames → Waits frames_at x'.device frames
   replied awaited None x x' frames goes wait = subst (λ (y : Sender E). Waits frames_at y.device frames) (sym goes) wait
@@ -112,7 +120,7 @@ module _ {E : Type 0} (moves : E → Move → E → Type 0) (frames_at : E → L
       departs x.device x'.device frames wait x.inner (Departures.Tells packet) goes.0 goes.1
   replied awaited (Some (Replies.Answers p)) x x' frames (inl rests) wait = subst (λ (y : Sender E). Waits frames_at y.device frames) (sym rests.0) wait
   replied awaited (Some (Replies.Answers p)) x x' frames (inr goes) wait =
-      out x.device x'.device frames wait x.inner x'.inner x.left x'.left p (plan_of x.inner (is_some x.left) p.header) goes.0 goes.1
+      answered x.inner.host_requirements p (awaited && would_solicit x p) x x' frames goes wait
 
   -- A STEP OF THE WAY IN TAKES THE FIRST
 

@@ -4,7 +4,7 @@ use Rattle.std.proofs.Common.{ap, ◌∙◌}
 use Rattle.std.proofs.Common.{subst, arith, append_assoc, append-nil, length-append}
 use Rattle.std.specs.Prelude.{slice_get}
 use Rattle.std.specs.List.{list_any}
-use Rattle.net_base.specs.Device.{Move, Allowed, Denied}
+use Rattle.net_base.specs.Device.{Move}
 use Rattle.net_base.specs.Packets.{contents, unpadded}
 use Rattle.base_buffer.proofs.PacketLaws.{contents-without_first, contents-unpadded}
 use Rattle.ip_wire.specs.HardwareAddress.{HardwareAddress}
@@ -21,8 +21,6 @@ use Rattle.iface_ingress.specs.Socket.TheVariants as Kind
 use Rattle.iface_ingress.specs.Sockets as Sockets
 use Rattle.iface_tables.specs.Inner.{InnerValue, at_instant}
 use Rattle.iface_tables.specs.declared.neighbor.Search.{Search}
-use Rattle.iface_egress.specs.Fragments.{LeftValue, departure_from}
-use Rattle.iface_egress.specs.IsTransmitted.{frame_len_of}
 use Rattle.iface_egress.specs.declared.socket_meta.Meta.{Meta}
 use Rattle.iface_egress.specs.declared.socket_set.Item.{Item}
 use Rattle.iface_egress.specs.declared.socket_set.SocketStorage.{SocketStorage}
@@ -31,23 +29,22 @@ use Rattle.interface.specs.Egress.{EgressStep, sending, if_changed}
 use Rattle.interface.specs.Host.{Sender}
 use Rattle.interface.specs.Pass.{Pass, Passed}
 use Rattle.interface.specs.Remote.{context_for}
-use Rattle.interface.specs.SameHost.{IsSameHost}
+use Rattle.iface_tables.specs.Parking.{ParkingValue}
+use Rattle.interface.specs.SameHost.{IsSameHost, parking_from}
 use Rattle.interface.specs.State.{State}
-use Rattle.interface.specs.Serve.{is_waiting}
-use Rattle.interface.specs.EgressPath.{FragmentLeaves, Clears, Egress}
+use Rattle.interface.specs.Serve.{ServesSlot, is_waiting}
+use Rattle.interface.specs.EgressPath.{Egress}
 use Rattle.interface.specs.declared.serve.Served.TheVariants as Turn
-use Rattle.interface.proofs.SameHost.{same_where, slot_same}
+use Rattle.interface.proofs.SameHost.{clears_all_same, same_where, slot_same}
 use Rattle.proof_stack.specs.Progress.Moves.{AreMoves, is_refused}
-use Rattle.proof_stack.specs.Progress.Patience.{IsItemPatient}
 use Rattle.proof_stack.specs.Progress.Queued.{CanGo, HasTurn, Sends, frame_under, WentFrom, GoesAtOnce}
 use Rattle.proof_stack.specs.Progress.Segments.{CanTransmit, IsItsTurn, LeavesAtOnce, WentBy}
 use Rattle.proof_stack.proofs.Polls.AnyLeave.{OffersOnly}
 use Rattle.proof_stack.proofs.Polls.Walks.{joined, refused_before, refused_following, sends_before, sends_following}
 use Rattle.proof_stack.proofs.Polls.Ways.{leave_still, leaves, waits_still, same_frame, under_still}
-use Rattle.proof_stack.proofs.Polls.Numbers.{IsSmall, slot_small}
-use Rattle.proof_stack.proofs.Polls.Turns.{Ends, slot_ends}
+use Rattle.proof_stack.proofs.Polls.Numbers.{IsSmall, clears_all_small, slot_small}
+use Rattle.proof_stack.proofs.Polls.AnyTurn.{Moved, Next, Through, clears_through, pass_through, slot_through}
 use Rattle.proof_stack.proofs.Polls.OurLeave.{offering_with, offers_it}
-use Rattle.proof_stack.proofs.Polls.Passes.{PassEnds, pass_ends, FragmentEnds, clears}
 use Rattle.proof_stack.proofs.Polls.OurTurn.{Ours, OurEnds, our_turn}
 
 abbrev Place : Type 0
@@ -66,21 +63,21 @@ stands_at [] more p = refl
 stands_at (q ∷ before) more p = stands_at before more p
 
 -- a step of the egress path leaves what a socket offers
-offered_still : (i : InnerValue) (ident : ℕ) (silent : ℤ) (searches : List Search) (s offering : Socket) (says : Bool) (p : PacketValue)
+offered_still : (i : InnerValue) (ident : ℕ) (silent : ℤ) (searches : List Search) (parking : ParkingValue) (s offering : Socket) (says : Bool) (p : PacketValue)
     → OffersOnly i s says offering p
-    → OffersOnly (record i { ident = ident; neighbors = record i.neighbors { silent = silent; searches = searches } }) s says offering p
-offered_still i ident silent searches s offering says p only = record { asked = by s only.asked; packet = only.packet } where
+    → OffersOnly (record i { ident = ident; neighbors = record i.neighbors { silent = silent; searches = searches }; parking = parking }) s says offering p
+offered_still i ident silent searches parking s offering says p only = record { asked = by s only.asked; packet = only.packet } where
   by : (s : Socket) → ((answer : Answer.Offer) (s' : Socket) → Sockets.Offers (context_for i s) s answer s' → (answer ≡ Offer.Packet says) × (s' ≡ offering))
       → (answer : Answer.Offer) (s' : Socket)
-      → Sockets.Offers (context_for (record i { ident = ident; neighbors = record i.neighbors { silent = silent; searches = searches } }) s) s answer s'
+      → Sockets.Offers (context_for (record i { ident = ident; neighbors = record i.neighbors { silent = silent; searches = searches }; parking = parking }) s) s answer s'
       → (answer ≡ Offer.Packet says) × (s' ≡ offering)
   by s asked = asked
 
-only_still : (i j : InnerValue) (s offering : Socket) (says : Bool) (p : PacketValue) → IsSameHost i j → OffersOnly i s says offering p
+pub only_still : (i j : InnerValue) (s offering : Socket) (says : Bool) (p : PacketValue) → IsSameHost i j → OffersOnly i s says offering p
     → OffersOnly j s says offering p
 only_still i j s offering says p same only =
     subst (λ (x : InnerValue). OffersOnly x s says offering p) (sym same)
-    (offered_still i j.ident j.neighbors.silent j.neighbors.searches s offering says p only)
+    (offered_still i j.ident j.neighbors.silent j.neighbors.searches (parking_from i j) s offering says p only)
 
 module _ {D : Type 0} (moves : D → Move → D → Type 0) where
   next_not : (b c : Bool) → Turn.Stop b ≡ Turn.Next c → ⊥
@@ -98,7 +95,7 @@ module _ {D : Type 0} (moves : D → Move → D → Type 0) where
   or_first false b e = absurd (let clash : false ≡ true = e in cc)
 
   -- the slots before stay, and what changed stays said
-  pub kept : (turn : Option IpAddress) (s : Sender D) (before : List Place) (changed : Bool) (ps : List Place) (e : Passed D)
+  kept : (turn : Option IpAddress) (s : Sender D) (before : List Place) (changed : Bool) (ps : List Place) (e : Passed D)
       → Pass moves turn s before changed ps e
       → (more : List Place) × (e.slots ≡ before ++ more)
   kept turn s before changed [] e ends = ([], ap (λ (x : Passed D). x.slots) ends ∙ sym (append-nil before))
@@ -128,7 +125,7 @@ module _ {D : Type 0} (moves : D → Move → D → Type 0) where
     still i j same can = record { leaves = leave_still i j to p same can.leaves; only = only_still i j socket offering says p same can.only }
 
     -- of a pass: the packet went, or the device refused
-    record Through (i : InnerValue) (k : ℕ) (old : D) (e : Passed D) : Type 0 where
+    record Ends (i : InnerValue) (k : ℕ) (old : D) (e : Passed D) : Type 0 where
       all : List Move
       are : AreMoves moves all old e.sender.device
       what : (list_any is_refused all ≡ true) ⊎ WentBy i k offering to p all (if_changed e.changed) e.slots
@@ -136,9 +133,9 @@ module _ {D : Type 0} (moves : D → Move → D → Type 0) where
     -- the turn itself, and what comes after it
     at_our_slot : (turn : Option IpAddress) (s mid : Sender D) (before : List Place) (changed b : Bool) (p' : Place) (ps : List Place) (k : ℕ) (e : Passed D)
         → OurEnds moves turn s mid offering to p (Turn.Next b) p'.inner → k ≡ length before
-        → Pass moves turn mid (before ++ p' ∷ []) (changed || b) ps e → Through s.inner k s.device e
+        → Pass moves turn mid (before ++ p' ∷ []) (changed || b) ps e → Ends s.inner k s.device e
     at_our_slot turn s mid before changed b p' ps k e took is goes =
-        let rest : PassEnds moves mid (before ++ p' ∷ []) (changed || b) ps e = pass_ends moves turn mid (before ++ p' ∷ []) (changed || b) ps e goes in
+        let rest : Moved moves mid.device e.sender.device = pass_through moves turn mid (before ++ p' ∷ []) (changed || b) ps e goes in
         record {
           all = took.all ++ rest.all;
           are = joined moves took.all rest.all s.device mid.device e.sender.device took.are rest.are;
@@ -167,7 +164,7 @@ module _ {D : Type 0} (moves : D → Move → D → Type 0) where
 
     stopped : (turn : Option IpAddress) (s mid : Sender D) (b : Bool) (p' : Place) (k : ℕ) (e : Passed D)
         → OurEnds moves turn s mid offering to p (Turn.Stop b) p'.inner → e.sender.device ≡ mid.device
-        → Through s.inner k s.device e
+        → Ends s.inner k s.device e
     stopped turn s mid b p' k e took is = record {
       all = took.all;
       are = subst (λ (x : D). AreMoves moves took.all s.device x) (sym is) took.are;
@@ -198,25 +195,24 @@ module _ {D : Type 0} (moves : D → Move → D → Type 0) where
 
     pass_goes : (turn : Option IpAddress) (s : Sender D) (before : List Place) (changed : Bool) (ps : List Place) (n k : ℕ) (e : Passed D)
         → slice_get ps n ≡ Some ours → k ≡ length before + n → Can s.inner → is_waiting s.inner meta ≡ false
-        → Pass moves turn s before changed ps e → Through s.inner k s.device e
+        → Pass moves turn s before changed ps e → Ends s.inner k s.device e
     pass_goes turn s before changed [] n k e stands is can ready goes = absurd (let never : no_slot ≡ Some ours = stands in cc)
     pass_goes turn s before changed (q ∷ ps) zero k e stands is can ready (inl goes) =
         at_our_slot turn s goes.1 before changed goes.0 goes.2 ps k e
         (our_turn moves turn s goes.1 offering to p says can.leaves socket can.only meta goes.2 (Turn.Next goes.0) ready
-        (subst (λ (slot : Place). Rattle.interface.specs.Serve.ServesSlot moves turn s slot (Turn.Next goes.0) goes.1 goes.2)
+        (subst (λ (slot : Place). ServesSlot moves turn s slot (Turn.Next goes.0) goes.1 goes.2)
         (let same : Some q ≡ Some ours = stands in let at : q ≡ ours = cc in at) goes.3))
         (is ∙ (let none : (m : ℕ) → m + 0 ≡ m = λ m. omega arith in none (length before))) goes.4
     pass_goes turn s before changed (q ∷ ps) zero k e stands is can ready (inr stops) =
         stopped turn s stops.1 stops.0 stops.2 k e
         (our_turn moves turn s stops.1 offering to p says can.leaves socket can.only meta stops.2 (Turn.Stop stops.0) ready
-        (subst (λ (slot : Place). Rattle.interface.specs.Serve.ServesSlot moves turn s slot (Turn.Stop stops.0) stops.1 stops.2)
+        (subst (λ (slot : Place). ServesSlot moves turn s slot (Turn.Stop stops.0) stops.1 stops.2)
         (let same : Some q ≡ Some ours = stands in let at : q ≡ ours = cc in at) stops.3))
         (ap (λ (x : Passed D). x.sender.device) stops.4)
     pass_goes turn s before changed (q ∷ ps) (suc n) k e stands is can ready (inl goes) =
-        let took : Ends moves (IsItemPatient q.inner) s goes.1 (Turn.Next goes.0) goes.2.inner =
-        slot_ends moves (IsItemPatient q.inner) turn s goes.1 q goes.2 (Turn.Next goes.0) (λ it. it) goes.3 in
+        let took : Through moves (Next moves (Turn.Next goes.0)) s.device goes.1.device = slot_through moves turn s goes.1 q goes.2 (Turn.Next goes.0) goes.3 in
         let same : IsSameHost s.inner goes.1.inner = slot_same moves turn s goes.1 q goes.2 (Turn.Next goes.0) goes.3 in
-        let rest : Through goes.1.inner k goes.1.device e =
+        let rest : Ends goes.1.inner k goes.1.device e =
         pass_goes turn goes.1 (before ++ goes.2 ∷ []) (changed || goes.0) ps n k e stands (is ∙ one_more before goes.2 n)
         (still s.inner goes.1.inner same can) (waits_still s.inner goes.1.inner meta same ready) goes.4 in
         record {
@@ -229,12 +225,12 @@ module _ {D : Type 0} (moves : D → Move → D → Type 0) where
         one_more : (xs : List Place) (x : Place) (n : ℕ) → length xs + suc n ≡ length (xs ++ x ∷ []) + n
         one_more xs x n = let both = length-append xs (x ∷ []) in omega (arith, both)
     pass_goes turn s before changed (q ∷ ps) (suc n) k e stands is can ready (inr stops) =
-        let took : Ends moves (IsItemPatient q.inner) s stops.1 (Turn.Stop stops.0) stops.2.inner =
-        slot_ends moves (IsItemPatient q.inner) turn s stops.1 q stops.2 (Turn.Stop stops.0) (λ it. it) stops.3 in
+        let took : Through moves (Next moves (Turn.Stop stops.0)) s.device stops.1.device =
+        slot_through moves turn s stops.1 q stops.2 (Turn.Stop stops.0) stops.3 in
         record {
           all = took.all;
           are = subst (λ (x : D). AreMoves moves took.all s.device x) (sym (ap (λ (x : Passed D). x.sender.device) stops.4)) took.are;
-          what = inl (refused stops.0 took.all took.stops);
+          what = inl (refused stops.0 took.all took.what);
         }
       where
         refused : (b : Bool) (xs : List Move) → (list_any is_refused xs ≡ true) ⊎ ((c : Bool) × (Turn.Stop b ≡ Turn.Next c)) → list_any is_refused xs ≡ true
@@ -243,47 +239,31 @@ module _ {D : Type 0} (moves : D → Move → D → Type 0) where
 
     -- THE PIECE THAT WAITS, AND THEN THE SOCKETS
 
-    record Refused (old new : D) : Type 0 where
-      all : List Move
-      are : AreMoves moves all old new
-      what : list_any is_refused all ≡ true
-
-    fragment_refused : (l : LeftValue) (s mid : Sender D) → FragmentLeaves moves l s false mid → Refused s.device mid.device
-    fragment_refused l s mid (inl stays) = record { all = Allowed s.inner.instant false ∷ []; are = (mid.device, stays.0, refl); what = refl }
-    fragment_refused l s mid (inr goes) = record {
-      all = Allowed s.inner.instant true ∷ Denied (frame_len_of s.inner (departure_from s.inner l)) ∷ [];
-      are = (goes.0, goes.1, (mid.device, goes.2.0, refl));
-      what = refl;
-    }
-
-    stays : (left : Option LeftValue) (s mid : Sender D) → Clears moves left s false mid → Refused s.device mid.device
-    stays None s mid goes = absurd (let clash : false ≡ true = goes.0 in cc)
-    stays (Some l) s mid goes = fragment_refused l s mid goes.0
-
-    clears_same : (left : Option LeftValue) (s mid : Sender D) → Clears moves left s true mid → mid.inner ≡ s.inner
-    clears_same None s mid goes = ap (λ (x : Sender D). x.inner) goes.1
-    clears_same (Some l) s mid goes = goes.1
-
     egress_goes : (s : Sender D) (ps : List Place) (n : ℕ) (e : Passed D) → slice_get ps n ≡ Some ours → Can s.inner
-        → is_waiting s.inner meta ≡ false → Egress moves s ps e → Through s.inner n s.device e
+        → is_waiting s.inner meta ≡ false → Egress moves s ps e → Ends s.inner n s.device e
     egress_goes s ps n e stands can ready (inl waits) =
-        let no : Refused s.device waits.0.device = stays s.left s waits.0 waits.1 in
+        let no : Through moves (false ≡ true) s.device waits.0.device = clears_through moves s.inner.host_requirements s waits.0 false waits.1 in
         record {
           all = no.all;
           are = subst (λ (x : D). AreMoves moves no.all s.device x) (sym (ap (λ (x : Passed D). x.sender.device) waits.2)) no.are;
-          what = inl no.what;
+          what = by no.all no.what;
         }
+      where
+        by : (xs : List Move) → (list_any is_refused xs ≡ true) ⊎ (false ≡ true)
+            → (list_any is_refused xs ≡ true) ⊎ WentBy s.inner n offering to p xs (if_changed e.changed) e.slots
+        by xs (inl refused) = inl refused
+        by xs (inr is) = absurd (let clash : false ≡ true = is in cc)
     egress_goes s ps n e stands can ready (inr goes) =
-        let fragment : FragmentEnds moves s goes.0 true = clears moves s.left s goes.0 true refl goes.1 in
-        let same : IsSameHost s.inner goes.0.inner = same_where s.inner goes.0.inner (clears_same s.left s goes.0 goes.1) in
-        let rest : Through goes.0.inner n goes.0.device e =
+        let first : Through moves (true ≡ true) s.device goes.0.device = clears_through moves s.inner.host_requirements s goes.0 true goes.1 in
+        let same : IsSameHost s.inner goes.0.inner = clears_all_same moves s goes.0 true goes.1 in
+        let rest : Ends goes.0.inner n goes.0.device e =
         pass_goes (turn_of goes.0.inner ps) goes.0 [] false ps n n e stands (let none : (m : ℕ) → m ≡ 0 + m = λ m. omega arith in none n)
         (still s.inner goes.0.inner same can) (waits_still s.inner goes.0.inner meta same ready) goes.2 in
         record {
-          all = fragment.all ++ rest.all;
-          are = joined moves fragment.all rest.all s.device goes.0.device e.sender.device fragment.are rest.are;
-          what = as_before s.inner goes.0.inner n fragment.all rest.all (if_changed e.changed) e.slots same
-              (λ small. subst IsSmall (sym (clears_same s.left s goes.0 goes.1)) small) rest.what;
+          all = first.all ++ rest.all;
+          are = joined moves first.all rest.all s.device goes.0.device e.sender.device first.are rest.are;
+          what = as_before s.inner goes.0.inner n first.all rest.all (if_changed e.changed) e.slots same
+              (clears_all_small moves s.inner.host_requirements true s goes.0 goes.1) rest.what;
         }
 
   -- what a socket offers goes
@@ -292,7 +272,7 @@ module _ {D : Type 0} (moves : D → Move → D → Type 0) where
       → CanTransmit (at_instant t s.host.inner) to p → EgressStep moves t s answer s'
       → LeavesAtOnce moves (at_instant t s.host.inner) n offering to p s.device s'.device answer s'.slots
   offer_goes t s s' answer n socket offering says to p turn only can step =
-      let through : Through socket offering says to p turn.meta (at_instant t s.host.inner) n s.device step.0 =
+      let through : Ends socket offering says to p turn.meta (at_instant t s.host.inner) n s.device step.0 =
       egress_goes socket offering says to p turn.meta (sending t s) s.slots n step.0 turn.stands (record { leaves = can; only = only }) turn.ready step.1 in
       record {
         all = through.all;

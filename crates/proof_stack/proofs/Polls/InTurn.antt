@@ -29,7 +29,7 @@ use Rattle.proof_stack.specs.Progress.Segments.{CanTransmit, IsItsTurn, LeavesAt
 use Rattle.proof_stack.proofs.Polls.AnyLeave.{OffersOnly}
 use Rattle.proof_stack.proofs.Polls.OurLeave.{offering_with, offers_it}
 use Rattle.proof_stack.proofs.Polls.Ways.{can_still, leaves, under_still}
-use Rattle.proof_stack.proofs.Polls.Passes.{StepEnds, egress_ends}
+use Rattle.proof_stack.proofs.Polls.AnyTurn.{Moved, egress_through}
 use Rattle.proof_stack.proofs.Polls.Polled.{InEnds}
 use Rattle.proof_stack.proofs.Polls.Goes.{offer_goes, step_goes}
 use Rattle.proof_stack.proofs.Polls.Numbers.{IsSmall, step_small}
@@ -74,7 +74,7 @@ module _ {D : Type 0} (moves : D → Move → D → Type 0) (t : ℤ) where
 
   step_walk : (s s' : State D) (answer : Option Bool) → EgressStep moves t s answer s' → Walk s.device s'.device
   step_walk s s' answer step =
-      let ends : StepEnds moves (sending t s) s.slots step.0 = egress_ends moves (sending t s) s.slots step.0 step.1 in
+      let ends : Moved moves s.device step.0.sender.device = egress_through moves (sending t s) s.slots step.0 step.1 in
       record { all = ends.all; are = subst (λ (d : D). AreMoves moves ends.all s.device d) (sym (ap (λ (x : State D). x.device) step.2)) ends.are }
 
   steps_walk : (n : ℕ) (s s' : State D) (c c' : Bool) → Repeats (EgressStep moves t) n s c s' c' → Walk s.device s'.device

@@ -21,7 +21,7 @@ use Rattle.interface.specs.State.{State}
 use Rattle.interface.specs.TransmittedFrame.{HasWidths}
 use Rattle.interface.proofs.Kept.{IsKept}
 use Rattle.proof_stack.specs.PeerHost.Datagrams.{IsUdpAt}
-use Rattle.proof_stack.specs.PeerHost.Steps.{Reaches}
+use Rattle.lan.specs.Worlds.PollSteps.{Reaches}
 use Rattle.proof_stack.specs.Progress.Delivered.{RefusesNothing, WaitsFollowing, WentAs, as_received}
 use Rattle.proof_stack.specs.Progress.Inbox.{BringsAmong, IsExpectedAt, IsInbox, IsReady, WaitsAmong, WaitsAmongThem}
 use Rattle.proof_stack.specs.Progress.Moves.{AreMoves, is_refused}

@@ -24,10 +24,11 @@ use Rattle.iface_egress.specs.declared.egress_path.Sent.{Sent}
 use Rattle.iface_egress.specs.declared.egress_path.Sent.TheVariants as Outcome
 use Rattle.iface_egress.proofs.Changes.{changes}
 use Rattle.interface.specs.Host.{Sender}
-use Rattle.interface.specs.Serve.{Answers, ItemTurns, Leaves, ServesSlot, SendsBy, TurnsIf, is_waiting, let_through}
+use Rattle.interface.specs.Serve.{Leaves, is_waiting, let_through}
 use Rattle.interface.specs.declared.serve.Served.{Served}
 use Rattle.proof_stack.proofs.Polls.Silenced.{sought, loud}
 use Rattle.proof_stack.proofs.Polls.Asks.{plan_for}
+use Rattle.proof_stack.proofs.Parkless.{Answers, ItemTurns, SendsBy, ServesSlot, TurnsIf}
 
 -- all of it; or the silence was over, and somebody was asked for
 abbrev pub KeepsOrAsks : InnerValue → CacheValue → Type 0
@@ -35,10 +36,10 @@ KeepsOrAsks i c =
     (c ≡ i.neighbors)
     ⊎ ((other : IpAddress) × (int_lt i.instant i.neighbors.silent ≡ false) × (c ≡ requested i.neighbors other i.instant))
 
-module _ (i : InnerValue) (busy : Bool) (h : IpRepr) where
+module _ (i : InnerValue) (busy : Bool) (h : IpRepr) (alone : i.host_requirements ≡ false) where
   over : (q : NeighborQuery) → plan_of i busy h ≡ Way.Ask q → int_lt i.instant i.neighbors.silent ≡ false
   over q is =
-      loud i.neighbors (target_of q) i.instant i.neighbors (target_of q) (sought i (destination_of h) (target_of q) (plan_for i busy h q is)).unknown
+      loud i.neighbors (target_of q) i.instant i.neighbors (target_of q) (sought i (destination_of h) (target_of q) alone (plan_for i busy h q is)).unknown
 
   after : (plan : Plan) (sent : Sent) → plan_of i busy h ≡ plan → KeepsOrAsks i (host_after plan sent h i).neighbors
   after (Way.Ask q) Outcome.Waits is = inr (target_of q, over q is, refl)
@@ -53,7 +54,7 @@ module _ (i : InnerValue) (busy : Bool) (h : IpRepr) where
   after (Way.Go to) sent is = inl refl
   after (Way.Cut to) sent is = inl refl
 
-module _ {D : Type 0} (moves : D → Move → D → Type 0) (turn : Option IpAddress) (s s' : Sender D) where
+module _ {D : Type 0} (moves : D → Move → D → Type 0) (turn : Option IpAddress) (s s' : Sender D) (alone : s.inner.host_requirements ≡ false) where
   abbrev Leave : Type 0
   Leave = KeepsOrAsks s.inner s'.inner.neighbors
 
@@ -65,7 +66,7 @@ module _ {D : Type 0} (moves : D → Move → D → Type 0) (turn : Option IpAdd
   leaves_leave m p sent (inr goes) =
       subst (λ (c : CacheValue). KeepsOrAsks s.inner c)
       (sym (ap (λ (i : InnerValue). i.neighbors) (changes moves goes.0 s'.device s.inner s'.inner s.left s'.left p (is_some s.left) sent goes.2).1))
-      (after s.inner (is_some s.left) p.header (plan_of s.inner (is_some s.left) p.header) sent refl)
+      (after s.inner (is_some s.left) p.header alone (plan_of s.inner (is_some s.left) p.header) sent refl)
 
   sends_leave : (o : Option PacketValue) (item item' : Item Socket) (changed : Bool) (turned : Served)
       → SendsBy moves turn o s item changed turned s' item' → Leave

@@ -14,7 +14,7 @@ use Rattle.iface_tables.specs.Source.{source_for}
 use Rattle.iface_egress.specs.Departing.{HasSettingsOf}
 use Rattle.iface_egress.specs.Plan.{may_solicit, may_be_source_on, never_leaves}
 use Rattle.interface.specs.State.{State}
-use Rattle.proof_stack.specs.PeerHost.Steps.{Reaches}
+use Rattle.lan.specs.Worlds.PollSteps.{Reaches}
 use Rattle.proof_stack.specs.Progress.NeighborResolution.{MayAsk}
 use Rattle.proof_stack.proofs.Polls.Stays.{broadcast, foreign, steps_same}
 

@@ -37,7 +37,7 @@ still all old new are (inr refused) = let clash : true ≡ false = sym refused �
 
 module _ (t : ℤ) (given : HostValue) where
   abbrev idle : HostValue
-  idle = record given { left = None }
+  idle = record given { left = None; inner = record given.inner { host_requirements = false } }
 
   abbrev before : State Nowhere
   before = state tt idle []
@@ -54,12 +54,12 @@ module _ (t : ℤ) (given : HostValue) where
   one_poll : Polls Lonely t 1 before false after
   one_poll = (after, false, inl (looks, refl), inl (sends_nothing, refl))
 
-  refuses : (rule : Rule) (m : ℤ) → rule (at_instant t given.inner) None [] ≡ Some m → (t <ℤ m → ⊥) → IsKeptBy rule → ⊥
+  refuses : (rule : Rule) (m : ℤ) → rule (at_instant t idle.inner) None [] ≡ Some m → (t <ℤ m → ⊥) → IsKeptBy rule → ⊥
   refuses rule m is late law =
-      let use_of : IsOfUse Lonely t tt tt (rule (at_instant t given.inner) None []) = law t 1 before after (omega arith) tt one_poll in
+      let use_of : IsOfUse Lonely t tt tt (rule (at_instant t idle.inner) None []) = law t 1 before after (omega arith) tt one_poll in
       by use_of.all use_of.are use_of.why
     where
-      by : (all : List Move) → AreMoves Lonely all tt tt → Stirs all ⊎ IsEarlier t (rule (at_instant t given.inner) None []) → ⊥
+      by : (all : List Move) → AreMoves Lonely all tt tt → Stirs all ⊎ IsEarlier t (rule (at_instant t idle.inner) None []) → ⊥
       by all are (inl stirs) = still all tt tt are stirs
       by all are (inr later) = late (subst (λ (o : Option ℤ). IsEarlier t o) is later)
 
@@ -71,8 +71,8 @@ not_before t is = grind (arith)
 
 pub always_now : (rule : Rule) (h : HostValue) → ((i : InnerValue) (left : Option LeftValue) (slots : Slots) → rule i left slots ≡ Some (pos 0))
     → IsKeptBy rule → ⊥
-always_now rule h is law = refuses (pos 0) h rule (pos 0) (is (at_instant (pos 0) h.inner) None []) (not_before (pos 0)) law
+always_now rule h is law = refuses (pos 0) h rule (pos 0) (is (at_instant (pos 0) (record h.inner { host_requirements = false })) None []) (not_before (pos 0)) law
 
 pub as_polled : (rule : Rule) (h : HostValue) → ((i : InnerValue) (left : Option LeftValue) (slots : Slots) → rule i left slots ≡ Some i.instant)
     → IsKeptBy rule → ⊥
-as_polled rule h is law = refuses (pos 0) h rule (pos 0) (is (at_instant (pos 0) h.inner) None []) (not_before (pos 0)) law
+as_polled rule h is law = refuses (pos 0) h rule (pos 0) (is (at_instant (pos 0) (record h.inner { host_requirements = false })) None []) (not_before (pos 0)) law

@@ -22,9 +22,10 @@ use Rattle.iface_egress.specs.declared.socket_set.Item.{Item}
 use Rattle.iface_egress.specs.declared.socket_set.SocketStorage.{SocketStorage}
 use Rattle.interface.specs.Host.{Sender}
 use Rattle.interface.specs.Remote.{context_for}
-use Rattle.interface.specs.Serve.{is_waiting, ServesSlot}
+use Rattle.interface.specs.Serve.{is_waiting}
 use Rattle.interface.specs.declared.serve.Served.{Served}
 use Rattle.proof_stack.proofs.Polls.AnyLeave.{OffersLeaves, OffersOnly, any_leave}
+use Rattle.proof_stack.proofs.Parkless.{ServesSlot}
 
 -- the socket that offers it
 abbrev pub offering_with : PacketValue → UdpValue → Socket

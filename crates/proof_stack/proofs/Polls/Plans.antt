@@ -1,5 +1,5 @@
 -- What is known where a packet's plan is to wait.
-use Rattle.std.proofs.Common.{◌≡◌, ◌+◌, Bool, true, false, if◌then◌else◌, ℤ, pos, ◌+ℤ◌, int_lt, Option, Some, None, refl, sym, ap, ◌∙◌, arith}
+use Rattle.std.proofs.Common.{◌≡◌, Bool, true, false, if◌then◌else◌, ℤ, pos, ◌+ℤ◌, int_lt, Option, Some, None, refl, sym, ap, ◌∙◌, arith}
 use Rattle.std.specs.Prelude.{nat_le}
 use Rattle.std.proofs.lemmas.Bool.{cond_both}
 use Rattle.ip_wire.specs.AddressTests.{is_multicast}
@@ -11,20 +11,23 @@ use Rattle.ip_wire.specs.IpAddress.{IpAddress}
 use Rattle.ip_wire.specs.IpAddress.TheVariants as Address
 use Rattle.ip_wire.specs.IpRepr.{IpRepr}
 use Rattle.ip_wire.specs.Ipv4Address.{Ipv4Address}
-use Rattle.iface_tables.specs.Inner.{InnerValue, is_local_broadcast, next_hop, next_request, link_by, link_of_hop, link_on, link_address, all_stations}
+use Rattle.iface_tables.specs.Best.{at_index}
+use Rattle.iface_tables.specs.Inner.{InnerValue, asked_of, is_local_broadcast, next_hop, next_request, link_by, link_of_hop, link_on, link_address, all_stations}
 use Rattle.iface_tables.specs.Inner.{group_hardware_addr, is_known_on, is_known_hop, has_neighbor, mtu_to}
-use Rattle.iface_tables.specs.Neighbor.{lookup, is_found}
+use Rattle.iface_tables.specs.Neighbor.{CacheValue, answer_by, has_failed, is_found, lookup, missing, neighbor_index_of}
 use Rattle.iface_tables.specs.Source.{source_v4, source_v6}
 use Rattle.iface_tables.specs.declared.link.LinkAddress.{LinkAddress}
 use Rattle.iface_tables.specs.declared.link.LinkAddress.TheVariants as Link
 use Rattle.iface_tables.specs.declared.neighbor.Answer.{Answer}
 use Rattle.iface_tables.specs.declared.neighbor.Answer.TheVariants as Known
+use Rattle.iface_tables.specs.declared.neighbor.Neighbor.{Neighbor}
 use Rattle.iface_egress.specs.Plan.{total_len, can_be_cut, cut_if_idle, long_plan, solicit_v4, solicit_from, solicit_on, may_solicit, solicit_if, plan_by}
 use Rattle.iface_egress.specs.Plan.{never_leaves, plan_of}
 use Rattle.iface_egress.specs.declared.frame.NeighborQuery.TheVariants as Query
 use Rattle.iface_egress.specs.declared.plan.Plan.{Plan}
 use Rattle.iface_egress.specs.declared.plan.Plan.TheVariants as Way
 use Rattle.interface.specs.Serve.{waits_until, is_out_of_turn}
+use Rattle.interface.proofs.Known.{found_unless}
 
 abbrev pub is_to_wait : Plan → Bool
 is_to_wait Way.NoRoute = true
@@ -60,6 +63,25 @@ is_known (Link.Unknown hop) = false
 clash : {X : Type 0} → true ≡ false → X
 clash {X} e = absurd cc
 
+-- whose silence counts is nothing to who is known
+missing_unfound : (silent : Bool) → is_found (if silent then Known.RateLimited else Known.NotFound) ≡ false
+missing_unfound true = refl
+missing_unfound false = refl
+
+found_by : (o : Option Neighbor) (c d : CacheValue) (t : ℤ) → is_found (answer_by o c t) ≡ is_found (answer_by o d t)
+found_by None c d t = missing_unfound (int_lt t c.silent) ∙ sym (missing_unfound (int_lt t d.silent))
+found_by (Some e) c d t = by (int_lt t e.expires_at) where
+  by : (b : Bool) → is_found (if b then Known.Found e.hardware_addr else missing c t) ≡ is_found (if b then Known.Found e.hardware_addr else missing d t)
+  by true = refl
+  by false = missing_unfound (int_lt t c.silent) ∙ sym (missing_unfound (int_lt t d.silent))
+
+same_found : (i : InnerValue) (hop : IpAddress) → is_found (lookup i.neighbors hop i.instant) ≡ is_found (lookup (asked_of i hop) hop i.instant)
+same_found i hop =
+    let entry : Option Neighbor = at_index (neighbor_index_of i.neighbors.entries hop) i.neighbors.entries in
+    found_unless (has_failed i.neighbors hop i.instant) (answer_by entry i.neighbors i.instant)
+    ∙ found_by entry i.neighbors (asked_of i hop) i.instant
+    ∙ sym (found_unless (has_failed (asked_of i hop) hop i.instant) (answer_by entry (asked_of i hop) i.instant))
+
 module _ (i : InnerValue) (address : IpAddress) where
   by_answer : (a : Answer) (hop : IpAddress) → is_known (link_by a hop) ≡ false → is_found a ≡ false
   by_answer (Known.Found hardware) hop e = clash e
@@ -70,7 +92,7 @@ module _ (i : InnerValue) (address : IpAddress) where
   of_hop : (own : EthernetAddress) → i.hardware ≡ Hardware.Ethernet own → (o : Option IpAddress) → is_known (link_of_hop i o) ≡ false → is_known_hop i o ≡ false
   of_hop own is None e = refl
   of_hop own is (Some hop) e =
-      ap (λ (h : HardwareAddress). is_known_on h i hop) is ∙ by_answer (lookup i.neighbors hop i.instant) hop e
+      ap (λ (h : HardwareAddress). is_known_on h i hop) is ∙ same_found i hop ∙ by_answer (lookup (asked_of i hop) hop i.instant) hop e
 
   on_medium : (hardware : HardwareAddress) → i.hardware ≡ hardware → is_known (link_on hardware i address) ≡ false → has_neighbor i address ≡ false
   on_medium Hardware.Ip is = λ e. clash e

@@ -1,23 +1,24 @@
 -- A poll: a frame goes or is refused, or something changes, or nothing is due any more.
-use Rattle.std.proofs.Common.{◌≡◌, ℕ, zero, suc, ◌≤◌, Bool, true, false, ◌||◌, ◌⊎◌, inl, inr, ℤ, List, [], ◌∷◌, ◌++◌, Option, Some, None, refl, sym, ap}
+use Rattle.std.proofs.Common.{◌≡◌, ℕ, zero, suc, ◌≤◌, Bool, true, false, ◌||◌, if◌then◌else◌, ◌⊎◌, inl, inr, ℤ, List, [], ◌∷◌, ◌++◌, Option, Some, None, refl, sym, ap}
 use Rattle.std.proofs.Common.{◌∙◌, subst, arith}
 use Rattle.net_base.specs.Device.{Move, Took, Empty}
 use Rattle.iface_ingress.specs.Socket.{Socket}
 use Rattle.iface_tables.specs.Inner.{InnerValue, at_instant}
+use Rattle.iface_tables.specs.Parking.{ParkingValue}
 use Rattle.iface_egress.specs.Fragments.{LeftValue}
 use Rattle.iface_egress.specs.declared.socket_set.SocketStorage.{SocketStorage}
 use Rattle.interface.specs.Egress.{EgressStep, sending, if_changed}
 use Rattle.interface.specs.Ingress.{IngressStep}
 use Rattle.interface.specs.Instant.{poll_instant}
-use Rattle.interface.specs.Pass.{Passed}
 use Rattle.interface.specs.Polls.{Repeats, Polls, begun}
 use Rattle.interface.specs.QuietStep.{IsEarlier}
 use Rattle.interface.specs.State.{State}
+use Rattle.interface.proofs.SameHost.{egress_same_host}
 use Rattle.proof_stack.specs.Progress.Moves.{AreMoves}
-use Rattle.proof_stack.specs.Progress.OfUse.{Stirs, IsOfUse, IsDue, Acts}
+use Rattle.proof_stack.specs.Progress.OfUse.{Stirs, IsOfUse, IsDue, Acts, ActsOrDrops}
 use Rattle.proof_stack.specs.Progress.Patience.{ArePatient}
 use Rattle.proof_stack.proofs.Polls.Walks.{joined, stirs_following}
-use Rattle.proof_stack.proofs.Polls.Passes.{CalmPass, StepEnds, egress_ends, calm_instant}
+use Rattle.proof_stack.proofs.Polls.Passes.{CalmStep, StepEnds, egress_ends, calm_instant}
 
 or_true : (a b : Bool) → a ≡ true → (a || b) ≡ true
 or_true true b e = refl
@@ -85,12 +86,13 @@ module _ {D : Type 0} (moves : D → Move → D → Type 0) (t : ℤ) where
           slots = more.slots ∙ ap (λ (x : State D). x.slots) step.3;
         }
 
-  -- THE WAY OUT
+  -- THE WAY OUT, in which nothing changed
 
   record CalmPoll (s s' : State D) : Type 0 where
-    inner : s'.host.inner ≡ at_instant t s.host.inner
+    inner : s'.host.inner ≡ record (at_instant t s.host.inner) { parking = s'.host.inner.parking }
     left : s'.host.left ≡ s.host.left
     later : IsEarlier t (poll_instant s'.host.inner s'.host.left s'.slots)
+    few : s.host.inner.host_requirements ≡ false → s'.host.inner.parking ≡ s.host.inner.parking
 
   record PollEnds (s s' : State D) : Type 0 where
     all : List Move
@@ -99,22 +101,32 @@ module _ {D : Type 0} (moves : D → Move → D → Type 0) (t : ℤ) where
 
   step_ends : (s s' : State D) → ArePatient s.slots → EgressStep moves t s None s' → PollEnds s s'
   step_ends s s' patient step =
-      let e : Passed D = step.0 in
-      let ends : StepEnds moves (sending t s) s.slots e = egress_ends moves (sending t s) s.slots e step.1 in
+      let ends : StepEnds moves (sending t s) s.slots step.0 = egress_ends moves (sending t s) s.slots step.0 step.1 in
       record {
         all = ends.all;
         are = subst (λ (d : D). AreMoves moves ends.all s.device d) (sym (ap (λ (x : State D). x.device) step.2)) ends.are;
         what = both ends.all ends.what;
       }
     where
-      both : (xs : List Move) → Stirs xs ⊎ ((s.host.left ≡ None) × (ArePatient s.slots → CalmPass moves (sending t s) step.0)) → Stirs xs ⊎ CalmPoll s s'
-      both xs (inl stirs) = inl stirs
-      both xs (inr calm) = inr (record {
-        inner = ap (λ (x : State D). x.host.inner) step.2 ∙ (calm.1 patient).inner;
-        left = ap (λ (x : State D). x.host.left) step.2 ∙ (calm.1 patient).left;
+      calm_poll : s.host.left ≡ None → CalmStep moves (sending t s) step.0 → CalmPoll s s'
+      calm_poll none calm = record {
+        inner = subst (λ (x : State D). x.host.inner ≡ record (at_instant t s.host.inner) { parking = x.host.inner.parking }) (sym step.2) calm.inner;
+        left = ap (λ (x : State D). x.host.left) step.2 ∙ calm.left ∙ sym none;
         later = subst (λ (x : State D). IsEarlier t (poll_instant x.host.inner x.host.left x.slots)) (sym step.2)
-            (calm_instant moves (sending t s) step.0 calm.0 (told_none step.0.changed step.3) (calm.1 patient));
-      })
+            (calm_instant moves (sending t s) step.0 calm);
+        few = λ alone.
+            ap (λ (x : State D). x.host.inner.parking) step.2
+            ∙ ap (λ (i : InnerValue). i.parking) (egress_same_host moves (sending t s) s.slots step.0 step.1)
+            ∙ ap (λ (many : Bool). if many then step.0.sender.inner.parking else s.host.inner.parking) alone;
+      }
+
+      both : (xs : List Move) → Stirs xs ⊎ ((s.host.left ≡ None) × (ArePatient s.slots → (step.0.changed ≡ true) ⊎ CalmStep moves (sending t s) step.0))
+          → Stirs xs ⊎ CalmPoll s s'
+      both xs (inl stirs) = inl stirs
+      both xs (inr calm) = by (calm.1 patient) where
+        by : (step.0.changed ≡ true) ⊎ CalmStep moves (sending t s) step.0 → Stirs xs ⊎ CalmPoll s s'
+        by (inl is) = clash (sym is ∙ told_none step.0.changed step.3)
+        by (inr rests) = inr (calm_poll calm.0 rests)
 
   out_ends : (n : ℕ) (s s' : State D) (c : Bool) → ArePatient s.slots → Repeats (EgressStep moves t) (suc n) s c s' false → PollEnds s s'
   out_ends n s s' c patient (inl ends) = step_ends s s' patient ends.0
@@ -139,7 +151,12 @@ module _ {D : Type 0} (moves : D → Move → D → Type 0) (t : ℤ) where
       both : (xs ys : List Move) (mid : State D) → at_instant t mid.host.inner ≡ at_instant t s.host.inner → mid.host.left ≡ s.host.left
           → Stirs ys ⊎ CalmPoll mid s' → Stirs (xs ++ ys) ⊎ CalmPoll s s'
       both xs ys mid inner left (inl stirs) = inl (stirs_following xs ys stirs)
-      both xs ys mid inner left (inr calm) = inr (record { inner = calm.inner ∙ inner; left = calm.left ∙ left; later = calm.later })
+      both xs ys mid inner left (inr calm) = inr (record {
+        inner = calm.inner ∙ ap (λ (i : InnerValue). record i { parking = s'.host.inner.parking }) inner;
+        left = calm.left ∙ left;
+        later = calm.later;
+        few = λ alone. calm.few (ap (λ (i : InnerValue). i.host_requirements) inner ∙ alone) ∙ ap (λ (i : InnerValue). i.parking) inner;
+      })
 
   pub of_use : (budget : ℕ) (s s' : State D) → 1 ≤ budget → ArePatient s.slots → Polls moves t budget s false s'
       → IsOfUse moves t s.device s'.device (poll_instant s'.host.inner s'.host.left s'.slots)
@@ -151,16 +168,35 @@ module _ {D : Type 0} (moves : D → Move → D → Type 0) (t : ℤ) where
       by xs (inl stirs) = inl stirs
       by xs (inr calm) = inr calm.later
 
-  pub acts : (budget : ℕ) (s s' : State D) → 1 ≤ budget → ArePatient s.slots
+  -- WHAT IS DUE IS DONE: something goes, or a socket changes, or a packet that waited is dropped
+
+  module _ (s s' : State D) (due : IsDue t (poll_instant (at_instant t s.host.inner) s.host.left s.slots)) (calm : CalmPoll s s') where
+    never : s'.slots ≡ s.slots → s'.host.inner.parking ≡ s.host.inner.parking → ⊥
+    never same parking =
+        let inner : s'.host.inner ≡ at_instant t s.host.inner =
+        calm.inner ∙ ap (λ (k : ParkingValue). record (at_instant t s.host.inner) { parking = k }) parking in
+        due (subst (λ (ps : List (SocketStorage Socket)). IsEarlier t (poll_instant (at_instant t s.host.inner) s.host.left ps)) same
+        (subst (λ (l : Option LeftValue). IsEarlier t (poll_instant (at_instant t s.host.inner) l s'.slots)) calm.left
+        (subst (λ (i : InnerValue). IsEarlier t (poll_instant i s'.host.left s'.slots)) inner calm.later)))
+
+  pub acts_or_drops : (budget : ℕ) (s s' : State D) → 1 ≤ budget → ArePatient s.slots
+      → IsDue t (poll_instant (at_instant t s.host.inner) s.host.left s.slots) → Polls moves t budget s false s' → ActsOrDrops moves s s'
+  acts_or_drops budget s s' some patient due polls =
+      let ends : PollEnds s s' = poll_ends budget s s' some patient polls in
+      record { all = ends.all; are = ends.are; what = by ends.all ends.what }
+    where
+      by : (xs : List Move) → Stirs xs ⊎ CalmPoll s s' → Stirs xs ⊎ (s'.slots ≡ s.slots → s'.host.inner.parking ≡ s.host.inner.parking → ⊥)
+      by xs (inl stirs) = inl stirs
+      by xs (inr calm) = inr (never s s' due calm)
+
+  -- without host requirements none waits so
+  pub acts : (budget : ℕ) (s s' : State D) → s.host.inner.host_requirements ≡ false → 1 ≤ budget → ArePatient s.slots
       → IsDue t (poll_instant (at_instant t s.host.inner) s.host.left s.slots) → Polls moves t budget s false s'
       → Acts moves s.device s'.device s.slots s'.slots
-  acts budget s s' some patient due polls =
+  acts budget s s' alone some patient due polls =
       let ends : PollEnds s s' = poll_ends budget s s' some patient polls in
       record { all = ends.all; are = ends.are; what = by ends.all ends.what }
     where
       by : (xs : List Move) → Stirs xs ⊎ CalmPoll s s' → Stirs xs ⊎ (s'.slots ≡ s.slots → ⊥)
       by xs (inl stirs) = inl stirs
-      by xs (inr calm) = inr
-          (λ same. due (subst (λ (ps : List (SocketStorage Socket)). IsEarlier t (poll_instant (at_instant t s.host.inner) s.host.left ps)) same
-          (subst (λ (l : Option LeftValue). IsEarlier t (poll_instant (at_instant t s.host.inner) l s'.slots)) calm.left
-          (subst (λ (i : InnerValue). IsEarlier t (poll_instant i s'.host.left s'.slots)) calm.inner calm.later))))
+      by xs (inr calm) = inr (λ same. never s s' due calm same (calm.few alone))

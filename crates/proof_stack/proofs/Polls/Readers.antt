@@ -30,7 +30,7 @@ use Rattle.interface.proofs.Arrives.{arrives}
 use Rattle.interface.proofs.Offered.{writes, carried}
 use Rattle.proof_stack.specs.Progress.Queued.{CanGo, with_ident, ports_of, FindsDatagram}
 use Rattle.proof_stack.specs.Progress.Segments.{CanTransmit}
-use Rattle.proof_stack.proofs.Polls.Ways.{goes_by_plan, leave_still, leaves}
+use Rattle.proof_stack.proofs.Polls.Ways.{goes_by_plan, leave_still, leaves, with_ident_same}
 
 payload_widths : (x : PayloadValue) → HasWidths x → IsPayload x
 payload_widths (ControlV4 message bytes) widths = widths
@@ -104,7 +104,7 @@ from (Some source) settings destination size h = between source destination (8 +
 module _ (i : InnerValue) (ident : ℕ) (to : HardwareAddress) (p : PacketValue) (reader : Reader) (wide : Taken.HasWidths (with_ident i ident))
     (can : CanTransmit i to p) (formed : IsWellFormed p) (reads : CanRead i to reader) where
   planned : plan_of (with_ident i ident) false p.header ≡ Way.Go to
-  planned = goes_by_plan (with_ident i ident) false to p (leave_still i (with_ident i ident) to p refl can)
+  planned = goes_by_plan (with_ident i ident) false to p (leave_still i (with_ident i ident) to p (with_ident_same i ident) can)
 
   then_reads : CanRead (with_ident i ident) to reader
   then_reads = record { medium = reads.medium; sealed = reads.sealed }

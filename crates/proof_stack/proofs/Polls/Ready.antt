@@ -26,7 +26,7 @@ use Rattle.interface.specs.QuietPoll.{HasNoFrame}
 use Rattle.interface.specs.State.{State}
 use Rattle.interface.specs.TransmittedFrame.{CanRead, HasWidths}
 use Rattle.proof_stack.specs.PeerHost.Datagrams.{IsUdpAt}
-use Rattle.proof_stack.specs.PeerHost.Steps.{Reaches}
+use Rattle.lan.specs.Worlds.PollSteps.{Reaches}
 use Rattle.proof_stack.specs.Progress.Delivered.{RefusesNothing, as_received, reader_of}
 use Rattle.proof_stack.specs.Progress.Inbox.{BringsAmong, IsExpectedAt, IsInbox, WaitsAmongThem}
 use Rattle.proof_stack.specs.Progress.Queued.{CanGo, HasTurn, HasWay, frame_under, ports_of}

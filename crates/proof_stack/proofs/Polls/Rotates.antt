@@ -1,5 +1,5 @@
 -- Steps of the egress path, one after the other, are rounds of questions: so each neighbour that is waited for has its turn.
-use Rattle.std.proofs.Common.{◌≡◌, ℕ, suc, ◌<◌, ◌≤◌, Bool, true, false, ◌⊎◌, inl, inr, ℤ, pos, ◌+ℤ◌, ◌≤ℤ◌, not, List, [], ◌∷◌, length, Option, Some, None}
+use Rattle.std.proofs.Common.{◌≡◌, ℕ, suc, ◌<◌, ◌≤◌, Bool, true, false, ◌⊎◌, inl, inr, ℤ, pos, ◌+ℤ◌, ◌≤ℤ◌, not, ◌&&◌, List, [], ◌∷◌, length, Option, Some, None}
 use Rattle.std.proofs.Common.{refl, sym, ap, ◌∙◌, subst, arith}
 use Rattle.std.specs.Prelude.{nat_lt}
 use Rattle.std.specs.List.{AllByRecursion}
@@ -8,7 +8,7 @@ use Rattle.net_base.specs.Device.{Move}
 use Rattle.ip_wire.specs.AddressTests.{is_same_address}
 use Rattle.ip_wire.specs.IpAddress.{IpAddress}
 use Rattle.iface_tables.specs.Inner.{InnerValue}
-use Rattle.iface_tables.specs.Neighbor.{CacheValue, answer_of, is_search_for, last_request, search_room, silent_time}
+use Rattle.iface_tables.specs.Neighbor.{CacheValue, answer_of, is_search_for, last_request, silent_time}
 use Rattle.iface_tables.specs.declared.neighbor.Search.{Search}
 use Rattle.iface_tables.proofs.PathMtu.{itself}
 use Rattle.iface_tables.specs.Best.{first_that}
@@ -22,9 +22,10 @@ use Rattle.proof_stack.proofs.Polls.Searches.{WaitsAt, asked_last, next_offset, 
 use Rattle.proof_stack.proofs.Polls.Silenced.{counted}
 use Rattle.proof_stack.proofs.Polls.Waited.{step_asks_in_turn}
 
-pub has_room : (b : Bool) → not b ≡ false → b ≡ true
-has_room true is = refl
-has_room false is = absurd (let clash : true ≡ false = is in cc)
+pub has_room : (many b : Bool) → many ≡ false → (not many && not b) ≡ false → b ≡ true
+has_room many true alone is = refl
+has_room true false alone is = absurd (let clash : true ≡ false = alone in cc)
+has_room false false alone is = absurd (let clash : true ≡ false = is in cc)
 
 same_instant : (m : ℤ) → m ≤ℤ m
 same_instant m = grind (arith, ints)
@@ -52,7 +53,7 @@ module _ {D : Type 0} (moves : D → Move → D → Type 0) where
 
   -- BETWEEN TWO STEPS
 
-  module _ (x : OutStep moves) (hop : IpAddress) (asks : AsksThen moves x hop) (room : nat_lt (length (known_at x).searches) search_room ≡ true) where
+  module _ (x : OutStep moves) (hop : IpAddress) (asks : AsksThen moves x hop) (room : nat_lt (length (known_at x).searches) (known_at x).search_room ≡ true) where
     abbrev left : CacheValue
     left = x.new.host.inner.neighbors
 
@@ -123,8 +124,8 @@ module _ {D : Type 0} (moves : D → Move → D → Type 0) where
       asks : AsksThen moves x a.hop
       asks = step_asks_in_turn moves hops x a waited.freely turn
 
-      room : nat_lt (length (known_at x).searches) search_room ≡ true
-      room = has_room (nat_lt (length (known_at x).searches) search_room) waited.freely.room
+      room : nat_lt (length (known_at x).searches) (known_at x).search_room ≡ true
+      room = has_room (host_in moves x).host_requirements (nat_lt (length (known_at x).searches) (known_at x).search_room) waited.freely.alone waited.freely.room
 
       who : WaitsAt now (WaitsOn now hops) x.old.slots a
       who = next_offset now (WaitsOn now hops) x.old.slots a waited.freely.waiting turn

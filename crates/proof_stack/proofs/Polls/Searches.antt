@@ -1,7 +1,7 @@
 -- Who of those that sockets wait for is asked for next, and what a question leaves of the others.
 use Rattle.std.proofs.Common.{◌≡◌, ℕ, zero, suc, Bool, true, false, cond, if◌then◌else◌, ℤ, List, [], ◌∷◌, ◌++◌, length, get_or}
 use Rattle.std.proofs.Common.{Option, Some, None, refl, sym, ap, ◌∙◌, subst}
-use Rattle.std.specs.Prelude.{nat_lt, find, position, slice_get, remove}
+use Rattle.std.specs.Prelude.{nat_lt, find, position, slice_get, slice_set, remove}
 use Rattle.std.specs.List.{AllByRecursion, filter_map, cons_option}
 use Rattle.std.specs.Option.{option_or}
 use Rattle.std.proofs.lemmas.List.Folds.{find_at, find_past, find-append}
@@ -13,7 +13,7 @@ use Rattle.ip_wire.specs.IpAddress.{IpAddress}
 use Rattle.iface_tables.specs.Best.{at_index, first_best, is_unbeaten}
 use Rattle.iface_tables.specs.Inner.{InnerValue, awaited_hop}
 use Rattle.iface_tables.specs.Neighbor.{CacheValue, answer_of, first_search, has_failed, has_failed_by, is_search_for, last_request, oldest_search, one_more, requested}
-use Rattle.iface_tables.specs.Neighbor.{search_of, search_index, search_room, searched_at}
+use Rattle.iface_tables.specs.Neighbor.{search_of, search_index, searched_at}
 use Rattle.iface_tables.specs.declared.neighbor.Search.{Search}
 use Rattle.iface_tables.proofs.BestOf.{index_of_first_best-is}
 use Rattle.iface_tables.proofs.PathMtu.{at_first}
@@ -133,8 +133,8 @@ module _ (c : CacheValue) (x h : IpAddress) (instant : ℤ) (apart : is_same_add
   not_theirs : (s : Search) → ours s ≡ true → theirs s ≡ false
   not_theirs s is = subst (λ (a : IpAddress). is_same_address a h ≡ false) (sym (same_address s.protocol_addr x is)) apart
 
-  added : nat_lt (length c.searches) search_room ≡ true
-      → find theirs (if nat_lt (length c.searches) search_room then c.searches ++ first_search x instant ∷ []
+  added : nat_lt (length c.searches) c.search_room ≡ true
+      → find theirs (if nat_lt (length c.searches) c.search_room then c.searches ++ first_search x instant ∷ []
       else remove c.searches (oldest_search c.searches) ++ first_search x instant ∷ []) ≡ find theirs c.searches
   added room =
       ap (λ (b : Bool). find theirs (if b then c.searches ++ first_search x instant ∷ []
@@ -147,25 +147,30 @@ module _ (c : CacheValue) (x h : IpAddress) (instant : ℤ) (apart : is_same_add
       by None = refl
       by (Some s) = refl
 
-  kept : (o : Option ℕ) (s : Option Search) → nat_lt (length c.searches) search_room ≡ true → position ours c.searches ≡ o → at_index o c.searches ≡ s
-      → find theirs (searched_at o s c.searches x instant) ≡ find theirs c.searches
-  kept (Some at) (Some s) room is there =
+  -- a question for one that is asked for already
+  pub asked_again : (at : ℕ) (s : Search) → position ours c.searches ≡ Some at → at_index (Some at) c.searches ≡ Some s
+      → find theirs (slice_set c.searches at (one_more s instant)) ≡ find theirs c.searches
+  asked_again at s is there =
       let here : ours (get_or c.searches at s) ≡ true = (position-Some ours c.searches at s is).1 in
       let this : get_or c.searches at s ≡ s = get_or_from_slice_get c.searches at s s there in
       find_past theirs c.searches at (one_more s instant) s (not_theirs (get_or c.searches at s) here)
       (not_theirs (one_more s instant) (subst (λ (q : Search). ours q ≡ true) this here))
+
+  kept : (o : Option ℕ) (s : Option Search) → nat_lt (length c.searches) c.search_room ≡ true → position ours c.searches ≡ o → at_index o c.searches ≡ s
+      → find theirs (searched_at c.search_room o s c.searches x instant) ≡ find theirs c.searches
+  kept (Some at) (Some s) room is there = asked_again at s is there
   kept (Some at) None room is there = added room
   kept None s room is there = added room
 
   -- a question for the one leaves what is known of the other, where there is room
-  pub others_stay : nat_lt (length c.searches) search_room ≡ true → last_request (requested c x instant) h ≡ last_request c h
+  pub others_stay : nat_lt (length c.searches) c.search_room ≡ true → last_request (requested c x instant) h ≡ last_request c h
   others_stay room =
       ap answer_of (at_first theirs (requested c x instant).searches
       ∙ kept (search_index c.searches x) (search_of c.searches x) room refl refl
       ∙ sym (at_first theirs c.searches))
 
   -- nor does the other fail by it
-  pub others_fail_so : nat_lt (length c.searches) search_room ≡ true → (now : ℤ) → has_failed (requested c x instant) h now ≡ has_failed c h now
+  pub others_fail_so : nat_lt (length c.searches) c.search_room ≡ true → (now : ℤ) → has_failed (requested c x instant) h now ≡ has_failed c h now
   others_fail_so room now =
       ap (λ (o : Option Search). has_failed_by o now) (at_first theirs (requested c x instant).searches
       ∙ kept (search_index c.searches x) (search_of c.searches x) room refl refl

@@ -34,7 +34,7 @@ use Rattle.interface.proofs.Keep.{in_step_keeps}
 use Rattle.interface.proofs.Kept.{IsKept, RunsAt}
 use Rattle.proof_stack.specs.PeerHost.SocketRun.{Event}
 use Rattle.proof_stack.specs.PeerHost.ReachedSocket.{after_all}
-use Rattle.proof_stack.specs.PeerHost.Steps.{Reaches}
+use Rattle.lan.specs.Worlds.PollSteps.{Reaches}
 use Rattle.proof_stack.specs.PeerHost.Streams.{AreOfPoll, IsTcpAt}
 use Rattle.proof_stack.specs.Progress.Delivered.{RefusesNothing, reader_of}
 use Rattle.proof_stack.specs.Progress.Inbox.{BringsAmong, WaitsAmong}

@@ -18,7 +18,7 @@ use Rattle.iface_ingress.specs.Packet.{PacketValue}
 use Rattle.iface_ingress.specs.Socket.{Socket}
 use Rattle.iface_tables.specs.Inner as Tables
 use Rattle.iface_tables.specs.Inner.{InnerValue, at_instant, awaited_hop, is_awaited}
-use Rattle.iface_tables.specs.Neighbor.{CacheValue, last_request, search_room, silent_time}
+use Rattle.iface_tables.specs.Neighbor.{CacheValue, last_request, silent_time}
 use Rattle.iface_tables.specs.declared.neighbor.Answer.{Answer}
 use Rattle.iface_tables.proofs.PathMtu.{itself}
 use Rattle.iface_egress.specs.declared.socket_meta.Meta.{Meta}
@@ -27,6 +27,7 @@ use Rattle.iface_egress.specs.declared.socket_set.SocketStorage.{SocketStorage}
 use Rattle.interface.specs.Awaited.{awaited_by, awaited_in, awaited_of, hop_of, next_awaited, turn_of}
 use Rattle.interface.specs.declared.awaited.Awaited.{Awaited}
 use Rattle.interface.specs.Serve.{is_other}
+use Rattle.interface.proofs.Alone.{turn_alone}
 use Rattle.proof_stack.specs.Progress.NeighborResolution.{AsksFirst, HasToAsk}
 use Rattle.proof_stack.specs.Progress.Delivered.{IsExpected, WaitsFollowing, as_received}
 use Rattle.proof_stack.specs.Progress.Exchanged.{Exchange, IsMarkFor, IsStillFirst}
@@ -86,7 +87,7 @@ module _ {D : Type 0} (moves : D → Move → D → Type 0) (hops : List IpAddre
   mark = some_mark waits.first.meta.waiting to waits.waits waits.first.mark
 
   link : IsSought now to hop
-  link = sought now to hop waits.needs.unknown
+  link = sought now to hop waits.freely.alone waits.needs.unknown
 
   abbrev awaited : Awaited
   awaited = record { hop = hop; last_request = last_request known hop; since = mark.0.since }
@@ -123,7 +124,8 @@ module _ {D : Type 0} (moves : D → Move → D → Type 0) (hops : List IpAddre
     -- were it the turn of another, a question for this hop would have gone less than a second ago
     asked_lately : is_same_address next.0.hop hop ≡ false → last_request known hop ≡ Some (x.instant +ℤ pos silent_time)
     asked_lately apart =
-        sym (others_stay known next.0.hop hop x.instant apart (has_room (nat_lt (length known.searches) search_room) waits.freely.room))
+        sym (others_stay known next.0.hop hop x.instant apart
+        (has_room now.host_requirements (nat_lt (length known.searches) known.search_room) waits.freely.alone waits.freely.room))
         ∙ ap (λ (c : CacheValue). last_request c hop) (sym theirs.counts ∙ asks.counts) ∙ counted known hop x.instant
 
     whose_turn : (b : Bool) → is_same_address next.0.hop hop ≡ b → next.0.hop ≡ hop
@@ -132,7 +134,7 @@ module _ {D : Type 0} (moves : D → Move → D → Type 0) (hops : List IpAddre
         absurd (never_over x.instant (waits.over (x.instant +ℤ pos silent_time) (asked_lately apart)))
 
     ours : turn_of now x.old.slots ≡ Some hop
-    ours = ap hop_of next.1 ∙ ap (λ (h : IpAddress). Some h) (whose_turn (is_same_address next.0.hop hop) refl)
+    ours = turn_alone now x.old.slots waits.freely.alone ∙ ap hop_of next.1 ∙ ap (λ (h : IpAddress). Some h) (whose_turn (is_same_address next.0.hop hop) refl)
 
     pub asks_first : AsksFirst now x.old.slots n waits.first.value hop to
     asks_first = record {

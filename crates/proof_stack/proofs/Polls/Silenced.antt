@@ -1,5 +1,5 @@
 -- What is known of a neighbour after a question for it: it isn't known, and for a second nobody is asked for.
-use Rattle.std.proofs.Common.{◌≡◌, ℕ, ◌+◌, ◌<◌, Bool, true, false, not, ◌&&◌, if◌then◌else◌, cond, ℤ, pos, ◌+ℤ◌, int_lt, List, [], ◌∷◌, ◌++◌, length}
+use Rattle.std.proofs.Common.{◌≡◌, ℕ, Bool, true, false, not, ◌&&◌, if◌then◌else◌, cond, ℤ, pos, ◌+ℤ◌, int_lt, List, [], ◌∷◌, ◌++◌, length}
 use Rattle.std.proofs.Common.{Option, Some, None, refl, sym, ap, ◌∙◌, subst, arith}
 use Rattle.std.specs.Prelude.{nat_lt, find, position, remove}
 use Rattle.ip_wire.specs.AddressTests.{is_multicast}
@@ -13,7 +13,7 @@ use Rattle.iface_tables.specs.Inner.{group_hardware_addr}
 use Rattle.iface_tables.specs.Neighbor.{CacheValue, lookup, missing, answer_by, neighbor_index_of, unless_failed, has_failed, has_failed_by, is_failed}
 use Rattle.iface_tables.specs.Neighbor.{is_found}
 use Rattle.iface_tables.specs.Neighbor.{answer_of, first_search, is_search_for, last_request, most_requests, oldest_search}
-use Rattle.iface_tables.specs.Neighbor.{one_more, requested, search_room, searched_at, silent_time}
+use Rattle.iface_tables.specs.Neighbor.{one_more, requested, searched_at, silent_time}
 use Rattle.iface_tables.specs.declared.link.LinkAddress.{LinkAddress}
 use Rattle.iface_tables.specs.declared.link.LinkAddress.TheVariants as Link
 use Rattle.iface_tables.specs.declared.neighbor.Answer.{Answer}
@@ -22,6 +22,7 @@ use Rattle.iface_tables.specs.declared.neighbor.Neighbor.{Neighbor}
 use Rattle.iface_tables.specs.declared.neighbor.Search.{Search}
 use Rattle.iface_tables.proofs.PathMtu as Paths
 use Rattle.iface_tables.proofs.PathMtu.{at_first, find_last, itself, none_found, none_removed}
+use Rattle.interface.proofs.Alone.{asked_alone}
 use Rattle.proof_stack.proofs.Polls.Answered.{lives}
 
 -- SEARCHES
@@ -62,9 +63,9 @@ module _ (c : CacheValue) (hop : IpAddress) (instant : ℤ) where
     when : new.answer_by ≡ instant +ℤ pos silent_time
 
   added : find ours c.searches ≡ None
-      → Searched (if nat_lt (length c.searches) search_room then c.searches ++ first_search hop instant ∷ []
+      → Searched (if nat_lt (length c.searches) c.search_room then c.searches ++ first_search hop instant ∷ []
       else remove c.searches (oldest_search c.searches) ++ first_search hop instant ∷ [])
-  added none = by (nat_lt (length c.searches) search_room) where
+  added none = by (nat_lt (length c.searches) c.search_room) where
     by : (b : Bool) → Searched (if b then c.searches ++ first_search hop instant ∷ [] else remove c.searches (oldest_search c.searches) ++ first_search hop instant ∷ [])
     by true = record { new = first_search hop instant; found = find_last ours c.searches (first_search hop instant) none (itself hop); when = refl }
     by false = record {
@@ -74,7 +75,7 @@ module _ (c : CacheValue) (hop : IpAddress) (instant : ℤ) where
       when = refl;
     }
 
-  searched : (o : Option ℕ) (s : Option Search) → position ours c.searches ≡ o → at_index o c.searches ≡ s → Searched (searched_at o s c.searches hop instant)
+  searched : (o : Option ℕ) (s : Option Search) → position ours c.searches ≡ o → at_index o c.searches ≡ s → Searched (searched_at c.search_room o s c.searches hop instant)
   searched (Some at) (Some s) is there = record {
     new = one_more s instant;
     found = Paths.is_found ours c.searches at (one_more s instant) is
@@ -156,7 +157,7 @@ module _ (c : CacheValue) (hop : IpAddress) (instant : ℤ) where
 
 -- LINKS
 
-not_found : (a : Answer) (via hop : IpAddress) → link_by a via ≡ Link.Unknown hop → (a ≡ Known.NotFound) × (via ≡ hop)
+pub not_found : (a : Answer) (via hop : IpAddress) → link_by a via ≡ Link.Unknown hop → (a ≡ Known.NotFound) × (via ≡ hop)
 not_found (Known.Found hardware) via hop is = absurd (let never : Link.Known hardware ≡ Link.Unknown hop = is in cc)
 not_found Known.RateLimited via hop is = absurd (let never : Link.Silent ≡ Link.Unknown hop = is in cc)
 not_found Known.Unanswered via hop is = absurd (let never : Link.Unanswered ≡ Link.Unknown hop = is in cc)
@@ -171,7 +172,7 @@ pub record IsSought (i : InnerValue) (to hop : IpAddress) : Type 0 where
   pub hop_is : next_hop i to ≡ Some hop
   pub unknown : lookup i.neighbors hop i.instant ≡ Known.NotFound
 
-module _ (i : InnerValue) (to hop : IpAddress) where
+module _ (i : InnerValue) (to hop : IpAddress) (alone : i.host_requirements ≡ false) where
   abbrev everyone : LinkAddress
   everyone = Link.Known (Hardware.Ethernet all_stations)
 
@@ -182,7 +183,8 @@ module _ (i : InnerValue) (to hop : IpAddress) where
       → (next_hop i to ≡ Some hop) × (lookup i.neighbors hop i.instant ≡ Known.NotFound)
   of_hop None is unknown = absurd (let never : Link.NoRoute ≡ Link.Unknown hop = unknown in cc)
   of_hop (Some via) is unknown =
-      let both : (lookup i.neighbors via i.instant ≡ Known.NotFound) × (via ≡ hop) = not_found (lookup i.neighbors via i.instant) via hop unknown in (
+      let both : (lookup i.neighbors via i.instant ≡ Known.NotFound) × (via ≡ hop) = not_found (lookup i.neighbors via i.instant) via hop
+      (ap (λ (c : CacheValue). link_by (lookup c via i.instant) via) (sym (asked_alone i via alone)) ∙ unknown) in (
         is ∙ ap (λ (x : IpAddress). Some x) both.1,
         subst (λ (x : IpAddress). lookup i.neighbors x i.instant ≡ Known.NotFound) both.1 both.0,
       )
@@ -211,10 +213,11 @@ module _ (i : InnerValue) (to hop : IpAddress) where
       ∙ ap (λ (all : Bool). if all then everyone else if is_multicast to then the_group else link_of_hop j (next_hop i to)) is.one
       ∙ ap (λ (group : Bool). if group then the_group else link_of_hop j (next_hop i to)) is.group
       ∙ ap (link_of_hop j) is.hop_is
+      ∙ ap (λ (c : CacheValue). link_by (lookup c hop i.instant) hop) (asked_alone j hop alone)
       ∙ ap (λ (a : Answer). link_by a hop) (silent_lookup i.neighbors hop i.instant is.unknown)
 
 -- after a question nobody else is asked for
-pub nobody_sought : (i : InnerValue) (hop other to : IpAddress) (c : CacheValue) → i.neighbors ≡ requested c hop i.instant
+pub nobody_sought : (i : InnerValue) (hop other to : IpAddress) (c : CacheValue) → i.host_requirements ≡ false → i.neighbors ≡ requested c hop i.instant
     → link_address i to ≡ Link.Unknown other → ⊥
-nobody_sought i hop other to c is unknown =
-    no_lookup c hop i.instant other (subst (λ (k : CacheValue). lookup k other i.instant ≡ Known.NotFound) is (sought i to other unknown).unknown)
+nobody_sought i hop other to c alone is unknown =
+    no_lookup c hop i.instant other (subst (λ (k : CacheValue). lookup k other i.instant ≡ Known.NotFound) is (sought i to other alone unknown).unknown)

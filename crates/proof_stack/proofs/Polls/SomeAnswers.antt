@@ -120,4 +120,4 @@ polls : Polls PortMove now 1 awaiting true sent
 polls = (following, true, inr (true, following, step_in, (refl, refl)), inr (true, sent, step_out, (refl, refl)))
 
 pub answers : PollsAt (listening_b (syn_frame ∷ [])) now 1 true (answered_b [])
-answers = record { port = port_of (listening_b (syn_frame ∷ [])); port_after = sent.device; before = refl; after = refl; polls = polls; none_denied = refl }
+answers = record { port = port_of (listening_b (syn_frame ∷ [])); port_after = sent.device; before = refl; after = refl; polls = polls; none_denied = λ alone. refl }

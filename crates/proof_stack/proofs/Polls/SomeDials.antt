@@ -74,4 +74,4 @@ polls : Polls PortMove now 1 old true sent
 polls = (begun_a, false, inl (looks, refl), inr (true, sent, step_out, (refl, refl)))
 
 pub dials : PollsAt calling_a now 1 true (dialed_a [])
-dials = record { port = port_of calling_a; port_after = sent.device; before = refl; after = refl; polls = polls; none_denied = refl }
+dials = record { port = port_of calling_a; port_after = sent.device; before = refl; after = refl; polls = polls; none_denied = λ alone. refl }

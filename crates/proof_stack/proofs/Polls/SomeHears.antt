@@ -116,4 +116,4 @@ polls : Polls PortMove now 1 awaiting true rested
 polls = (following, true, inr (true, following, step_in, (refl, refl)), inl (rests, refl))
 
 pub hears : PollsAt (open_b (push_frame ∷ [])) now 1 true heard_b
-hears = record { port = port_of (open_b (push_frame ∷ [])); port_after = following.device; before = refl; after = refl; polls = polls; none_denied = refl }
+hears = record { port = port_of (open_b (push_frame ∷ [])); port_after = following.device; before = refl; after = refl; polls = polls; none_denied = λ alone. refl }

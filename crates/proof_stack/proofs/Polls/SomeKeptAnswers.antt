@@ -119,4 +119,4 @@ polls : Polls PortMove late 1 awaiting true rested
 polls = (following, true, inr (true, following, step_in, (refl, refl)), inl (rests, refl))
 
 pub answers : PollsAt (acknowledging_b (keep_alive_frame ∷ [])) late 1 true late_b
-answers = record { port = port_of (acknowledging_b (keep_alive_frame ∷ [])); port_after = following.device; before = refl; after = refl; polls = polls; none_denied = refl }
+answers = record { port = port_of (acknowledging_b (keep_alive_frame ∷ [])); port_after = following.device; before = refl; after = refl; polls = polls; none_denied = λ alone. refl }

@@ -74,4 +74,4 @@ polls : Polls PortMove late 1 old true sent
 polls = (begun_first, false, inl (looks, refl), inr (true, sent, step_out, (refl, refl)))
 
 pub asks : PollsAt kept_through_a late 1 true (kept_asking_a [])
-asks = record { port = port_of kept_through_a; port_after = sent.device; before = refl; after = refl; polls = polls; none_denied = refl }
+asks = record { port = port_of kept_through_a; port_after = sent.device; before = refl; after = refl; polls = polls; none_denied = λ alone. refl }

@@ -36,7 +36,7 @@ abbrev pub goes_alive : Entry
 goes_alive = entry (E.Poll A late 1) (To.Poll true) (counts 3 2 0 0)
 
 pub alive_goes : Leads fourth_round (both kept_through_a (acknowledging_b [])) goes_alive (both (kept_asking_a []) (acknowledging_b []))
-alive_goes = record { allowed = refl; counted = refl; happens = record { acts = (true, asks, refl, refl); rests = refl } }
+alive_goes = record { allowed = refl; counted = refl; alone = (refl, refl); happens = record { acts = (true, asks, refl, refl); rests = refl } }
 
 abbrev pub brought_alive : Entry
 brought_alive = entry (E.Deliver A 3 []) To.Done (counts 4 2 0 0)
@@ -46,14 +46,14 @@ alive_came = ap (λ (frame : List ℕ). both (kept_asking_a []) (acknowledging_b
 
 pub alive_comes : Leads (goes_alive ∷ fourth_round) (both (kept_asking_a []) (acknowledging_b [])) brought_alive
     (both (kept_asking_a []) (acknowledging_b (keep_alive_frame ∷ [])))
-alive_comes = record { allowed = refl; counted = refl; happens = (refl, refl, alive_came) }
+alive_comes = record { allowed = refl; counted = refl; alone = (refl, refl); happens = (refl, refl, alive_came) }
 
 abbrev pub answers_so : Entry
 answers_so = entry (E.Poll B late 1) (To.Poll true) (counts 4 2 0 1)
 
 pub b_answers : Leads (brought_alive ∷ goes_alive ∷ fourth_round) (both (kept_asking_a []) (acknowledging_b (keep_alive_frame ∷ []))) answers_so
     (both (kept_asking_a []) late_b)
-b_answers = record { allowed = refl; counted = refl; happens = record { acts = (true, answers, refl, refl); rests = refl } }
+b_answers = record { allowed = refl; counted = refl; alone = (refl, refl); happens = record { acts = (true, answers, refl, refl); rests = refl } }
 
 abbrev pub brought_answer : Entry
 brought_answer = entry (E.Deliver B 2 []) To.Done (counts 4 3 0 0)
@@ -62,7 +62,7 @@ answer_came : both late_a late_b ≡ both (kept_asking_a ((answer_frame ++ []) �
 answer_came = ap (λ (frame : List ℕ). both (kept_asking_a (frame ∷ [])) late_b) (sym (append-nil answer_frame))
 
 pub answer_arrives : Leads (answers_so ∷ brought_alive ∷ goes_alive ∷ fourth_round) (both (kept_asking_a []) late_b) brought_answer (both late_a late_b)
-answer_arrives = record { allowed = refl; counted = refl; happens = (refl, refl, answer_came) }
+answer_arrives = record { allowed = refl; counted = refl; alone = (refl, refl); happens = (refl, refl, answer_came) }
 
 pub fifth_still : StillRun starts fifth_round (both late_a late_b)
 fifth_still = (both (kept_asking_a []) late_b, answered, answer_arrives, both_stay late_a late_b a_at_late b_at_late) where

@@ -24,7 +24,7 @@ abbrev pub goes_text : Entry
 goes_text = entry (E.Poll A (pos 0) 1) (To.Poll true) (counts 2 1 0 0)
 
 pub text_goes : Leads told_to_keep (both kept_a (open_b [])) goes_text (both kept_written_a (open_b []))
-text_goes = record { allowed = refl; counted = refl; happens = record { acts = (true, may_send_data, refl, refl); rests = refl } }
+text_goes = record { allowed = refl; counted = refl; alone = (refl, refl); happens = record { acts = (true, may_send_data, refl, refl); rests = refl } }
 
 abbrev pub brought_text : Entry
 brought_text = entry (E.Deliver A 2 []) To.Done (counts 3 1 0 0)
@@ -33,14 +33,14 @@ text_came : both kept_written_a (open_b (push_frame ∷ [])) ≡ both kept_writt
 text_came = ap (λ (frame : List ℕ). both kept_written_a (open_b (frame ∷ []))) (sym (append-nil push_frame))
 
 pub text_comes : Leads (goes_text ∷ told_to_keep) (both kept_written_a (open_b [])) brought_text (both kept_written_a (open_b (push_frame ∷ [])))
-text_comes = record { allowed = refl; counted = refl; happens = (refl, refl, text_came) }
+text_comes = record { allowed = refl; counted = refl; alone = (refl, refl); happens = (refl, refl, text_came) }
 
 abbrev pub read_text : Entry
 read_text = entry (E.Poll B (pos 0) 1) (To.Poll true) (counts 3 1 0 1)
 
 pub text_is_read : Leads (brought_text ∷ goes_text ∷ told_to_keep) (both kept_written_a (open_b (push_frame ∷ []))) read_text (both kept_written_a heard_b)
 text_is_read =
-    record { allowed = few (begins_datagram Medium.Ip) syn_ack_frame; counted = refl; happens = record { acts = (true, hears, refl, refl); rests = refl } }
+    record { allowed = few (begins_datagram Medium.Ip) syn_ack_frame; counted = refl; alone = (refl, refl); happens = record { acts = (true, hears, refl, refl); rests = refl } }
 
 pub first_still : StillRun starts first_round (both kept_written_a heard_b)
 first_still =

@@ -21,7 +21,7 @@ abbrev pub learned_so : Entry
 learned_so = entry (E.Poll A later 1) (To.Poll true) (counts 3 2 1 0)
 
 pub a_learns : Leads third_round (both (kept_waiting_a (last_frame ∷ [])) through_b) learned_so (both kept_through_a through_b)
-a_learns = record { allowed = refl; counted = refl; happens = record { acts = (true, learns, refl, refl); rests = refl } }
+a_learns = record { allowed = refl; counted = refl; alone = (refl, refl); happens = record { acts = (true, learns, refl, refl); rests = refl } }
 
 abbrev pub rests_so : Entry
 rests_so = entry (E.Poll B later 1) (To.Poll false) (counts 3 2 0 0)
@@ -31,7 +31,7 @@ a_stays : kept_through_a ≡ kept_through_a
 a_stays = refl
 
 pub b_rests : Leads (learned_so ∷ third_round) (both kept_through_a through_b) rests_so (both kept_through_a (acknowledging_b []))
-b_rests = record { allowed = refl; counted = refl; happens = record { acts = (false, quiet_b, refl, refl); rests = a_stays } }
+b_rests = record { allowed = refl; counted = refl; alone = (refl, refl); happens = record { acts = (false, quiet_b, refl, refl); rests = a_stays } }
 
 abbrev pub asked_a_then : Entry
 asked_a_then = entry (E.PollAt A later) (To.At (Some late)) (counts 3 2 0 0)
@@ -39,7 +39,7 @@ asked_a_then = entry (E.PollAt A later) (To.At (Some late)) (counts 3 2 0 0)
 pub a_is_asked_then : Leads (rests_so ∷ learned_so ∷ third_round) (both kept_through_a (acknowledging_b [])) asked_a_then
     (both kept_through_a (acknowledging_b []))
 unfolding v4_number mtu_towards end_towards
-a_is_asked_then = record { allowed = refl; counted = refl; happens = record { acts = (refl, refl, refl); rests = refl } }
+a_is_asked_then = record { allowed = refl; counted = refl; alone = (refl, refl); happens = record { acts = (refl, refl, refl); rests = refl } }
 
 abbrev pub asked_b_then : Entry
 asked_b_then = entry (E.PollAt B later) (To.At None) (counts 3 2 0 0)
@@ -47,7 +47,7 @@ asked_b_then = entry (E.PollAt B later) (To.At None) (counts 3 2 0 0)
 pub b_is_asked_then : Leads (asked_a_then ∷ rests_so ∷ learned_so ∷ third_round) (both kept_through_a (acknowledging_b [])) asked_b_then
     (both kept_through_a (acknowledging_b []))
 unfolding v4_number mtu_towards end_towards
-b_is_asked_then = record { allowed = refl; counted = refl; happens = record { acts = (refl, refl, refl); rests = refl } }
+b_is_asked_then = record { allowed = refl; counted = refl; alone = (refl, refl); happens = record { acts = (refl, refl, refl); rests = refl } }
 
 pub fourth_still : StillRun starts fourth_round (both kept_through_a (acknowledging_b []))
 fourth_still = (both kept_through_a (acknowledging_b []), asked, b_is_asked_then, then_stays) where

@@ -48,4 +48,4 @@ in_vain : Polls PortMove now 1 (state_of heard_b) false rested
 in_vain = (found, false, inl (none_comes, refl), inl (rests, refl))
 
 pub idles_b : PollsAt heard_b now 1 false heard_b
-idles_b = record { port = port_of heard_b; port_after = port_of heard_b; before = refl; after = refl; polls = in_vain; none_denied = refl }
+idles_b = record { port = port_of heard_b; port_after = port_of heard_b; before = refl; after = refl; polls = in_vain; none_denied = λ alone. refl }

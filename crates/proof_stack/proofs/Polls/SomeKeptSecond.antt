@@ -25,28 +25,28 @@ abbrev pub idle_so : Entry
 idle_so = entry (E.Poll A (pos 0) 1) (To.Poll false) (counts 3 1 0 0)
 
 pub a_idles : Leads first_round (both kept_written_a heard_b) idle_so (both kept_idle_a heard_b)
-a_idles = record { allowed = refl; counted = refl; happens = record { acts = (false, idles, refl, refl); rests = refl } }
+a_idles = record { allowed = refl; counted = refl; alone = (refl, refl); happens = record { acts = (false, idles, refl, refl); rests = refl } }
 
 abbrev pub idle_too : Entry
 idle_too = entry (E.Poll B (pos 0) 1) (To.Poll false) (counts 3 1 0 0)
 
 pub b_idles : Leads (idle_so ∷ first_round) (both kept_idle_a heard_b) idle_too (both kept_idle_a heard_b)
 b_idles =
-    record { allowed = few (begins_datagram Medium.Ip) syn_ack_frame; counted = refl; happens = record { acts = (false, idles_b, refl, refl); rests = refl } }
+    record { allowed = few (begins_datagram Medium.Ip) syn_ack_frame; counted = refl; alone = (refl, refl); happens = record { acts = (false, idles_b, refl, refl); rests = refl } }
 
 abbrev pub asked_a_first : Entry
 asked_a_first = entry (E.PollAt A (pos 0)) (To.At (Some (pos 1_000_000))) (counts 3 1 0 0)
 
 pub a_is_asked : Leads (idle_too ∷ idle_so ∷ first_round) (both kept_idle_a heard_b) asked_a_first (both kept_idle_a heard_b)
 unfolding v4_number mtu_towards end_towards
-a_is_asked = record { allowed = refl; counted = refl; happens = record { acts = (refl, refl, refl); rests = refl } }
+a_is_asked = record { allowed = refl; counted = refl; alone = (refl, refl); happens = record { acts = (refl, refl, refl); rests = refl } }
 
 abbrev pub asked_b_first : Entry
 asked_b_first = entry (E.PollAt B (pos 0)) (To.At (Some later)) (counts 3 1 0 0)
 
 pub b_is_asked : Leads (asked_a_first ∷ idle_too ∷ idle_so ∷ first_round) (both kept_idle_a heard_b) asked_b_first (both kept_idle_a heard_b)
 unfolding v4_number mtu_towards end_towards
-b_is_asked = record { allowed = refl; counted = refl; happens = record { acts = (refl, refl, refl); rests = refl } }
+b_is_asked = record { allowed = refl; counted = refl; alone = (refl, refl); happens = record { acts = (refl, refl, refl); rests = refl } }
 
 pub second_still : StillRun starts second_round (both kept_idle_a heard_b)
 second_still = (both kept_idle_a heard_b, asked, b_is_asked, then_stays) where

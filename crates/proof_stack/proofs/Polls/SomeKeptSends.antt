@@ -75,7 +75,7 @@ polls : Polls PortMove now 1 old true sent
 polls = (begun_first, false, inl (looks, refl), inr (true, sent, step_out, (refl, refl)))
 
 pub may_send_data : PollsAt kept_a now 1 true kept_written_a
-may_send_data = record { port = port_of kept_a; port_after = sent.device; before = refl; after = refl; polls = polls; none_denied = refl }
+may_send_data = record { port = port_of kept_a; port_after = sent.device; before = refl; after = refl; polls = polls; none_denied = λ alone. refl }
 
 -- THEN IT HAS NOTHING TO DO
 
@@ -109,7 +109,7 @@ in_vain_now = (found_now, false, inl (none_comes_now, refl), inl (rests_now, ref
 
 pub idles : PollsAt kept_written_a now 1 false kept_idle_a
 idles =
-    record { port = port_of kept_written_a; port_after = port_of kept_written_a; before = refl; after = refl; polls = in_vain_now; none_denied = refl }
+    record { port = port_of kept_written_a; port_after = port_of kept_written_a; before = refl; after = refl; polls = in_vain_now; none_denied = λ alone. refl }
 
 -- NOR TEN MILLISECONDS LATER
 
@@ -143,4 +143,4 @@ in_vain = (found, false, inl (none_comes, refl), inl (rests, refl))
 
 pub waits : PollsAt kept_idle_a later 1 false (kept_waiting_a [])
 waits =
-    record { port = port_of kept_idle_a; port_after = port_of kept_idle_a; before = refl; after = refl; polls = in_vain; none_denied = refl }
+    record { port = port_of kept_idle_a; port_after = port_of kept_idle_a; before = refl; after = refl; polls = in_vain; none_denied = λ alone. refl }

@@ -1,5 +1,5 @@
 -- Rounds on numerals meet all that is asked, where A's user asked for keep-alives, and go on past what is enough.
-use Rattle.std.proofs.Common.{◌≡◌, inl, leb-true, ltb-true, true, false, ℕ, ℤ, [], None, Some, refl, arith}
+use Rattle.std.proofs.Common.{◌≡◌, inl, leb-true, ltb-true, true, false, ℕ, [], None, Some, refl, arith}
 use Rattle.std.specs.Prelude.{◌≤ℤ◌, ◌<ℤ◌, ◌+ℤ◌, IsTrue, pos}
 use Rattle.std.proofs.lemmas.Int.{ints}
 use Rattle.tcp_liveness.specs.Arrivals.{is_synchronized}
@@ -19,7 +19,7 @@ use Rattle.sim_link.specs.Port.{has_tx_token}
 use Rattle.proof_stack.specs.Progress.Ends.{AreBoth}
 use Rattle.proof_stack.specs.Progress.Events.{clock_in, shown_in}
 use Rattle.proof_stack.specs.Progress.KeepAliveNumerals.{answering, before, following, kept_a, kept_asking, late_a, late_b, sockets, told_to_keep}
-use Rattle.proof_stack.specs.Progress.SettledNumerals.{news, opened, slot, starts}
+use Rattle.proof_stack.specs.Progress.SettledNumerals.{news, slot, starts}
 use Rattle.proof_stack.specs.Progress.Unread.{HasRoomForAll}
 use Rattle.proof_stack.specs.Progress.Within.{MayBegin, MaySettle, enough_for}
 use Rattle.proof_stack.proofs.Polls.SomeKept.{both}

@@ -23,14 +23,14 @@ abbrev pub waits_so : Entry
 waits_so = entry (E.Poll A later 1) (To.Poll false) (counts 3 1 0 0)
 
 pub a_waits : Leads second_round (both kept_idle_a heard_b) waits_so (both (kept_waiting_a []) heard_b)
-a_waits = record { allowed = refl; counted = refl; happens = record { acts = (false, waits, refl, refl); rests = refl } }
+a_waits = record { allowed = refl; counted = refl; alone = (refl, refl); happens = record { acts = (false, waits, refl, refl); rests = refl } }
 
 abbrev pub told_back : Entry
 told_back = entry (E.Poll B later 1) (To.Poll true) (counts 3 1 0 0)
 
 pub b_tells : Leads (waits_so ∷ second_round) (both (kept_waiting_a []) heard_b) told_back (both (kept_waiting_a []) through_b)
 b_tells =
-    record { allowed = few (begins_datagram Medium.Ip) syn_ack_frame; counted = refl; happens = record { acts = (true, tells, refl, refl); rests = refl } }
+    record { allowed = few (begins_datagram Medium.Ip) syn_ack_frame; counted = refl; alone = (refl, refl); happens = record { acts = (true, tells, refl, refl); rests = refl } }
 
 abbrev pub brought_back : Entry
 brought_back = entry (E.Deliver B 1 []) To.Done (counts 3 2 0 0)
@@ -40,7 +40,7 @@ last_came = ap (λ (frame : List ℕ). both (kept_waiting_a (frame ∷ [])) thro
 
 pub last_comes : Leads (told_back ∷ waits_so ∷ second_round) (both (kept_waiting_a []) through_b) brought_back
     (both (kept_waiting_a (last_frame ∷ [])) through_b)
-last_comes = record { allowed = refl; counted = refl; happens = (refl, refl, last_came) }
+last_comes = record { allowed = refl; counted = refl; alone = (refl, refl); happens = (refl, refl, last_came) }
 
 pub third_still : StillRun starts third_round (both (kept_waiting_a (last_frame ∷ [])) through_b)
 third_still = (both (kept_waiting_a []) through_b, told, last_comes, both_stay (kept_waiting_a (last_frame ∷ [])) through_b a_at_last b_at_last) where

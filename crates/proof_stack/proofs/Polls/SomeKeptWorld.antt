@@ -21,7 +21,7 @@ kept_so = entry (E.TcpSetting A 0 (Changed.KeepAlive (Some interval))) To.Done (
 
 keeps : Leads told_to_send (both writing_a (open_b [])) kept_so (both kept_a (open_b []))
 unfolding v4_number mtu_towards
-keeps = record { allowed = refl; counted = refl; happens = record { acts = (refl, refl, refl); rests = refl } }
+keeps = record { allowed = refl; counted = refl; alone = (refl, refl); happens = record { acts = (refl, refl, refl); rests = refl } }
 
 pub kept_still : StillRun starts told_to_keep (both kept_a (open_b []))
 kept_still = (both writing_a (open_b []), wrote, keeps, both_stay kept_a (open_b []) a_following_two b_following_one)

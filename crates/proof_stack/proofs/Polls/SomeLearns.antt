@@ -115,4 +115,4 @@ polls : Polls PortMove later 1 awaiting true rested
 polls = (following, true, inr (true, following, step_in, (refl, refl)), inl (rests, refl))
 
 pub learns : PollsAt (written_a (last_frame ∷ [])) later 1 true through_a
-learns = record { port = port_of (written_a (last_frame ∷ [])); port_after = following.device; before = refl; after = refl; polls = polls; none_denied = refl }
+learns = record { port = port_of (written_a (last_frame ∷ [])); port_after = following.device; before = refl; after = refl; polls = polls; none_denied = λ alone. refl }

@@ -271,19 +271,19 @@ second_host = at_instant (second 2) passed_over.host.inner
 
 needs_b_first : HasToAsk first_host for_b.settings (datagram_to (address B)) (Address.Ipv4 (address B)) packet
 unfolding v4_number
-needs_b_first = record { takes = (refl, refl); may = refl; unknown = refl; asks = refl; room = refl }
+needs_b_first = record { takes = (refl, refl); may = refl; unknown = refl; asks = refl; alone = refl; room = refl }
 
 needs_9_first : HasToAsk first_host for_nobody.settings (datagram_to nobodys) (Address.Ipv4 nobodys) packet_9
 unfolding v4_number
-needs_9_first = record { takes = (refl, refl); may = refl; unknown = refl; asks = refl; room = refl }
+needs_9_first = record { takes = (refl, refl); may = refl; unknown = refl; asks = refl; alone = refl; room = refl }
 
 needs_b_then : HasToAsk second_host for_b.settings (datagram_to (address B)) (Address.Ipv4 (address B)) packet
 unfolding v4_number
-needs_b_then = record { takes = (refl, refl); may = refl; unknown = refl; asks = refl; room = refl }
+needs_b_then = record { takes = (refl, refl); may = refl; unknown = refl; asks = refl; alone = refl; room = refl }
 
 needs_9_then : HasToAsk second_host for_nobody.settings (datagram_to nobodys) (Address.Ipv4 nobodys) packet_9
 unfolding v4_number
-needs_9_then = record { takes = (refl, refl); may = refl; unknown = refl; asks = refl; room = refl }
+needs_9_then = record { takes = (refl, refl); may = refl; unknown = refl; asks = refl; alone = refl; room = refl }
 
 abbrev pub mark : Ipv4Address → ℤ → Meta
 mark a until = record { waiting = Some (record { neighbor = Address.Ipv4 a; since = pos 0; silent_until = until }) }
@@ -346,7 +346,7 @@ module _ (t : TwoSteps) where
   first_waits : Waits x
   unfolding v4_number
   first_waits = record {
-    freely = record { free = refuse_nothing in_vain.device passed_over.device refl refl; room = refl; waiting = (b_waits_first, (nobody_waits_first, tt)) };
+    freely = record { free = refuse_nothing in_vain.device passed_over.device refl refl; alone = refl; room = refl; waiting = (b_waits_first, (nobody_waits_first, tt)) };
     first = record { meta = mark (address B) (second 1); value = for_b; more = []; stands = refl; settings = refl; first = refl; mark = refl };
     waits = refl;
     needs = needs_b_first;
@@ -357,7 +357,7 @@ module _ (t : TwoSteps) where
   pub then_waits : Waits y
   unfolding v4_number
   then_waits = record {
-    freely = record { free = refuse_nothing passed_over.device asked_again.device refl refl; room = refl; waiting = (b_waits_then, (nobody_waits_then, tt)) };
+    freely = record { free = refuse_nothing passed_over.device asked_again.device refl refl; alone = refl; room = refl; waiting = (b_waits_then, (nobody_waits_then, tt)) };
     first = record { meta = mark (address B) (second 2); value = for_b; more = []; stands = refl; settings = refl; first = refl; mark = refl };
     waits = refl;
     needs = needs_b_then;

@@ -114,4 +114,4 @@ polls : Polls PortMove now 1 awaiting true rested
 polls = (following, true, inr (true, following, step_in, (refl, refl)), inl (rests, refl))
 
 pub is_opened : PollsAt (answered_b (ack_frame ∷ [])) now 1 true (open_b [])
-is_opened = record { port = port_of (answered_b (ack_frame ∷ [])); port_after = following.device; before = refl; after = refl; polls = polls; none_denied = refl }
+is_opened = record { port = port_of (answered_b (ack_frame ∷ [])); port_after = following.device; before = refl; after = refl; polls = polls; none_denied = λ alone. refl }

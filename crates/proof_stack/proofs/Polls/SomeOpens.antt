@@ -120,4 +120,4 @@ polls : Polls PortMove now 1 awaiting true sent
 polls = (following, true, inr (true, following, step_in, (refl, refl)), inr (true, sent, step_out, (refl, refl)))
 
 pub opens : PollsAt (dialed_a (syn_ack_frame ∷ [])) now 1 true (open_a)
-opens = record { port = port_of (dialed_a (syn_ack_frame ∷ [])); port_after = sent.device; before = refl; after = refl; polls = polls; none_denied = refl }
+opens = record { port = port_of (dialed_a (syn_ack_frame ∷ [])); port_after = sent.device; before = refl; after = refl; polls = polls; none_denied = λ alone. refl }

@@ -1,5 +1,5 @@
 -- A round of two hosts at rest, on numerals: both are polled, and have nothing to do; then both are asked.
-use Rattle.std.proofs.Common.{◌≡◌, inl, inr, ltb-true, true, false, List, [], ◌∷◌, None, Some, refl, sym}
+use Rattle.std.proofs.Common.{◌≡◌, inl, inr, ltb-true, false, List, [], ◌∷◌, None, Some, refl, sym}
 use Rattle.wire_address.specs.Address.{v4_number}
 use Rattle.sim_link.specs.Port.{PortMove, PortValue}
 use Rattle.lan.specs.declared.at_link.history.answer.Answer.TheVariants as To
@@ -64,7 +64,7 @@ polls_a : Polls PortMove later 1 (state_of through_a) false rested_a
 polls_a = (found_a, false, inl (none_a, refl), inl (rests_a, refl))
 
 quiet_a : PollsAt through_a later 1 false through_a
-quiet_a = record { port = port_of through_a; port_after = port_of through_a; before = refl; after = refl; polls = polls_a; none_denied = refl }
+quiet_a = record { port = port_of through_a; port_after = port_of through_a; before = refl; after = refl; polls = polls_a; none_denied = λ alone. refl }
 
 -- B
 
@@ -110,7 +110,7 @@ polls_b : Polls PortMove later 1 (state_of through_b) false rested_b
 polls_b = (found_b, false, inl (none_b, refl), inl (rests_b, refl))
 
 pub quiet_b : PollsAt through_b later 1 false still_b
-quiet_b = record { port = port_of through_b; port_after = port_of through_b; before = refl; after = refl; polls = polls_b; none_denied = refl }
+quiet_b = record { port = port_of through_b; port_after = port_of through_b; before = refl; after = refl; polls = polls_b; none_denied = λ alone. refl }
 
 -- THE ROUND
 
@@ -149,7 +149,7 @@ poll_a = record {
   entry = polled_a;
   event_kept = refl;
   answer_kept = refl;
-  leads = record { allowed = refl; counted = refl; happens = record { acts = (false, quiet_a, refl, refl); rests = refl } };
+  leads = record { allowed = refl; counted = refl; alone = (refl, refl); happens = record { acts = (false, quiet_a, refl, refl); rests = refl } };
   history = refl;
   starts = refl;
 }
@@ -162,7 +162,7 @@ poll_b = record {
   entry = polled_b;
   event_kept = refl;
   answer_kept = refl;
-  leads = record { allowed = refl; counted = refl; happens = record { acts = (false, quiet_b, refl, refl); rests = a_stays } };
+  leads = record { allowed = refl; counted = refl; alone = (refl, refl); happens = record { acts = (false, quiet_b, refl, refl); rests = a_stays } };
   history = refl;
   starts = refl;
 }
@@ -173,7 +173,7 @@ ask_a = record {
   entry = asked_a;
   event_kept = refl;
   answer_kept = refl;
-  leads = record { allowed = refl; counted = refl; happens = record { acts = (refl, refl, refl); rests = refl } };
+  leads = record { allowed = refl; counted = refl; alone = (refl, refl); happens = record { acts = (refl, refl, refl); rests = refl } };
   history = refl;
   starts = refl;
 }
@@ -184,7 +184,7 @@ ask_b = record {
   entry = asked_b;
   event_kept = refl;
   answer_kept = refl;
-  leads = record { allowed = refl; counted = refl; happens = record { acts = (refl, refl, refl); rests = refl } };
+  leads = record { allowed = refl; counted = refl; alone = (refl, refl); happens = record { acts = (refl, refl, refl); rests = refl } };
   history = refl;
   starts = refl;
 }

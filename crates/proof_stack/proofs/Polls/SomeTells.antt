@@ -75,4 +75,4 @@ polls : Polls PortMove later 1 old true sent
 polls = (begun_first, false, inl (looks, refl), inr (true, sent, step_out, (refl, refl)))
 
 pub tells : PollsAt (heard_b) later 1 true (through_b)
-tells = record { port = port_of (heard_b); port_after = sent.device; before = refl; after = refl; polls = polls; none_denied = refl }
+tells = record { port = port_of (heard_b); port_after = sent.device; before = refl; after = refl; polls = polls; none_denied = λ alone. refl }

@@ -78,7 +78,7 @@ listens : StillRun starts told_to_listen (both initial_a (listening_b []))
 listens = (
   both initial_a initial_b,
   begins,
-  record { allowed = refl; counted = refl; happens = record { acts = (refl, refl, refl); rests = refl } },
+  record { allowed = refl; counted = refl; alone = (refl, refl); happens = record { acts = (refl, refl, refl); rests = refl } },
   both_stay initial_a (listening_b []) a_at_first b_at_first,
 )
 
@@ -87,7 +87,7 @@ unfolding v4_number
 called = (
   both initial_a (listening_b []),
   listens,
-  record { allowed = refl; counted = refl; happens = record { acts = (refl, refl, refl); rests = refl } },
+  record { allowed = refl; counted = refl; alone = (refl, refl); happens = record { acts = (refl, refl, refl); rests = refl } },
   both_stay calling_a (listening_b []) a_at_first b_at_first,
 )
 
@@ -97,7 +97,7 @@ dialed : StillRun starts syn_sent (both (dialed_a []) (listening_b []))
 dialed = (
   both calling_a (listening_b []),
   called,
-  record { allowed = refl; counted = refl; happens = record { acts = (true, dials, refl, refl); rests = refl } },
+  record { allowed = refl; counted = refl; alone = (refl, refl); happens = record { acts = (true, dials, refl, refl); rests = refl } },
   both_stay (dialed_a []) (listening_b []) a_following_one b_at_first,
 )
 
@@ -109,7 +109,7 @@ brought : StillRun starts syn_brought (both (dialed_a []) (listening_b (syn_fram
 brought = (
   both (dialed_a []) (listening_b []),
   dialed,
-  record { allowed = refl; counted = refl; happens = (refl, refl, syn_came) },
+  record { allowed = refl; counted = refl; alone = (refl, refl); happens = (refl, refl, syn_came) },
   both_stay (dialed_a []) (listening_b (syn_frame ∷ [])) a_following_one b_at_first,
 )
 
@@ -119,7 +119,7 @@ answered : StillRun starts syn_answered (both (dialed_a []) (answered_b []))
 answered = (
   both (dialed_a []) (listening_b (syn_frame ∷ [])),
   brought,
-  record { allowed = refl; counted = refl; happens = record { acts = (true, answers, refl, refl); rests = refl } },
+  record { allowed = refl; counted = refl; alone = (refl, refl); happens = record { acts = (true, answers, refl, refl); rests = refl } },
   both_stay (dialed_a []) (answered_b []) a_following_one b_following_one,
 )
 
@@ -130,7 +130,7 @@ answer_came : StillRun starts answer_brought (both (dialed_a (syn_ack_frame ∷ 
 answer_came = (
   both (dialed_a []) (answered_b []),
   answered,
-  record { allowed = refl; counted = refl; happens = (refl, refl, syn_ack_came) },
+  record { allowed = refl; counted = refl; alone = (refl, refl); happens = (refl, refl, syn_ack_came) },
   both_stay (dialed_a (syn_ack_frame ∷ [])) (answered_b []) a_following_one b_following_one,
 )
 
@@ -148,7 +148,7 @@ acknowledged : StillRun starts ack_sent (both open_a (answered_b []))
 acknowledged = (
   both (dialed_a (syn_ack_frame ∷ [])) (answered_b []),
   answer_came,
-  record { allowed = few (begins_datagram Medium.Ip) syn_frame; counted = refl; happens = record { acts = (true, opens, refl, refl); rests = refl } },
+  record { allowed = few (begins_datagram Medium.Ip) syn_frame; counted = refl; alone = (refl, refl); happens = record { acts = (true, opens, refl, refl); rests = refl } },
   both_stay open_a (answered_b []) a_following_two b_following_one,
 )
 
@@ -159,7 +159,7 @@ came : StillRun starts ack_brought (both open_a (answered_b (ack_frame ∷ [])))
 came = (
   both open_a (answered_b []),
   acknowledged,
-  record { allowed = refl; counted = refl; happens = (refl, refl, ack_came) },
+  record { allowed = refl; counted = refl; alone = (refl, refl); happens = (refl, refl, ack_came) },
   both_stay open_a (answered_b (ack_frame ∷ [])) a_following_two b_following_one,
 )
 
@@ -167,7 +167,7 @@ pub opened_both : StillRun starts both_open (both open_a (open_b []))
 opened_both = (
   both open_a (answered_b (ack_frame ∷ [])),
   came,
-  record { allowed = few (begins_datagram Medium.Ip) syn_ack_frame; counted = refl; happens = record { acts = (true, is_opened, refl, refl); rests = refl } },
+  record { allowed = few (begins_datagram Medium.Ip) syn_ack_frame; counted = refl; alone = (refl, refl); happens = record { acts = (true, is_opened, refl, refl); rests = refl } },
   both_stay open_a (open_b []) a_following_two b_following_one,
 )
 
@@ -178,7 +178,7 @@ unfolding v4_number mtu_towards
 wrote = (
   both open_a (open_b []),
   opened_both,
-  record { allowed = refl; counted = refl; happens = record { acts = (refl, refl, refl); rests = refl } },
+  record { allowed = refl; counted = refl; alone = (refl, refl); happens = record { acts = (refl, refl, refl); rests = refl } },
   both_stay writing_a (open_b []) a_following_two b_following_one,
 )
 
@@ -186,7 +186,7 @@ unfoldable pub sent : StillRun starts text_sent (both (written_a []) (open_b [])
 sent = (
   both writing_a (open_b []),
   wrote,
-  record { allowed = refl; counted = refl; happens = record { acts = (true, writes, refl, refl); rests = refl } },
+  record { allowed = refl; counted = refl; alone = (refl, refl); happens = record { acts = (true, writes, refl, refl); rests = refl } },
   both_stay (written_a []) (open_b []) a_following_three b_following_one,
 )
 
@@ -197,7 +197,7 @@ unfoldable pub handed : StillRun starts text_brought (both (written_a []) (open_
 handed = (
   both (written_a []) (open_b []),
   sent,
-  record { allowed = refl; counted = refl; happens = (refl, refl, text_came) },
+  record { allowed = refl; counted = refl; alone = (refl, refl); happens = (refl, refl, text_came) },
   both_stay (written_a []) (open_b (push_frame ∷ [])) a_following_three b_following_one,
 )
 
@@ -205,7 +205,7 @@ unfoldable pub read : StillRun starts text_read (both (written_a []) heard_b)
 read = (
   both (written_a []) (open_b (push_frame ∷ [])),
   handed,
-  record { allowed = few (begins_datagram Medium.Ip) syn_ack_frame; counted = refl; happens = record { acts = (true, hears, refl, refl); rests = refl } },
+  record { allowed = few (begins_datagram Medium.Ip) syn_ack_frame; counted = refl; alone = (refl, refl); happens = record { acts = (true, hears, refl, refl); rests = refl } },
   both_stay (written_a []) heard_b a_following_three b_following_one,
 )
 
@@ -215,7 +215,7 @@ unfoldable pub told : StillRun starts last_sent (both (written_a []) through_b)
 told = (
   both (written_a []) heard_b,
   read,
-  record { allowed = few (begins_datagram Medium.Ip) syn_ack_frame; counted = refl; happens = record { acts = (true, tells, refl, refl); rests = refl } },
+  record { allowed = few (begins_datagram Medium.Ip) syn_ack_frame; counted = refl; alone = (refl, refl); happens = record { acts = (true, tells, refl, refl); rests = refl } },
   both_stay (written_a []) through_b a_following_three b_at_last,
 )
 
@@ -226,7 +226,7 @@ unfoldable pub handed_back : StillRun starts last_brought (both (written_a (last
 handed_back = (
   both (written_a []) through_b,
   told,
-  record { allowed = refl; counted = refl; happens = (refl, refl, last_came) },
+  record { allowed = refl; counted = refl; alone = (refl, refl); happens = (refl, refl, last_came) },
   both_stay (written_a (last_frame ∷ [])) through_b a_following_three b_at_last,
 )
 
@@ -234,7 +234,7 @@ unfoldable pub learned : StillRun starts all_through (both through_a through_b)
 learned = (
   both (written_a (last_frame ∷ [])) through_b,
   handed_back,
-  record { allowed = refl; counted = refl; happens = record { acts = (true, learns, refl, refl); rests = refl } },
+  record { allowed = refl; counted = refl; alone = (refl, refl); happens = record { acts = (true, learns, refl, refl); rests = refl } },
   both_stay through_a through_b a_at_last b_at_last,
 )
 
@@ -245,7 +245,7 @@ unfolding v4_number mtu_towards end_towards
 asked = (
   both through_a through_b,
   learned,
-  record { allowed = refl; counted = refl; happens = record { acts = (refl, refl, refl); rests = refl } },
+  record { allowed = refl; counted = refl; alone = (refl, refl); happens = record { acts = (refl, refl, refl); rests = refl } },
   both_stay through_a through_b a_at_last b_at_last,
 )
 
@@ -254,7 +254,7 @@ unfolding v4_number mtu_towards end_towards
 stays = (
   both through_a through_b,
   asked,
-  record { allowed = refl; counted = refl; happens = record { acts = (refl, refl, refl); rests = refl } },
+  record { allowed = refl; counted = refl; alone = (refl, refl); happens = record { acts = (refl, refl, refl); rests = refl } },
   both_stay through_a through_b a_at_last b_at_last,
 )
 

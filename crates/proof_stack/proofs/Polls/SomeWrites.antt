@@ -74,4 +74,4 @@ polls : Polls PortMove now 1 old true sent
 polls = (begun_first, false, inl (looks, refl), inr (true, sent, step_out, (refl, refl)))
 
 pub writes : PollsAt (writing_a) now 1 true (written_a [])
-writes = record { port = port_of (writing_a); port_after = sent.device; before = refl; after = refl; polls = polls; none_denied = refl }
+writes = record { port = port_of (writing_a); port_after = sent.device; before = refl; after = refl; polls = polls; none_denied = λ alone. refl }

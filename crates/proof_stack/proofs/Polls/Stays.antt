@@ -42,10 +42,10 @@ use Rattle.interface.specs.SameHost.{IsSameHost}
 use Rattle.interface.specs.State.{State, at_device}
 use Rattle.interface.specs.TransmittedFrame.{CanRead}
 use Rattle.interface.proofs.Runs.{receives_same}
-use Rattle.interface.proofs.SameHost.{slot_same, same_where}
+use Rattle.interface.proofs.SameHost.{serves_same, slot_same, same_where}
 use Rattle.interface.proofs.Settings.{settings_then}
 use Rattle.proof_stack.specs.PeerHost.ReceivedPackets.{Came}
-use Rattle.proof_stack.specs.PeerHost.Steps.{Reaches, Step, Steps}
+use Rattle.lan.specs.Worlds.PollSteps.{Reaches, Step, Steps}
 use Rattle.proof_stack.specs.Progress.Delivered.{IsExpected, hears, is_misframed_to, may_be_sender, reader_of}
 use Rattle.proof_stack.specs.Progress.Inbox.{IsReady}
 use Rattle.proof_stack.specs.Progress.Queued.{ports_of}
@@ -105,7 +105,13 @@ module _ {E : Type 0} (moves : E → Move → E → Type 0) (u : ℤ) where
   step_same s s' (inr (inr (inl fragment))) =
       settings_at s.host.inner s'.host.inner
       (ap (λ (x : State E). x.host.inner) fragment.is ∙ fragment.same ∙ sym (ap (λ (x : State E). x.host.inner) fragment.was))
-  step_same s s' (inr (inr (inr turn))) =
+  step_same s s' (inr (inr (inr (inr waits)))) =
+      settings_then s.host.inner waits.from.inner s'.host.inner
+      (settings_at s.host.inner waits.from.inner (sym (ap (λ (x : State E). x.host.inner) waits.was)))
+      (settings_then waits.from.inner waits.to.inner s'.host.inner
+      (settings_out waits.from.inner waits.to.inner (serves_same moves waits.from waits.to waits.all waits.many waits.serves))
+      (settings_at waits.to.inner s'.host.inner (ap (λ (x : State E). x.host.inner) waits.is)))
+  step_same s s' (inr (inr (inr (inl turn)))) =
       settings_then s.host.inner turn.from.inner s'.host.inner
       (settings_at s.host.inner turn.from.inner (sym (ap (λ (x : State E). x.host.inner) turn.was)))
       (settings_then turn.from.inner turn.to.inner s'.host.inner

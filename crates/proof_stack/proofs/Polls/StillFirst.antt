@@ -18,7 +18,7 @@ use Rattle.iface_ingress.specs.Socket.{Socket}
 use Rattle.iface_ingress.specs.Socket.TheVariants as Kind
 use Rattle.iface_tables.specs.Best.{at_index}
 use Rattle.iface_tables.specs.Inner.{InnerValue, at_instant, all_stations, context_of, group_hardware_addr, has_neighbor, is_crowded, is_known_hop, is_known_on, is_local_broadcast, link_address, link_by, link_of_hop, link_on, next_hop}
-use Rattle.iface_tables.specs.Neighbor.{CacheValue, answer_by, has_failed, is_found, lookup, neighbor_index_of, requested, search_room, unless_failed}
+use Rattle.iface_tables.specs.Neighbor.{CacheValue, answer_by, has_failed, is_found, lookup, neighbor_index_of, requested, unless_failed}
 use Rattle.iface_tables.specs.declared.link.LinkAddress.{LinkAddress}
 use Rattle.iface_tables.specs.declared.link.LinkAddress.TheVariants as Link
 use Rattle.iface_tables.specs.declared.neighbor.Answer.{Answer}
@@ -40,26 +40,27 @@ use Rattle.iface_egress.specs.declared.egress_path.Sent.TheVariants as Outcome
 use Rattle.interface.specs.Awaited.{turn_of}
 use Rattle.interface.specs.Egress.{EgressStep, sending}
 use Rattle.interface.specs.Host.{Sender}
-use Rattle.interface.specs.Pass.{Pass, Passed}
+use Rattle.interface.specs.Pass.{Passed}
 use Rattle.interface.specs.SameHost.{IsSameHost}
 use Rattle.interface.specs.State.{State}
-use Rattle.interface.specs.Serve.{ItemTurns, Leaves, ServesSlot, TurnsIf, crowded_time, held, is_given_up, passes_filter, is_known, is_out_of_turn, is_waiting, let_through, outcome_by, plan_at, settled_by, waits_until}
-use Rattle.interface.specs.EgressPath.{Egress}
+use Rattle.interface.specs.Serve.{Leaves, crowded_time, held, is_given_up, passes_filter, is_known, is_out_of_turn, is_waiting, let_through, outcome_by, plan_at, settled_by, waits_until}
 use Rattle.interface.specs.declared.serve.Served.{Served}
 use Rattle.interface.specs.declared.serve.Served.TheVariants as Turn
-use Rattle.interface.proofs.SameHost.{slot_same, same_then, same_where}
+use Rattle.interface.proofs.Alone.{asked_alone}
+use Rattle.interface.proofs.SameHost.{same_flag, same_then, same_where}
 use Rattle.proof_stack.specs.Progress.NeighborResolution.{HasToAsk}
 use Rattle.proof_stack.specs.Progress.Exchanged.{IsMarkFor, IsStillFirst}
 use Rattle.proof_stack.specs.Progress.Reached.{udp_slot}
 use Rattle.proof_stack.proofs.Polls.Asks.{asks_plan, asks_under}
 use Rattle.proof_stack.proofs.Polls.First.{host_then, same_address}
-use Rattle.proof_stack.proofs.Polls.Goes.{kept, stands_at}
+use Rattle.proof_stack.proofs.Polls.Goes.{stands_at}
 use Rattle.proof_stack.proofs.Polls.InSilence.{IsSilent, slot_keeps, still_silent}
 use Rattle.proof_stack.proofs.Polls.Known.{KeepsOrAsks, slot_leaves}
 use Rattle.proof_stack.proofs.Polls.OurLeave.{OursLeaves, our_leave}
 use Rattle.proof_stack.proofs.Polls.Passes.{clears_same}
 use Rattle.proof_stack.proofs.Polls.Searches.{others_fail_so}
 use Rattle.proof_stack.proofs.Polls.Silenced.{IsSought, later, limited, not_failed, not_known, sought}
+use Rattle.proof_stack.proofs.Parkless.{Egress, ItemTurns, Pass, ServesSlot, TurnsIf, egress_alone, kept, slot_same}
 
 abbrev Place : Type 0
 Place = SocketStorage Socket
@@ -82,12 +83,13 @@ not_failed_yet true Known.NotFound is = absurd (let never : Known.Unanswered ≡
 not_failed_yet true Known.RateLimited is = absurd (let never : Known.Unanswered ≡ Known.NotFound = is in cc)
 not_failed_yet true Known.Unanswered is = absurd (let never : Known.Unanswered ≡ Known.NotFound = is in cc)
 
-room_left : (b : Bool) → not b ≡ false → b ≡ true
-room_left true is = refl
-room_left false is = absurd (let clash : true ≡ false = is in cc)
+room_left : (many b : Bool) → many ≡ false → (not many && not b) ≡ false → b ≡ true
+room_left many true alone is = refl
+room_left true false alone is = absurd (let clash : true ≡ false = alone in cc)
+room_left false false alone is = absurd (let clash : true ≡ false = is in cc)
 
 module _ (c : CacheValue) (hop other : IpAddress) (instant : ℤ) (unknown : lookup c hop instant ≡ Known.NotFound)
-    (room : nat_lt (length c.searches) search_room ≡ true) where
+    (room : nat_lt (length c.searches) c.search_room ≡ true) where
   abbrev then_known : CacheValue
   then_known = requested c other instant
 
@@ -121,7 +123,7 @@ module _ (v : UdpValue) (d : UdpMetadata × List ℕ) (more : List (UdpMetadata 
   our_slot = udp_slot meta v
 
   link : IsSought i to hop
-  link = sought i to hop has.unknown
+  link = sought i to hop has.alone has.unknown
 
   -- nobody was asked for so far, or somebody was
   record Through (j : InnerValue) : Type 0 where
@@ -223,7 +225,7 @@ module _ (v : UdpValue) (d : UdpMetadata × List ℕ) (more : List (UdpMetadata 
       leaves_rest sent goes = by through.what where
         by : (x.inner.neighbors ≡ i.neighbors) ⊎ (IsSilent x.inner × (lookup x.inner.neighbors hop x.inner.instant ≡ Known.RateLimited)) → Rested sent
         by (inl begun) =
-            let is_begun : x.inner ≡ record i { ident = x.inner.ident } = host_then i x.inner i.neighbors through.same refl begun in
+            let is_begun : x.inner ≡ record i { ident = x.inner.ident } = host_then i x.inner i.neighbors has.alone through.same refl begun in
             let asks : HasToAsk x.inner v.settings d hop p =
             subst (λ (j : InnerValue). HasToAsk j v.settings d hop p) (sym is_begun) (asks_under i x.inner.ident v.settings d hop p has) in
             let plan : (q : NeighborQuery) × (plan_at x p ≡ Way.Ask q) × (target_of q ≡ hop) = asks_plan x.inner (is_some x.left) v.settings d hop p asks in
@@ -239,6 +241,7 @@ module _ (v : UdpValue) (d : UdpMetadata × List ℕ) (more : List (UdpMetadata 
               else if is_multicast to then Link.Known (Hardware.Ethernet (group_hardware_addr to)) else link_of_hop x.inner (next_hop x.inner to)) one_then
               ∙ ap (λ (group : Bool). if group then Link.Known (Hardware.Ethernet (group_hardware_addr to)) else link_of_hop x.inner (next_hop x.inner to)) link.group
               ∙ ap (link_of_hop x.inner) (hop_then x.inner through)
+              ∙ ap (λ (c : CacheValue). link_by (lookup c hop x.inner.instant) hop) (asked_alone x.inner hop (same_flag i x.inner through.same ∙ has.alone))
               ∙ ap (λ (a : Answer). link_by a hop) quiet.1
 
           plan : plan_at x p ≡ Way.Wait
@@ -320,14 +323,15 @@ module _ (v : UdpValue) (d : UdpMetadata × List ℕ) (more : List (UdpMetadata 
                 ∙ ap (λ (c : CacheValue). int_lt i.instant c.silent) (asks.2 ∙ now) ∙ later i.neighbors asks.0 i.instant,
             ap (λ (m : ℤ). lookup x'.inner.neighbors hop m) at
                 ∙ ap (λ (c : CacheValue). lookup c hop i.instant) (asks.2 ∙ now)
-                ∙ still_limited i.neighbors hop asks.0 i.instant link.unknown (room_left (nat_lt (length i.neighbors.searches) search_room) has.room),
+                ∙ still_limited i.neighbors hop asks.0 i.instant link.unknown
+                (room_left i.host_requirements (nat_lt (length i.neighbors.searches) i.neighbors.search_room) has.alone has.room),
           )
 
       by : (x.inner.neighbors ≡ i.neighbors) ⊎ (IsSilent x.inner × (lookup x.inner.neighbors hop x.inner.instant ≡ Known.RateLimited))
           → (x'.inner.neighbors ≡ i.neighbors) ⊎ (IsSilent x'.inner × (lookup x'.inner.neighbors hop x'.inner.instant ≡ Known.RateLimited))
-      by (inl begun) = begun_here begun (slot_leaves moves turn x x' q q' turned goes)
+      by (inl begun) = begun_here begun (slot_leaves moves turn x x' (same_flag i x.inner through.same ∙ has.alone) q q' turned goes)
       by (inr quiet) =
-          let keeps : x'.inner.neighbors ≡ x.inner.neighbors = slot_keeps moves turn x x' quiet.0 q q' turned goes in
+          let keeps : x'.inner.neighbors ≡ x.inner.neighbors = slot_keeps moves turn x x' (same_flag i x.inner through.same ∙ has.alone) quiet.0 q q' turned goes in
           inr (
             still_silent moves turn x.inner x'.inner same_here keeps quiet.0,
             ap (λ (m : ℤ). lookup x'.inner.neighbors hop m) same_instant ∙ ap (λ (c : CacheValue). lookup c hop x.inner.instant) keeps ∙ quiet.1,
@@ -409,7 +413,7 @@ module _ {D : Type 0} (moves : D → Move → D → Type 0) (t : ℤ) (s s' : St
       × Stays before.value d before.more before.first hop p before.meta now has_so patient before.mark o
   ends =
       egress_stays before.value d before.more before.first hop p before.meta now has_so patient before.mark moves (sending t s) s.slots n step.0 refl
-      before.stands step.1
+      before.stands (egress_alone moves (sending t s) s.slots step.0 has.alone step.1)
 
   pub stays_first : (following : IsStillFirst s'.slots n v d (destination_of p.header)) × (is_some before.meta.waiting ≡ true → is_some following.meta.waiting ≡ true)
   stays_first = (

@@ -28,6 +28,7 @@ use Rattle.iface_egress.specs.Departure.{Departure}
 use Rattle.iface_egress.specs.IsTransmitted.{IsTransmitted, Asked, WasSent, WasCut, numbered, cut_of, frame_of, frame_len_of}
 use Rattle.iface_egress.specs.Fragments.{LeftValue, departure_from}
 use Rattle.iface_egress.specs.Meta.{neighbor_by, waits_by, freed, since_by}
+use Rattle.iface_egress.specs.Parked.{outcome_of, parks, sender_after}
 use Rattle.iface_egress.specs.declared.frame.NeighborQuery.{NeighborQuery}
 use Rattle.iface_egress.specs.declared.plan.Plan.{Plan}
 use Rattle.iface_egress.specs.declared.plan.Plan.TheVariants as Way
@@ -40,9 +41,8 @@ use Rattle.interface.specs.Host.{Sender}
 use Rattle.interface.specs.Instant.{earlier, instant_of, local_instant, item_instant, instant_in}
 use Rattle.interface.specs.Remote.{address_in, remote_of, context_for, end_by}
 use Rattle.interface.specs.QuietStep.{IsEarlier}
-use Rattle.interface.specs.Serve.{is_known, is_waiting, let_through, waits_until, is_given_up, is_out_of_turn, settled_by, turned_by, plan_at, Leaves, SendsBy}
-use Rattle.interface.specs.Serve.{Answers}
-use Rattle.interface.specs.Serve.{TurnsIf, ItemTurns, ServesSlot, outcome_by, held}
+use Rattle.interface.specs.Serve.{is_known, is_waiting, let_through, waits_until, is_given_up, is_out_of_turn, settled_by, turned_by, plan_at, Leaves}
+use Rattle.interface.specs.Serve.{Answers, ItemTurns, LeavesIf, SendsBy, ServesSlot, TurnsIf, outcome_by, held}
 use Rattle.interface.specs.declared.serve.Served.{Served}
 use Rattle.interface.specs.declared.serve.Served.TheVariants as Turn
 use Rattle.std.specs.List.{list_any}
@@ -285,7 +285,7 @@ module _ {D : Type 0} (moves : D → Move → D → Type 0) where
       held_ends plan sent false false move waits facts is gets inner left =
           absurd (let never : (let o : Option Sent = None in o) ≡ Some sent = is in cc)
 
-      leaves : (sent : Sent) → Leaves moves turn x item.meta p sent x' → Gets (plan_at x p) sent → Ends Q x x' turned (Some item')
+      pub leaves : (sent : Sent) → Leaves moves turn x item.meta p sent x' → Gets (plan_at x p) sent → Ends Q x x' turned (Some item')
       leaves sent (inl rests) gets = by rests.0 rests.1 rests.4 where
         by : (given : Bool) → moves x.device (Allowed x.inner.instant given) x'.device
             → outcome_by given (held turn item.meta x.inner (destination_of p.header) (plan_at x p)) ≡ Some sent
@@ -297,18 +297,62 @@ module _ {D : Type 0} (moves : D → Move → D → Type 0) where
       leaves sent (inr goes) gets =
           out goes.0 goes.1 (plan_at x p) sent (plan_facts x.inner (is_some x.left) p.header) goes.2 gets
 
+  -- what a turn comes to where a packet may be parked, which is a change
+  pub record TurnEnds (Q : Type 0) (x x' : Sender D) (turned : Served) (o : Option (Item Socket)) : Type 0 where
+    pub all : List Move
+    pub are : AreMoves moves all x.device x'.device
+    pub what : Stirs all ⊎ (x.left ≡ None → Q → (turned ≡ Turn.Next true) ⊎ Calm x x' turned o)
+
+  unparked : (Q : Type 0) (x x' : Sender D) (turned : Served) (o : Option (Item Socket)) → Ends Q x x' turned o → TurnEnds Q x x' turned o
+  unparked Q x x' turned o ends = record { all = ends.all; are = ends.are; what = by ends.what } where
+    by : Stirs ends.all ⊎ (x.left ≡ None → Q → Calm x x' turned o) → Stirs ends.all ⊎ (x.left ≡ None → Q → (turned ≡ Turn.Next true) ⊎ Calm x x' turned o)
+    by (inl stirs) = inl stirs
+    by (inr calm) = inr (λ none q. inr (calm none q))
+
+  module _ (Q : Type 0) (turn : Option IpAddress) (x x' : Sender D) where
+    sends_if : (many : Bool) (p : PacketValue) (item item' : Item Socket) (changed : Bool) (turned : Served) (sent : Sent)
+        → LeavesIf moves turn many x item.meta p sent x' → turned ≡ turned_by sent changed
+        → item' ≡ settled_by sent x.inner.instant (waits_until (plan_at x p) x'.inner) (destination_of p.header) item → TurnEnds Q x x' turned (Some item')
+    sends_if false p item item' changed turned sent goes next settles =
+        unparked Q x x' turned (Some item') (leaves Q turn x x' p item item' changed turned sent goes (next, settles))
+    sends_if true p item item' changed turned sent (came, mid, goes, outcome, after) next settles =
+        by (parks mid.inner p (plan_at x p) came) outcome after
+      where
+        by : (b : Bool) → sent ≡ outcome_of b came → x' ≡ sender_after b p mid → TurnEnds Q x x' turned (Some item')
+        by false is same =
+            let stays : x' ≡ mid = same in
+            let here : Leaves moves turn x item.meta p sent x' =
+            subst (λ (y : Sender D). Leaves moves turn x item.meta p sent y) (sym stays)
+            (subst (λ (s : Sent). Leaves moves turn x item.meta p s mid) (sym is) goes) in
+            unparked Q x x' turned (Some item') (leaves Q turn x x' p item item' changed turned sent here (next, settles))
+        by true is same =
+            let then_item : Item Socket =
+            settled_by came x.inner.instant (waits_until (plan_at x p) mid.inner) (destination_of p.header) item in
+            let ends : Ends Q x mid (turned_by came changed) (Some then_item) =
+            leaves Q turn x mid p item then_item changed (turned_by came changed) came goes (refl, refl) in
+            record {
+              all = ends.all;
+              are = subst (λ (d : D). AreMoves moves ends.all x.device d) (sym (ap (λ (y : Sender D). y.device) same)) ends.are;
+              what = inr (λ _ _. inl (next ∙ ap (λ (s : Sent). turned_by s changed) is));
+            }
+
+    rests_so : (turned : Served) (o : Option (Item Socket)) (changed : Bool) → x' ≡ x → turned ≡ Turn.Next changed
+        → (Q → (changed ≡ true) ⊎ IsEarlier x.inner.instant (instant_in x.inner o)) → TurnEnds Q x x' turned o
+    rests_so turned o changed same next done = unparked Q x x' turned o (still Q turn x x' turned o changed same next done)
+
     sends : (o : Option PacketValue) (item item' : Item Socket) (changed : Bool) (turned : Served) → SendsBy moves turn o x item changed turned x' item'
-        → Ends Q x x' turned (Some item')
+        → TurnEnds Q x x' turned (Some item')
     sends None item item' changed turned goes = absurd goes
-    sends (Some p) item item' changed turned goes = leaves goes.0 item item' changed turned goes.3.0 goes.3.1 (goes.3.2, goes.3.3)
+    sends (Some p) item item' changed turned goes =
+        sends_if x.inner.host_requirements goes.0 item item' changed turned goes.3.0 goes.3.1 goes.3.2 goes.3.3
 
     answers : (answer : Answer.Offer) (before : Socket) (item item' : Item Socket) (turned : Served) → (Q → IsPatient before)
         → Sockets.Offers (context_for x.inner before) before answer item.socket → Answers moves turn answer x item turned x' item'
-        → Ends Q x x' turned (Some item')
+        → TurnEnds Q x x' turned (Some item')
     answers (Offer.Packet changed) before item item' turned patient offers goes = sends (offered_by item.socket) item item' changed turned goes
-    answers (Offer.Silent true) before item item' turned patient offers goes = still turned (Some item') true goes.1 goes.0 (λ _. inl refl)
+    answers (Offer.Silent true) before item item' turned patient offers goes = rests_so turned (Some item') true goes.1 goes.0 (λ _. inl refl)
     answers (Offer.Silent false) before item item' turned patient offers goes =
-        still turned (Some item') false goes.1 goes.0
+        rests_so turned (Some item') false goes.1 goes.0
         (λ q. inr (subst (λ (it : Item Socket). IsEarlier x.inner.instant (item_instant x.inner it)) (sym goes.2)
         (item_later x.inner (record { meta = record { waiting = None }; socket = item.socket })
         (subst (λ (to : Option IpAddress). IsEarlier x.inner.instant (instant_of (poll_of (context_towards x.inner to) item.socket)))
@@ -317,20 +361,20 @@ module _ {D : Type 0} (moves : D → Move → D → Type 0) where
         (rests (context_for x.inner before) before item.socket (patient q) offers))))))
 
     turns_if : (waits : Bool) (item item' : Item Socket) (turned : Served) → (Q → IsPatient item.socket) → is_waiting x.inner item.meta ≡ waits
-        → TurnsIf moves turn waits x (let_through x.inner item) turned x' item' → Ends Q x x' turned (Some item')
+        → TurnsIf moves turn waits x (let_through x.inner item) turned x' item' → TurnEnds Q x x' turned (Some item')
     turns_if true item item' turned patient is goes =
-        still turned (Some item') false goes.1 goes.0
+        rests_so turned (Some item') false goes.1 goes.0
         (λ _. inr (subst (λ (it : Item Socket). IsEarlier x.inner.instant (item_instant x.inner it)) (sym goes.2)
         (waiting_later x.inner item.socket item.meta.waiting is)))
     turns_if false item item' turned patient is goes =
         answers goes.0 item.socket (record (let_through x.inner item) { socket = goes.1 }) item' turned patient goes.2 goes.3
 
-    item_ends : (o o' : Option (Item Socket)) (turned : Served) → (Q → IsItemPatient o) → ItemTurns moves turn o x turned x' o' → Ends Q x x' turned o'
-    item_ends None None turned patient goes = still turned None false goes.1 goes.0 (λ _. inr tt)
+    item_ends : (o o' : Option (Item Socket)) (turned : Served) → (Q → IsItemPatient o) → ItemTurns moves turn o x turned x' o' → TurnEnds Q x x' turned o'
+    item_ends None None turned patient goes = rests_so turned None false goes.1 goes.0 (λ _. inr tt)
     item_ends (Some item) (Some item') turned patient goes = turns_if (is_waiting x.inner item.meta) item item' turned patient refl goes
     item_ends None (Some item') turned patient goes = absurd goes
     item_ends (Some item) None turned patient goes = absurd goes
 
     pub slot_ends : (p p' : SocketStorage Socket) (turned : Served) → (Q → IsItemPatient p.inner) → ServesSlot moves turn x p turned x' p'
-        → Ends Q x x' turned p'.inner
+        → TurnEnds Q x x' turned p'.inner
     slot_ends p p' turned patient goes = item_ends p.inner p'.inner turned patient goes

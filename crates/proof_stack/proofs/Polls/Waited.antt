@@ -32,16 +32,17 @@ use Rattle.interface.specs.Awaited.{hop_of, next_awaited, turn_of}
 use Rattle.interface.specs.declared.awaited.Awaited.{Awaited}
 use Rattle.interface.specs.Egress.{sending}
 use Rattle.interface.specs.Host.{Sender}
-use Rattle.interface.specs.Pass.{Pass, Passed}
+use Rattle.interface.specs.Pass.{Passed}
 use Rattle.interface.specs.Remote.{context_for}
 use Rattle.interface.specs.SameHost.{IsSameHost}
 use Rattle.interface.specs.State.{State}
 use Rattle.interface.specs.Serve.{is_other, held, outcome_by, plan_at, let_through, sourced}
-use Rattle.interface.specs.Serve.{Leaves, SendsBy, Answers, TurnsIf, ItemTurns, ServesSlot}
-use Rattle.interface.specs.EgressPath.{FragmentLeaves, Clears, Egress}
+use Rattle.interface.specs.Serve.{Leaves}
+use Rattle.interface.specs.EgressPath.{FragmentLeaves, Clears}
 use Rattle.interface.specs.declared.serve.Served.{Served}
 use Rattle.interface.specs.declared.serve.Served.TheVariants as Turn
-use Rattle.interface.proofs.SameHost.{same_where, same_then, slot_same}
+use Rattle.interface.proofs.Alone.{turn_alone}
+use Rattle.interface.proofs.SameHost.{same_flag, same_where, same_then}
 use Rattle.interface.proofs.Sourced.{sourced_same}
 use Rattle.proof_stack.specs.Progress.NeighborResolution.{IsFrom}
 use Rattle.proof_stack.specs.Progress.Exchanged.{AsksFor}
@@ -55,7 +56,8 @@ use Rattle.proof_stack.proofs.Polls.Passes.{FragmentEnds, clears, clears_same}
 use Rattle.proof_stack.proofs.Polls.Searches.{WaitsAt, next_offset}
 use Rattle.proof_stack.proofs.Polls.Silenced.{nobody_sought}
 use Rattle.proof_stack.proofs.Polls.Walks.{joined, refused_before, refused_following, sends_before, sends_following}
-use Rattle.proof_stack.proofs.Polls.Ways.{waits_still}
+use Rattle.proof_stack.proofs.Polls.Ways.{waits_still, with_ident_same}
+use Rattle.proof_stack.proofs.Parkless.{Answers, Egress, ItemTurns, Pass, SendsBy, ServesSlot, TurnsIf, egress_alone, slot_same}
 
 abbrev Place : Type 0
 Place = SocketStorage Socket
@@ -88,7 +90,7 @@ module _ (i : InnerValue) (ident : ℕ) (hop : IpAddress) where
 
   needs_under : (o : Option (Item Socket)) → StillNeeds i hop o → StillNeeds later hop o
   needs_under None needs = absurd needs
-  needs_under (Some item) needs = (waits_still i later item.meta refl needs.0, with_packet) where
+  needs_under (Some item) needs = (waits_still i later item.meta (with_ident_same i ident) needs.0, with_packet) where
     with_packet : (answer : Answer.Offer) (s : Socket) → Offers (context_for later item.socket) item.socket answer s → IsNeedy later hop (offered_by s)
     with_packet answer s offers =
         needy_under (offered_by s)
@@ -201,9 +203,9 @@ module _ {D : Type 0} (moves : D → Move → D → Type 0) (hop : IpAddress) wh
     abbrev then_known : CacheValue
     then_known = requested c hop m
 
-    nobody : (s : Sender D) (slot : Place) → s.inner.instant ≡ m → s.inner.neighbors ≡ then_known → AreSuch moves turn (λ (q : NeighborQuery). ⊥) s slot.inner
-    nobody s slot now known p q offered plan whose =
-        nobody_sought s.inner hop (target_of q) (destination_of (sourced s.inner p).header) c (known ∙ ap (requested c hop) (sym now))
+    nobody : (s : Sender D) (slot : Place) → s.inner.host_requirements ≡ false → s.inner.instant ≡ m → s.inner.neighbors ≡ then_known → AreSuch moves turn (λ (q : NeighborQuery). ⊥) s slot.inner
+    nobody s slot alone now known p q offered plan whose =
+        nobody_sought s.inner hop (target_of q) (destination_of (sourced s.inner p).header) c alone (known ∙ ap (requested c hop) (sym now))
         (plan_for s.inner (is_some s.left) (sourced s.inner p).header q plan)
 
     still : (s s' : Sender D) (turned : Served) → s.inner.neighbors ≡ then_known → TurnWalks moves turn (λ (q : NeighborQuery). ⊥) s s' turned
@@ -216,18 +218,19 @@ module _ {D : Type 0} (moves : D → Move → D → Type 0) (hop : IpAddress) wh
       by (inr (inl asked)) = absurd asked.such
       by (inr (inr kept)) = inr (kept ∙ known)
 
-    keeps : (s : Sender D) (before : List Place) (changed : Bool) (ps : List Place) (e : Passed D) → s.inner.instant ≡ m → s.inner.neighbors ≡ then_known
+    keeps : (s : Sender D) (before : List Place) (changed : Bool) (ps : List Place) (e : Passed D) → s.inner.host_requirements ≡ false
+        → s.inner.instant ≡ m → s.inner.neighbors ≡ then_known
         → Pass moves turn s before changed ps e → Keeps s.device e then_known
-    keeps s before changed [] e now known ends = record {
+    keeps s before changed [] e alone now known ends = record {
       all = [];
       are = ap (λ (x : Passed D). x.sender.device) ends;
       what = inr (ap (λ (x : Passed D). x.sender.inner.neighbors) ends ∙ known);
     }
-    keeps s before changed (p ∷ ps) e now known (inl goes) =
+    keeps s before changed (p ∷ ps) e alone now known (inl goes) =
         let same : IsSameHost s.inner goes.1.inner = slot_same moves turn s goes.1 p goes.2 (Turn.Next goes.0) goes.3 in
         by (still s goes.1 (Turn.Next goes.0) known
-        (walks moves turn (λ (q : NeighborQuery). ⊥) s goes.1 p goes.2 (Turn.Next goes.0) (nobody s p now known) goes.3))
-        (λ known'. keeps goes.1 (before ++ goes.2 ∷ []) (changed || goes.0) ps e (ap (λ (j : InnerValue). j.instant) same ∙ now) known' goes.4)
+        (walks moves turn (λ (q : NeighborQuery). ⊥) s goes.1 p goes.2 (Turn.Next goes.0) (nobody s p alone now known) goes.3))
+        (λ known'. keeps goes.1 (before ++ goes.2 ∷ []) (changed || goes.0) ps e (same_flag s.inner goes.1.inner same ∙ alone) (ap (λ (j : InnerValue). j.instant) same ∙ now) known' goes.4)
       where
         rest : Tail moves turn goes.1.device e.sender.device
         rest = tail moves turn goes.1 (before ++ goes.2 ∷ []) (changed || goes.0) ps e goes.4
@@ -254,11 +257,11 @@ module _ {D : Type 0} (moves : D → Move → D → Type 0) (hop : IpAddress) wh
                   → (list_any is_refused (took.0 ++ ys) ≡ true) ⊎ (e.sender.inner.neighbors ≡ then_known)
               then_so ys (inl refused) = inl (refused_following took.0 ys refused)
               then_so ys (inr is) = inr is
-    keeps s before changed (p ∷ ps) e now known (inr stops) =
+    keeps s before changed (p ∷ ps) e alone now known (inr stops) =
         let took : (all : List Move) × AreMoves moves all s.device stops.1.device
         × ((list_any is_refused all ≡ true) ⊎ (stops.1.inner.neighbors ≡ then_known)) =
         still s stops.1 (Turn.Stop stops.0) known
-        (walks moves turn (λ (q : NeighborQuery). ⊥) s stops.1 p stops.2 (Turn.Stop stops.0) (nobody s p now known) stops.3) in
+        (walks moves turn (λ (q : NeighborQuery). ⊥) s stops.1 p stops.2 (Turn.Stop stops.0) (nobody s p alone now known) stops.3) in
         record {
           all = took.0;
           are = subst (λ (d : D). AreMoves moves took.0 s.device d) (sym (ap (λ (x : Passed D). x.sender.device) stops.4)) took.1;
@@ -272,7 +275,8 @@ module _ {D : Type 0} (moves : D → Move → D → Type 0) (hop : IpAddress) wh
 
   -- THE PASS
 
-  module _ (i : InnerValue) (slot : Place) (needs : StillNeeds i hop slot.inner) (room : is_crowded i ≡ false) where
+  module _ (i : InnerValue) (slot : Place) (needs : StillNeeds i hop slot.inner) (room : is_crowded i ≡ false)
+      (alone : i.host_requirements ≡ false) where
     abbrev asked_for : CacheValue
     asked_for = requested i.neighbors hop i.instant
 
@@ -329,7 +333,7 @@ module _ {D : Type 0} (moves : D → Move → D → Type 0) (hop : IpAddress) wh
         → AskedSo moves turn (ForHop s.inner) s.inner xs mid.inner → Pass moves turn mid before changed ps e → PassAsks s.device e
     asked_then s mid xs before changed ps e same known then_same are asked goes =
         let rest : Keeps mid.device e asked_for =
-        keeps i.neighbors i.instant mid before changed ps e
+        keeps i.neighbors i.instant mid before changed ps e (same_flag s.inner mid.inner then_same ∙ same_flag i s.inner same ∙ alone)
         (ap (λ (j : InnerValue). j.instant) then_same ∙ ap (λ (j : InnerValue). j.instant) same) (counts s.inner mid.inner xs same known asked) goes in
         record {
           all = xs ++ rest.all;
@@ -371,7 +375,7 @@ module _ {D : Type 0} (moves : D → Move → D → Type 0) (hop : IpAddress) wh
 
     module _ (s : Sender D) (same : IsSameHost i s.inner) (known : s.inner.neighbors ≡ i.neighbors) where
       is_begun : s.inner ≡ record i { ident = s.inner.ident }
-      is_begun = host_then i s.inner i.neighbors same refl known
+      is_begun = host_then i s.inner i.neighbors alone same refl known
 
       needs_now : StillNeeds s.inner hop slot.inner
       needs_now = subst (λ (j : InnerValue). StillNeeds j hop slot.inner) (sym is_begun) (needs_under i s.inner.ident hop slot.inner needs)
@@ -468,9 +472,9 @@ module _ {D : Type 0} (moves : D → Move → D → Type 0) (hops : List IpAddre
   step_asks_in_turn is =
       let at : WaitsAt now (WaitsOn now hops) x.old.slots a = next_offset now (WaitsOn now hops) x.old.slots a freely.waiting is in
       let e : Passed D = x.goes.0 in
-      let asks : PassAsks moves a.hop now at.slot (at.such a at.waits).1 freely.room x.old.device e =
-      egress moves a.hop now at.slot (at.such a at.waits).1 freely.room (sending x.instant x.old) x.old.slots at.n e refl (ap hop_of is) at.stands
-      x.goes.1 in
+      let asks : PassAsks moves a.hop now at.slot (at.such a at.waits).1 freely.room freely.alone x.old.device e =
+      egress moves a.hop now at.slot (at.such a at.waits).1 freely.room freely.alone (sending x.instant x.old) x.old.slots at.n e refl
+      (turn_alone now x.old.slots freely.alone ∙ ap hop_of is) at.stands (egress_alone moves (sending x.instant x.old) x.old.slots e freely.alone x.goes.1) in
       let are : AreMoves moves asks.all x.old.device x.new.device =
       subst (λ (d : D). AreMoves moves asks.all x.old.device d) (sym (ap (λ (s : State D). s.device) x.goes.2)) asks.are in
       let both : AsksFor now a.hop asks.all × (e.sender.inner.neighbors ≡ requested now.neighbors a.hop now.instant) =

@@ -14,9 +14,10 @@ use Rattle.socket_datagram.specs.declared.udp.UdpMetadata.{UdpMetadata}
 use Rattle.iface_ingress.specs.Packet.{PacketValue}
 use Rattle.iface_tables.specs.Best.{at_index}
 use Rattle.iface_tables.specs.Inner.{InnerValue, is_local_broadcast, next_hop, link_by, link_of_hop, link_on, link_address, all_stations, group_hardware_addr}
-use Rattle.iface_tables.specs.Inner.{context_of, mtu_to}
+use Rattle.iface_tables.specs.Inner.{asked_of, context_of, mtu_to}
 use Rattle.iface_tables.specs.Inner.{is_known_on, is_known_hop}
 use Rattle.iface_tables.specs.Neighbor.{CacheValue, lookup, missing, answer_by, neighbor_index_of, unless_failed, has_failed, is_found}
+use Rattle.iface_tables.specs.Parking.{ParkingValue}
 use Rattle.iface_tables.specs.declared.link.LinkAddress.{LinkAddress}
 use Rattle.iface_tables.specs.declared.link.LinkAddress.TheVariants as Link
 use Rattle.iface_tables.specs.declared.neighbor.Answer.{Answer}
@@ -29,7 +30,8 @@ use Rattle.iface_egress.specs.Meta.{neighbor_by, waits_by}
 use Rattle.iface_egress.specs.Plan.{total_len, long_plan, plan_by, plan_of}
 use Rattle.iface_egress.specs.declared.plan.Plan.TheVariants as Way
 use Rattle.iface_egress.specs.declared.socket_meta.Meta.{Meta}
-use Rattle.interface.specs.SameHost.{IsSameHost}
+use Rattle.interface.specs.SameHost.{IsSameHost, parking_from}
+use Rattle.interface.proofs.SameHost.{parked_so}
 use Rattle.interface.specs.Serve.{is_known, is_waiting}
 use Rattle.proof_stack.specs.Progress.Queued.{CanGo, with_ident, frame_under}
 use Rattle.proof_stack.specs.Progress.Segments.{CanTransmit}
@@ -117,19 +119,19 @@ found_entry (Some entry) c c' instant =
 
 -- ANOTHER NUMBER, ANOTHER SILENCE, OTHER SEARCHES
 
-module _ (i : InnerValue) (ident : ℕ) (silent : ℤ) (searches : List Search) where
+module _ (i : InnerValue) (ident : ℕ) (silent : ℤ) (searches : List Search) (parking : ParkingValue) where
   abbrev later : InnerValue
-  later = record i { ident = ident; neighbors = with_searches i.neighbors silent searches }
+  later = record i { ident = ident; neighbors = with_searches i.neighbors silent searches; parking = parking }
 
   hop_still : (o : Option IpAddress) (to : HardwareAddress) → link_of_hop i o ≡ Link.Known to → link_of_hop later o ≡ Link.Known to
   hop_still None to is = is
   hop_still (Some hop) to is =
       let entry : Option Neighbor = at_index (neighbor_index_of i.neighbors.entries hop) i.neighbors.entries in
-      let found : IsAt to (answer_by entry i.neighbors i.instant) =
-      at_failed (has_failed i.neighbors hop i.instant) (answer_by entry i.neighbors i.instant) to (at_link (lookup i.neighbors hop i.instant) hop to is) in
-      link_at (lookup later.neighbors hop i.instant) hop to
-      (failed_at (has_failed later.neighbors hop i.instant) (answer_by entry later.neighbors i.instant) to
-      (at_entry entry i.neighbors later.neighbors i.instant to found))
+      let found : IsAt to (answer_by entry (asked_of i hop) i.instant) =
+      at_failed (has_failed (asked_of i hop) hop i.instant) (answer_by entry (asked_of i hop) i.instant) to (at_link (lookup (asked_of i hop) hop i.instant) hop to is) in
+      link_at (lookup (asked_of later hop) hop i.instant) hop to
+      (failed_at (has_failed (asked_of later hop) hop i.instant) (answer_by entry (asked_of later hop) i.instant) to
+      (at_entry entry (asked_of i hop) (asked_of later hop) i.instant to found))
 
   on_still : (hardware : HardwareAddress) (address : IpAddress) (to : HardwareAddress) → link_on hardware i address ≡ Link.Known to →
       link_on hardware later address ≡ Link.Known to
@@ -170,7 +172,7 @@ module _ (i : InnerValue) (ident : ℕ) (silent : ℤ) (searches : List Search) 
 
 pub leave_still : (i i' : InnerValue) (to : HardwareAddress) (p : PacketValue) → IsSameHost i i' → CanTransmit i to p → CanTransmit i' to p
 leave_still i i' to p same can =
-    subst (λ (x : InnerValue). CanTransmit x to p) (sym same) (leaves_still i i'.ident i'.neighbors.silent i'.neighbors.searches to p can)
+    subst (λ (x : InnerValue). CanTransmit x to p) (sym same) (leaves_still i i'.ident i'.neighbors.silent i'.neighbors.searches (parking_from i i') to p can)
 
 -- a datagram's packet leaves so
 pub leaves : (i : InnerValue) (settings : UdpSettings) (d : UdpMetadata × List ℕ) (to : HardwareAddress) (p : PacketValue) → CanGo i settings d to p
@@ -188,9 +190,13 @@ can_still i i' settings d to p same can =
       short = left.short;
     }
 
+-- so does another identification
+pub with_ident_same : (i : InnerValue) (ident : ℕ) → IsSameHost i (with_ident i ident)
+with_ident_same i ident = ap (λ (k : ParkingValue). record i { ident = ident; parking = k }) (parked_so i.host_requirements i.parking i.parking refl)
+
 pub waits_still : (i i' : InnerValue) (m : Meta) → IsSameHost i i' → is_waiting i m ≡ false → is_waiting i' m ≡ false
 waits_still i i' m same ready =
-    subst (λ (x : InnerValue). is_waiting x m ≡ false) (sym same) (ready_still i i'.ident i'.neighbors.silent i'.neighbors.searches m ready)
+    subst (λ (x : InnerValue). is_waiting x m ≡ false) (sym same) (ready_still i i'.ident i'.neighbors.silent i'.neighbors.searches (parking_from i i') m ready)
 
 -- THE PLAN AND THE FRAME
 

@@ -21,6 +21,7 @@ use Rattle.lan.specs.Worlds.AtLink.Sets.{asked}
 use Rattle.lan.specs.Worlds.AtLink.Node.{NodeValue, Nodes, node}
 use Rattle.lan.specs.Worlds.AtLink.Steps.{ActsAt}
 use Rattle.lan.specs.Worlds.Still.{StillRun}
+use Rattle.lan.proofs.Worlds.Alone.{alone_at}
 use Rattle.lan.proofs.Worlds.Hosts.Going.{proceeds_along}
 use Rattle.lan.proofs.Worlds.Moves.Nets.{either_side}
 use Rattle.lan.proofs.Worlds.StillOnward.{ran}
@@ -30,7 +31,7 @@ use Rattle.proof_stack.specs.Progress.Events.{clock_in}
 use Rattle.proof_stack.specs.Progress.OneClock.{KeepOneClock}
 use Rattle.proof_stack.specs.Progress.Serving.{AreServedAtOnce, WantsAt}
 use Rattle.proof_stack.proofs.Rounds.OnWay.{AreUnder, Due, IsUnder, Way, deliver_under, due_fewer, handed_over, none_due, poll_way, same_link_under, stays_on, with_count}
-use Rattle.proof_stack.proofs.Rounds.Sendings.{SendsShort, sends_short}
+use Rattle.proof_stack.proofs.Rounds.Sendings.{SendsShort, none_waits, sends_short}
 use Rattle.proof_stack.proofs.Rounds.Takings.{takes_few}
 
 no_earlier : (t : ℤ) → t ≤ℤ t
@@ -110,8 +111,9 @@ module _ (starts : Starts) (initial : IsInitialWorld starts) (slots : Side → �
       let old : Nodes = still.0 in
       let acts : ActsAt old side (Polls t budget) answer found hosts = still.2.happens in
       let mtu = host_mtu (more ++ past) old still.1 side in
+      let alone = alone_at old still.2.alone side in
       let takes = takes_few (node old side) (node hosts side) t budget acts.acts.0 acts.acts.1 in
-      let sends = sends_short (node old side) (node hosts side) t budget acts.acts.0 mtu.0 mtu.1 acts.acts.1 in
+      let sends = sends_short (node old side) (node hosts side) t budget acts.acts.0 (none_waits (node old side).host.inner alone) mtu.0 mtu.1 acts.acts.1 in
       with_event (entry (E.Poll side t budget) answer before found) t k k more hosts still c
       (either_side side (λ s. k s ≤ length (node hosts s).link.sent) (grown (node old side) (node hosts side) (k side) sends (c.few side))
       (subst (λ (s : NodeValue). k (other side) ≤ length s.link.sent) (sym acts.rests) (c.few (other side))))

@@ -15,6 +15,7 @@ use Rattle.sockets.specs.Offer.TheVariants as Offer
 use Rattle.sockets.specs.Socket.{offered_by}
 use Rattle.sockets.specs.declared.socket.Socket.{Socket}
 use Rattle.iface_egress.specs.Inner.{InnerValue, at_instant}
+use Rattle.iface_tables.specs.Parking.{ParkedValue, ParkingValue}
 use Rattle.iface_egress.specs.declared.frame.CutHeader.{CutHeader}
 use Rattle.iface_egress.specs.declared.frame.CutHeader.TheVariants as Cut
 use Rattle.iface_egress.specs.declared.frame.NeighborQuery.{NeighborQuery}
@@ -27,26 +28,32 @@ use Rattle.iface_egress.specs.Departure.{Departure, fragment_header_len, solicit
 use Rattle.iface_egress.specs.declared.socket_meta.Meta.{Meta}
 use Rattle.iface_egress.specs.Fragments.{LeftValue, departure_from}
 use Rattle.iface_egress.specs.IsTransmitted.{IsTransmitted, FragmentIsTransmitted, Departs, frame_of, frame_len_of}
+use Rattle.iface_egress.specs.Parked.{GoesOn, ServesEach, ServesParked, inner_after, lent, packet_in, parks, put_back, sender_after}
 use Rattle.iface_egress.specs.Plan.{plan_of}
 use Rattle.iface_egress.specs.declared.egress_path.Sent.{Sent}
+use Rattle.iface_egress.specs.declared.egress_path.Sent.TheVariants as Outcome
 use Rattle.iface_egress.proofs.Changes.{changes, fragment_sends, same_settings}
 use Rattle.iface_egress.proofs.Short.{planned_short, fragment_short}
 use Rattle.iface_ingress.specs.Arrives as Replies
-use Rattle.iface_ingress.specs.Arrives.{ReplyValue, whole_arrived}
+use Rattle.iface_ingress.specs.Arrives.{ReplyValue}
+use Rattle.iface_ingress.specs.WellFormed.{IsWellFormed}
 use Rattle.iface_ingress.specs.FragmentStored.{HasSameSettings}
 use Rattle.interface.specs.Host.{Sender}
-use Rattle.interface.specs.Ingress.{Takes, Replied, is_awaited, is_read, longest_frame}
+use Rattle.interface.specs.Ingress.{AnswerGoes, Takes, Replied, is_awaited, is_read, longest_frame, would_solicit}
 use Rattle.interface.specs.State.{State}
-use Rattle.interface.specs.Serve.{Leaves, SendsBy, Answers, TurnsIf, ItemTurns, ServesSlot, is_waiting, let_through}
+use Rattle.interface.specs.Serve.{Answers, ItemTurns, Leaves, LeavesIf, SendsBy, ServesSlot, TurnsIf, is_waiting, let_through, plan_at}
 use Rattle.interface.specs.EgressPath.{FragmentLeaves}
 use Rattle.interface.specs.declared.serve.Served.{Served}
-use Rattle.interface.proofs.Kept.{IsKept}
 use Rattle.interface.proofs.Keep.{polls_keep}
+use Rattle.interface.proofs.Kept.{IsKept}
+use Rattle.interface.proofs.Parked.{HasLeft, left_by}
 use Rattle.interface.proofs.Runs.{receives_same}
 use Rattle.sim_link.specs.Port.{LinkEnd, PortMove, PortValue}
 use Rattle.lan.specs.Worlds.AtLink.Node.{NodeValue, at_port}
 use Rattle.lan.specs.Worlds.AtLink.Steps.{PollsAt}
-use Rattle.lan.proofs.Worlds.AtLink.Replies.{IsMeasured, IfReplyMeasured, brings_so}
+use Rattle.lan.proofs.Worlds.AtLink.Replies.{IsMeasured}
+use Rattle.proof_stack.specs.Progress.Parked.{AreWhole, IsWhole, WaitWhole}
+use Rattle.proof_stack.proofs.Rounds.Whole.{parked_whole, served_whole}
 
 abbrev Frames : Type 0
 Frames = List (List ℕ)
@@ -157,86 +164,161 @@ module _ (first : Frames) where
   so_told : (i : InnerValue) → 576 ≤ i.mtu → 42 ≤ link_room i.hardware + i.mtu
   so_told i low = omega (arith, low)
 
-  so_replied : (awaited : Bool) (reply : Option ReplyValue) (x x' : Sender PortValue) → IfReplyMeasured reply → Replied PortMove awaited reply x x'
-      → So x.device x.inner → So x'.device x'.inner
-  so_replied awaited None x x' len is so = subst (λ (y : Sender PortValue). So y.device y.inner) (sym is) so
-  so_replied awaited (Some (Replies.Tells packet)) x x' len tells so =
-      subst (λ (i : InnerValue). So x'.device i) (sym tells.2)
-      (so_sends (Departures.Tells packet) tells.0 x.device x'.device x.inner (so_told x.inner so.low) tells.1 so)
-  so_replied awaited (Some (Replies.Answers p)) x x' len (inl held) so = subst (λ (y : Sender PortValue). So y.device y.inner) (sym held.0) so
-  so_replied awaited (Some (Replies.Answers p)) x x' len (inr answers) so =
-      so_out x.device x'.device x.inner x'.inner x.left x'.left p (is_some x.left) answers.0 len answers.1 so
+  -- and what waits has the bytes that its headers say
+  abbrev Both : Sender PortValue → Type 0
+  Both x = So x.device x.inner × WaitWhole x.inner
 
-  so_takes : (s s' : State PortValue) (answer : Option Bool) → So s.device s.host.inner → Takes PortMove s answer s' → So s'.device s'.host.inner
+  -- the port and the host of a sender
+  both_where : (x x' : Sender PortValue) → x' ≡ x → Both x → Both x'
+  both_where x x' is both = subst Both (sym is) both
+
+  both_device : (x x' : Sender PortValue) → x'.inner ≡ x.inner → So x'.device x.inner → WaitWhole x.inner → Both x'
+  both_device x x' is so waits = (subst (λ (i : InnerValue). So x'.device i) (sym is) so, subst WaitWhole (sym is) waits)
+
+  both_out : (d : PortValue) (x x' : Sender PortValue) (p : PacketValue) (busy : Bool) (sent : Sent) → IsMeasured p
+      → IsTransmitted PortMove d x.inner x.left p (plan_of x.inner busy p.header) sent x'.device x'.inner x'.left → So d x.inner → WaitWhole x.inner → Both x'
+  both_out d x x' p busy sent len goes so waits = (
+    so_out d x'.device x.inner x'.inner x.left x'.left p busy sent len goes so,
+    subst WaitWhole (sym (changes PortMove d x'.device x.inner x'.inner x.left x'.left p busy sent goes).1) waits,
+  )
+
+  both_parked : (b : Bool) (x : Sender PortValue) (p : PacketValue) → IsWellFormed p → Both x → Both (sender_after b p x)
+  both_parked true x p formed both = (so_host x.device x.inner (inner_after true x.inner p) refl both.0, parked_whole true x.inner p formed both.1)
+  both_parked false x p formed both = both
+
+  so_answered : (many : Bool) (p : PacketValue) (kept_back : Bool) (x x' : Sender PortValue) → AnswerGoes PortMove many p kept_back x x' → Both x → Both x'
+  so_answered false p kept_back x x' goes both =
+      both_out x.device x x' p (is_some x.left) goes.0 goes.2.sendable.len goes.1 both.0 both.1
+  so_answered true p kept_back x x' goes both =
+      both_where (sender_after (parks goes.1.inner p (plan_of x.inner (is_some x.left) p.header) goes.0) p goes.1) x' goes.3
+      (both_parked (parks goes.1.inner p (plan_of x.inner (is_some x.left) p.header) goes.0) goes.1 p goes.4
+      (both_out x.device x goes.1 p (is_some x.left) goes.0 goes.4.sendable.len goes.2 both.0 both.1))
+
+  so_replied : (awaited : Bool) (reply : Option ReplyValue) (x x' : Sender PortValue) → Replied PortMove awaited reply x x' → Both x → Both x'
+  so_replied awaited None x x' is both = both_where x x' is both
+  so_replied awaited (Some (Replies.Tells packet)) x x' tells both =
+      both_device x x' tells.2 (so_sends (Departures.Tells packet) tells.0 x.device x'.device x.inner (so_told x.inner both.0.low) tells.1 both.0) both.1
+  so_replied awaited (Some (Replies.Answers p)) x x' (inl held) both = both_where x x' held.0 both
+  so_replied awaited (Some (Replies.Answers p)) x x' (inr goes) both =
+      so_answered x.inner.host_requirements p (awaited && would_solicit x p) x x' goes both
+
+  abbrev Whole : State PortValue → Type 0
+  Whole s = So s.device s.host.inner × WaitWhole s.host.inner
+
+  whole_where : (s s' : State PortValue) → s'.host.inner ≡ s.host.inner → So s'.device s.host.inner → WaitWhole s.host.inner → Whole s'
+  whole_where s s' is so waits = (subst (λ (i : InnerValue). So s'.device i) (sym is) so, subst WaitWhole (sym is) waits)
+
+  whole_arrival : (i j : InnerValue) → HasSameSettings i j → WaitWhole i → WaitWhole j
+  whole_arrival i j same waits = λ many.
+      subst (λ (k : ParkingValue). AreWhole k.packets) (sym same.parking) (waits (sym same.host_requirements ∙ many))
+
+  so_takes : (s s' : State PortValue) (answer : Option Bool) → Whole s → Takes PortMove s answer s' → Whole s'
   so_takes s s' None so takes =
-      subst (λ (i : InnerValue). So s'.device i) (sym (ap (λ (x : State PortValue). x.host.inner) takes.1))
-      (so_same s.device s'.device s.host.inner takes.0.0 so)
+      whole_where s s' (ap (λ (x : State PortValue). x.host.inner) takes.1) (so_same s.device s'.device s.host.inner takes.0.0 so.0) so.1
   so_takes s s' (Some false) so takes =
-      subst (λ (i : InnerValue). So s'.device i) (sym (ap (λ (x : State PortValue). x.host.inner) takes.3))
-      (so_port s.device s'.device s.host.inner (ap (λ (p : PortValue). p.link.sent) (sym takes.1.1)) so)
+      whole_where s s' (ap (λ (x : State PortValue). x.host.inner) takes.3)
+      (so_port s.device s'.device s.host.inner (ap (λ (p : PortValue). p.link.sent) (sym takes.1.1)) so.0) so.1
   so_takes s s' (Some true) so takes =
       let reads = takes.4 in
       let i : InnerValue = s.host.inner in
       let j : InnerValue = reads.2.0.inner in
       let same : HasSameSettings i j = (receives_same PortMove reads.0 (record s { device = takes.1 }) s' reads.2).0 in
-      let took : So takes.1 i = so_port s.device takes.1 i (ap (λ (p : PortValue). p.link.sent) (sym takes.2.1)) so in
+      let took : So takes.1 i = so_port s.device takes.1 i (ap (λ (p : PortValue). p.link.sent) (sym takes.2.1)) so.0 in
       so_replied (is_awaited reads.2.0) reads.2.0.reply (record { device = takes.1; inner = j; left = s.host.left })
-      (record { device = s'.device; inner = s'.host.inner; left = s'.host.left })
-      (brings_so i s.slots (whole_arrived i s.host.timeout s.host.assemblers reads.0) reads.2.0 reads.2.1.1) reads.2.3
-      (so_host takes.1 i j same.mtu took)
+      (record { device = s'.device; inner = s'.host.inner; left = s'.host.left }) reads.2.3
+      (so_host takes.1 i j same.mtu took, whole_arrival i j same so.1)
 
   -- PIECES AND TURNS
 
-  so_fragment_leaves : (l : LeftValue) (x x' : Sender PortValue) (gone : Bool) → FragmentLeaves PortMove l x gone x' → x'.inner ≡ x.inner → So x.device x.inner
-      → So x'.device x'.inner
-  so_fragment_leaves l x x' gone (inl stays) is so =
-      subst (λ (i : InnerValue). So x'.device i) (sym is) (so_same x.device x'.device x.inner stays.0.0 so)
-  so_fragment_leaves l x x' gone (inr goes) is so =
-      subst (λ (i : InnerValue). So x'.device i) (sym is)
-      (so_fragment l gone goes.0 x'.device x.inner x'.left goes.2 (so_same x.device goes.0 x.inner goes.1.0 so))
+  so_fragment_leaves : (l : LeftValue) (x x' : Sender PortValue) (gone : Bool) → FragmentLeaves PortMove l x gone x' → x'.inner ≡ x.inner → Both x → Both x'
+  so_fragment_leaves l x x' gone (inl stays) is both = both_device x x' is (so_same x.device x'.device x.inner stays.0.0 both.0) both.1
+  so_fragment_leaves l x x' gone (inr goes) is both =
+      both_device x x' is (so_fragment l gone goes.0 x'.device x.inner x'.left goes.2 (so_same x.device goes.0 x.inner goes.1.0 both.0)) both.1
 
-  module _ (turn : Option IpAddress) (x x' : Sender PortValue) (so : So x.device x.inner) where
-    abbrev Next : Type 0
-    Next = So x'.device x'.inner
+  module _ (turn : Option IpAddress) (x : Sender PortValue) (both : Both x) where
+    so_leaves : (x' : Sender PortValue) (m : Meta) (p : PacketValue) (sent : Sent) → IsMeasured p → Leaves PortMove turn x m p sent x' → Both x'
+    so_leaves x' m p sent len (inl rests) = both_device x x' rests.2 (so_same x.device x'.device x.inner rests.1.0 both.0) both.1
+    so_leaves x' m p sent len (inr goes) =
+        both_out goes.0 x x' p (is_some x.left) sent len goes.2 (so_same x.device goes.0 x.inner goes.1.0 both.0) both.1
 
-    so_stays : x' ≡ x → Next
-    so_stays is = subst (λ (y : Sender PortValue). So y.device y.inner) (sym is) so
+    so_leaves_if : (many : Bool) (x' : Sender PortValue) (m : Meta) (p : PacketValue) (sent : Sent) → IsWellFormed p → LeavesIf PortMove turn many x m p sent x'
+        → Both x'
+    so_leaves_if false x' m p sent formed goes = so_leaves x' m p sent formed.sendable.len goes
+    so_leaves_if true x' m p sent formed goes =
+        both_where (sender_after (parks goes.1.inner p (plan_at x p) goes.0) p goes.1) x' goes.4
+        (both_parked (parks goes.1.inner p (plan_at x p) goes.0) goes.1 p formed (so_leaves goes.1 m p goes.0 formed.sendable.len goes.2))
 
-    so_leaves : (m : Meta) (p : PacketValue) (sent : Sent) → IsMeasured p → Leaves PortMove turn x m p sent x' → Next
-    so_leaves m p sent len (inl rests) =
-        subst (λ (i : InnerValue). So x'.device i) (sym rests.2) (so_same x.device x'.device x.inner rests.1.0 so)
-    so_leaves m p sent len (inr goes) =
-        so_out goes.0 x'.device x.inner x'.inner x.left x'.left p (is_some x.left) sent len goes.2 (so_same x.device goes.0 x.inner goes.1.0 so)
-
-    so_sent : (o : Option PacketValue) (item item' : Item Socket) (changed : Bool) (turned : Served) → SendsBy PortMove turn o x item changed turned x' item' → Next
+  module _ (turn : Option IpAddress) (x x' : Sender PortValue) (both : Both x) where
+    so_sent : (o : Option PacketValue) (item item' : Item Socket) (changed : Bool) (turned : Served) → SendsBy PortMove turn o x item changed turned x' item' → Both x'
     so_sent None item item' changed turned sends = absurd sends
-    so_sent (Some p) item item' changed turned sends = so_leaves item.meta sends.0 sends.3.0 sends.3.4.sendable.len sends.3.1
+    so_sent (Some p) item item' changed turned sends =
+        so_leaves_if turn x both x.inner.host_requirements x' item.meta sends.0 sends.3.0 sends.3.4 sends.3.1
 
-    so_answers : (answer : Answer.Offer) (item item' : Item Socket) (turned : Served) → Answers PortMove turn answer x item turned x' item' → Next
-    so_answers (Offer.Silent changed) item item' turned answers = so_stays answers.1
+    so_answers : (answer : Answer.Offer) (item item' : Item Socket) (turned : Served) → Answers PortMove turn answer x item turned x' item' → Both x'
+    so_answers (Offer.Silent changed) item item' turned answers = both_where x x' answers.1 both
     so_answers (Offer.Packet changed) item item' turned answers = so_sent (offered_by item.socket) item item' changed turned answers
 
-    so_turns : (waits : Bool) (item item' : Item Socket) (turned : Served) → TurnsIf PortMove turn waits x item turned x' item' → Next
-    so_turns true item item' turned turns = so_stays turns.1
+    so_turns : (waits : Bool) (item item' : Item Socket) (turned : Served) → TurnsIf PortMove turn waits x item turned x' item' → Both x'
+    so_turns true item item' turned turns = both_where x x' turns.1 both
     so_turns false item item' turned turns = so_answers turns.0 (record item { socket = turns.1 }) item' turned turns.3
 
-    so_item : (o o' : Option (Item Socket)) (turned : Served) → ItemTurns PortMove turn o x turned x' o' → Next
-    so_item None None turned turns = so_stays turns.1
+    so_item : (o o' : Option (Item Socket)) (turned : Served) → ItemTurns PortMove turn o x turned x' o' → Both x'
+    so_item None None turned turns = both_where x x' turns.1 both
     so_item (Some item) (Some item') turned turns = so_turns (is_waiting x.inner item.meta) (let_through x.inner item) item' turned turns
     so_item None (Some item') turned turns = absurd turns
     so_item (Some item) None turned turns = absurd turns
 
-    so_slot : (p p' : SocketStorage Socket) (turned : Served) → ServesSlot PortMove turn x p turned x' p' → Next
+    so_slot : (p p' : SocketStorage Socket) (turned : Served) → ServesSlot PortMove turn x p turned x' p' → Both x'
     so_slot p p' turned turns = so_item p.inner p'.inner turned turns
 
-  abbrev Whole : State PortValue → Type 0
-  Whole s = So s.device s.host.inner
+  -- PACKETS THAT WAIT
+
+  so_left : (x x' : Sender PortValue) (k : ParkedValue) (sent : Sent) → IsWhole k → HasLeft PortMove x (packet_in k) sent x' → So x.device x.inner
+      → So x'.device x'.inner
+  so_left x x' k sent len (inl is) so = subst (λ (y : Sender PortValue). So y.device y.inner) (sym is) so
+  so_left x x' k sent len (inr (inl rests)) so =
+      subst (λ (i : InnerValue). So x'.device i) (sym rests.1) (so_same x.device x'.device x.inner rests.0.0 so)
+  so_left x x' k sent len (inr (inr goes)) so =
+      so_out goes.0 x'.device x.inner x'.inner x.left x'.left (packet_in k) (is_some x.left) sent len goes.2 (so_same x.device goes.0 x.inner goes.1.0 so)
+
+  so_each : (rest kept : List ParkedValue) (x : Sender PortValue) (all : Bool) (x' : Sender PortValue) (left : List ParkedValue) → AreWhole rest
+      → So x.device x.inner → ServesEach PortMove rest kept x all x' left → So x'.device x'.inner
+  so_each [] kept x all x' left whole so serves = subst (λ (y : Sender PortValue). So y.device y.inner) (sym serves.1) so
+  so_each (k ∷ rest) kept x all x' left whole so serves =
+      by serves.0
+      (so_left x serves.1 k serves.0 whole.0
+      (left_by PortMove (plan_of x.inner (is_some x.left) k.header) x (packet_in k) serves.0 serves.1 serves.2) so) serves.3
+      (λ on now later. so_each rest on serves.1 all x' left whole.1 now later)
+    where
+      mid : Sender PortValue
+      mid = serves.1
+
+      by : (sent : Sent) → So mid.device mid.inner
+          → GoesOn PortMove sent (ServesEach PortMove rest kept mid all x' left) (ServesEach PortMove rest (kept ++ k ∷ []) mid all x' left)
+          ((all ≡ false) × (x' ≡ mid) × (left ≡ kept ++ k ∷ rest))
+          → ((on : List ParkedValue) → So mid.device mid.inner → ServesEach PortMove rest on mid all x' left → So x'.device x'.inner)
+          → So x'.device x'.inner
+      by Outcome.Gone now later further = further kept now later
+      by Outcome.Dropped now later further = further kept now later
+      by Outcome.Waits now later further = further (kept ++ k ∷ []) now later
+      by Outcome.Busy now later further = further (kept ++ k ∷ []) now later
+      by Outcome.Refused now later further = subst (λ (y : Sender PortValue). So y.device y.inner) (sym later.1) now
+
+  so_parked : (x x' : Sender PortValue) (all : Bool) → x.inner.host_requirements ≡ true → ServesParked PortMove x all x' → Both x → Both x'
+  so_parked x x' all many serves both = (
+    subst (λ (y : Sender PortValue). So y.device y.inner) (sym serves.3)
+        (so_host serves.0.device serves.0.inner (put_back PortMove x.inner.parking.room serves.1 serves.0).inner refl
+        (so_each x.inner.parking.packets [] (lent PortMove x) all serves.0 serves.1 (both.1 many)
+        (so_host x.device x.inner (lent PortMove x).inner refl both.0) serves.2)),
+    λ now. served_whole PortMove x x' all (both.1 many) serves,
+  )
 
   kept : (t : ℤ) → IsKept PortMove t Whole
   kept t = record {
-    maintenance = λ s so. so_host s.device s.host.inner (at_instant t s.host.inner) refl so;
+    maintenance = λ s so. (so_host s.device s.host.inner (at_instant t s.host.inner) refl so.0, so.1);
     arrivals = λ s s' answer runs so takes. so_takes s s' answer so takes;
     fragments = λ h ps x x' l gone runs is so leaves same. so_fragment_leaves l x x' gone leaves same so;
+    parked = λ h ps x x' all runs many so serves. so_parked x x' all many serves so;
     turns = λ turn h before after p p' x x' turned runs so turns. so_slot turn x x' so p p' turned turns;
   }
 
@@ -248,15 +330,25 @@ pub record SendsShort (before after : Frames) : Type 0 where
   pub are : after ≡ before ++ gone
   pub read : CanBeRead gone
 
-pub sends_short : (s s' : NodeValue) (t : ℤ) (budget : ℕ) (changed : Bool) → 576 ≤ s.host.inner.mtu → s.host.inner.mtu ≤ 65_535 → PollsAt s t budget changed s'
-    → SendsShort s.link.sent s'.link.sent
-sends_short s s' t budget changed low high at =
-    let first : Frames = at.port.link.sent in
-    let begins : Sends first at.port s.host.inner = record { low = low; high = high; gone = []; are = sym (append-nil first); read = tt } in
-    let ends : Sends first at.port_after s'.host.inner =
-    (polls_keep PortMove t (Whole first) (kept first t) budget (at_port at.port s) (at_port at.port_after s') changed begins at.polls).0 in
-    record {
-      gone = ends.gone;
-      are = ap (λ (l : LinkEnd). l.sent) (sym at.after) ∙ ends.are ∙ ap (λ (l : LinkEnd). l.sent ++ ends.gone) at.before;
-      read = ends.read;
-    }
+module _ (s s' : NodeValue) (t : ℤ) (budget : ℕ) (changed : Bool) (waits : WaitWhole s.host.inner) (low : 576 ≤ s.host.inner.mtu)
+    (high : s.host.inner.mtu ≤ 65_535) (at : PollsAt s t budget changed s') where
+  ends : Whole at.port.link.sent (at_port at.port_after s')
+  ends =
+      let begins : Sends at.port.link.sent at.port s.host.inner =
+      record { low = low; high = high; gone = []; are = sym (append-nil at.port.link.sent); read = tt } in
+      (polls_keep PortMove t (Whole at.port.link.sent) (kept at.port.link.sent t) budget (at_port at.port s) (at_port at.port_after s') changed
+      (begins, waits) at.polls).0
+
+  pub sends_short : SendsShort s.link.sent s'.link.sent
+  sends_short = record {
+    gone = ends.0.gone;
+    are = ap (λ (l : LinkEnd). l.sent) (sym at.after) ∙ ends.0.are ∙ ap (λ (l : LinkEnd). l.sent ++ ends.0.gone) at.before;
+    read = ends.0.read;
+  }
+
+  pub still_whole : WaitWhole s'.host.inner
+  still_whole = ends.1
+
+-- where none can wait
+pub none_waits : (i : InnerValue) → i.host_requirements ≡ false → WaitWhole i
+none_waits i alone = λ many. absurd (let clash : true ≡ false = sym many ∙ alone in cc)

@@ -12,12 +12,12 @@ use Rattle.interface.specs.Ingress.{IngressStep, Takes}
 use Rattle.interface.specs.Pass.{Pass, Passed}
 use Rattle.interface.specs.Polls.{Repeats, begun}
 use Rattle.interface.specs.State.{State, state}
-use Rattle.interface.specs.EgressPath.{Clears, Egress}
+use Rattle.interface.specs.EgressPath.{Clears, ClearsIf, Egress}
 use Rattle.interface.specs.declared.serve.Served.TheVariants as Turn
 use Rattle.sim_link.specs.Port.{LinkEnd, PortMove, PortValue}
 use Rattle.lan.specs.Worlds.AtLink.Node.{NodeValue, at_port}
 use Rattle.lan.specs.Worlds.AtLink.Steps.{PollsAt}
-use Rattle.lan.proofs.Worlds.Moves.Devices.{fragment_leaves, slot_turns, reads}
+use Rattle.lan.proofs.Worlds.Moves.Devices.{fragment_leaves, parked, slot_turns, reads}
 use Rattle.lan.proofs.Worlds.Moves.Frames.{IsNoTake}
 
 abbrev Frames : Type 0
@@ -55,9 +55,15 @@ module _ (frames : Frames) where
   clears None x x' clear still is = subst (λ (y : Sender PortValue). Still y.device) (sym is.1) still
   clears (Some l) x x' clear still is = fragment_leaves PortMove Still quiet l x x' clear is.0 still
 
+  clears_all : (many : Bool) (x x' : Sender PortValue) (clear : Bool) → Still x.device → ClearsIf PortMove many x clear x' → Still x'.device
+  clears_all false x x' clear still is = clears x.left x x' clear still is
+  clears_all true x x' clear still (inl stays) = clears x.left x x' false still stays.0
+  clears_all true x x' clear still (inr serves) =
+      parked PortMove Still quiet serves.0 x' clear (clears x.left x serves.0 true still serves.1) serves.2
+
   egress : (x : Sender PortValue) (ps : List (SocketStorage Socket)) (e : Passed PortValue) → Still x.device → Egress PortMove x ps e → After e
-  egress x ps e still (inl stays) = subst After (sym stays.2) (clears x.left x stays.0 false still stays.1)
-  egress x ps e still (inr goes) = pass (turn_of goes.0.inner ps) ps [] goes.0 false e (clears x.left x goes.0 true still goes.1) goes.2
+  egress x ps e still (inl stays) = subst After (sym stays.2) (clears_all x.inner.host_requirements x stays.0 false still stays.1)
+  egress x ps e still (inr goes) = pass (turn_of goes.0.inner ps) ps [] goes.0 false e (clears_all x.inner.host_requirements x goes.0 true still goes.1) goes.2
 
   module _ (t : ℤ) where
     out : (s s' : State PortValue) (answer : Option Bool) → Still s.device → EgressStep PortMove t s answer s' → Still s'.device

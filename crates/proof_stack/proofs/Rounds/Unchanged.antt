@@ -20,12 +20,13 @@ use Rattle.lan.specs.Worlds.AtLink.Origins.{handed}
 use Rattle.lan.specs.Worlds.AtLink.Paired.{told}
 use Rattle.lan.specs.Worlds.AtLink.Parties.{Net, Socket, party, socket_at}
 use Rattle.lan.specs.Worlds.AtLink.Parties.Socket.{Icmp, Raw, Tcp, Udp}
-use Rattle.lan.specs.Worlds.AtLink.Runs.{Starts}
+use Rattle.lan.specs.Worlds.AtLink.Runs.{AreAlone, Starts}
 use Rattle.lan.specs.Worlds.AtLink.Node.{NodeValue, Nodes, node}
 use Rattle.lan.specs.Worlds.AtLink.Steps.{Happens}
 use Rattle.lan.specs.Worlds.Moves.Follows.{IsNetOf, sockets_of}
 use Rattle.lan.specs.Worlds.Settling.{IsService}
 use Rattle.lan.specs.Worlds.Still.{StillRun}
+use Rattle.lan.proofs.Worlds.Alone.{alone_at}
 use Rattle.lan.proofs.Worlds.AtLink.HostSteps.{told_left}
 use Rattle.lan.proofs.Worlds.Hosts.Polling.{polled}
 use Rattle.lan.proofs.Worlds.Moves.Calls.{names}
@@ -88,21 +89,21 @@ handed_leave old A k padding B given = given
 handed_leave old B k padding A given = given
 handed_leave old B k padding B given = given
 
-back : (old new : Nodes) (event : Event) (answer : Answer) (found : Option State) → IsService event → Happens old (kind_of event) answer found new
+back : (old new : Nodes) (event : Event) (answer : Answer) (found : Option State) → IsService event → AreAlone old → Happens old (kind_of event) answer found new
     → HaveLeave new → HaveLeave old
-back old new (E.Poll side t budget) answer found is happens leave =
+back old new (E.Poll side t budget) answer found is alone happens leave =
     let at = happens.acts.1 in
     let it = polled (node old side) (node new side) t budget happens.acts.0 at in
     either_side side (λ s. IsTrue (has_tx_token (node old s).link))
-    (leave_before (node old side).link (node new side).link _ it.room at.none_denied (leave side))
+    (leave_before (node old side).link (node new side).link _ it.room (at.none_denied (alone_at old alone side)) (leave side))
     (subst (λ (x : NodeValue). IsTrue (has_tx_token x.link)) happens.rests (leave (other side)))
-back old new (E.PollAt side t) answer found is happens leave =
+back old new (E.PollAt side t) answer found is alone happens leave =
     either_side side (λ s. IsTrue (has_tx_token (node old s).link))
     (subst (λ (x : NodeValue). IsTrue (has_tx_token x.link)) happens.acts.2 (leave side))
     (subst (λ (x : NodeValue). IsTrue (has_tx_token x.link)) happens.rests (leave (other side)))
-back old new (E.Deliver from k padding) answer found is happens leave =
+back old new (E.Deliver from k padding) answer found is alone happens leave =
     λ s. handed_leave old from k padding s (subst (λ (x : Nodes). IsTrue (has_tx_token (node x s).link)) happens.2 (leave s))
-back old new event answer found is happens leave = absurd is
+back old new event answer found is alone happens leave = absurd is
 
 gives : (hosts : Nodes) (event : Event) → IsService event → HaveLeave hosts → GivesTxToken (kind_of event) hosts
 gives hosts (E.Poll side t budget) is leave = leave side
@@ -114,7 +115,7 @@ pub leave_throughout : (starts : Starts) (past more : List Entry) (hosts : Nodes
     → HaveLeave hosts → GiveTxToken starts past more hosts still
 leave_throughout starts past [] hosts still are leave = tt
 leave_throughout starts past (e ∷ more) hosts still are leave = (
-  leave_throughout starts past more still.0 still.1 are.1 (back still.0 hosts e.event e.answer e.found are.0 still.2.happens leave),
+  leave_throughout starts past more still.0 still.1 are.1 (back still.0 hosts e.event e.answer e.found are.0 still.2.alone still.2.happens leave),
   gives hosts e.event are.0 leave,
 )
 

@@ -18,10 +18,12 @@ use Rattle.lan.specs.Worlds.NeighborQuery.{NeighborQuery}
 use Rattle.lan.specs.Worlds.NeighborQuery.TheVariants as Query
 use Rattle.lan.specs.Worlds.AtLink.Departure as Leaves
 use Rattle.lan.specs.Worlds.AtLink.Departure.{Tells, Whole, arp_frame, arp_request, packet_frame, solicitation_frame, solicitation, solicited_hardware_addr}
-use Rattle.lan.specs.Worlds.AtLink.Arrives.{Arrived, ReplyValue}
+use Rattle.lan.specs.Worlds.AtLink.Arrives.{Arrived, ReplyValue, whole_after, whole_arrived}
 use Rattle.lan.specs.Worlds.AtLink.Delivered.{Slots}
 use Rattle.lan.specs.Worlds.FragmentStored.{with_ports}
-use Rattle.lan.specs.Worlds.AtLink.Reassembled.{Assemblers}
+use Rattle.iface_ingress.specs.Incoming.{IncomingValue}
+use Rattle.iface_ingress.proofs.Roomed.{room_with_flag_off}
+use Rattle.lan.specs.Worlds.AtLink.Reassembled.{Assemblers, is_taken_in, with_room}
 use Rattle.lan.specs.Worlds.AtLink.Inner.{InnerValue}
 use Rattle.lan.specs.Worlds.Route.{Route}
 use Rattle.lan.specs.Worlds.Touches.{second_after}
@@ -51,7 +53,8 @@ use Rattle.lan.specs.Worlds.FragmentFacts.{Fact, ByteAt, EndsAt, IsSaid, Reassem
 use Rattle.lan.proofs.Worlds.Hosts.WireQuestions.{request_passes, solicitation_passes}
 use Rattle.lan.proofs.Worlds.LinkActs.{passed, below}
 use Rattle.lan.proofs.Worlds.Moves.Makers.{made_long, made_segment_long}
-use Rattle.proof_stack.specs.Worlds.BadWorlds.{after, Delivers, Damages, IsAsked, GetsRoom, sent_by_a, asked, polled, asking, leaving, AreOfOther, IsTaken}
+use Rattle.sim_link.specs.Port.{LinkEnd, PortValue}
+use Rattle.proof_stack.specs.Worlds.BadWorlds.{after, Delivers, Damages, IsAsked, GetsRoom, sent_by_a, asked, polled, asking, leaving, AreOfOther, IsRebuilt, IsTaken}
 
 -- RUNS
 
@@ -237,6 +240,46 @@ module _ (w : WorldValue) (turns : Side → List Turn) (side : Side) (key : Frag
 
   pub payload_other_end : (slot : ℕ) → Said (EndsAt slot) → slot ≢ length bytes → ⊥
   payload_other_end slot said differs = differs ((sent side key bytes r (EndsAt slot)).0 said)
+
+-- IN A POLL
+
+-- where room is made for none, what is whole with a content that is taken in, or isn't
+taken_whole : (i : InnerValue) (timeout : ℕ) (assemblers : Assemblers) (v d : IncomingValue) → i.host_requirements ≡ false →
+    whole_arrived i timeout assemblers (Some v) ≡ Some d → whole_after i timeout assemblers (Some v) ≡ Some d
+taken_whole i timeout assemblers v d alone whole = by (is_taken_in i v) refl where
+  Arrived_ : Bool → Type 0
+  Arrived_ b = whole_after i timeout (with_room i assemblers (if b then Some v else None)) (if b then Some v else None) ≡ Some d
+
+  by : (b : Bool) → is_taken_in i v ≡ b → whole_after i timeout assemblers (Some v) ≡ Some d
+  by true is =
+      subst (λ (ss : Assemblers). whole_after i timeout ss (Some v) ≡ Some d) (room_with_flag_off i assemblers (Some v) alone) (subst Arrived_ is whole)
+  by false is = absurd (let none : None ≡ Some d = subst Arrived_ is whole in cc)
+
+-- what a host rebuilds in a poll is what `reassembled` and `made` speak of
+pub rebuilt_in_a_poll : (s : NodeValue) (key : FragKey) (bytes : List ℕ) → IsRebuilt s key bytes → Rebuilds s key bytes
+rebuilt_in_a_poll s key bytes r = record {
+  now = r.now;
+  polled = r.reached;
+  slot = 0;
+  frame = r.frame;
+  waits = ap (λ (e : LinkEnd). slice_get e.waiting 0) (sym r.reached.after) ∙ ap (λ (p : PortValue). slice_get p.link.waiting 0) r.took.1;
+  content = r.content;
+  read = r.read;
+  fragment = r.fragment;
+  cut = r.cut;
+  key_is = r.key_is;
+  datagram = r.datagram;
+  whole = taken_whole r.now.host.inner r.now.host.timeout r.now.host.assemblers r.content r.datagram r.alone r.whole;
+  ports = r.ports;
+  bytes_are = r.bytes_are;
+}
+
+pub payload_other_byte_in_a_poll : (w : WorldValue) (turns : Side → List Turn) (side : Side) (key : FragKey) (bytes : List ℕ) (slot byte : ℕ)
+    → IsRebuilt (node w.hosts side) key bytes
+    → IsSaid (medium_of (node w.hosts (other side))) (frames_sent (turns (other side))) key (ByteAt slot byte)
+    → slice_get bytes slot ≢ Some byte → ReassembledWasSent w turns → ⊥
+payload_other_byte_in_a_poll w turns side key bytes slot byte r said differs sent =
+    payload_other_byte w turns side key bytes (rebuilt_in_a_poll (node w.hosts side) key bytes r) sent slot byte said differs
 
 -- MAKERS
 

@@ -13,7 +13,7 @@ use Rattle.iface_ingress.specs.UpperLayer.{IsDatagram, IsSegment}
 use Rattle.iface_ingress.specs.Incoming.{IncomingValue, Arp, Ip4, Ip6, IsContent}
 use Rattle.iface_ingress.specs.Upper.{upper_header, upper_payload}
 use Rattle.interface.specs.State.{State}
-use Rattle.proof_stack.specs.PeerHost.Steps.{Reaches}
+use Rattle.lan.specs.Worlds.PollSteps.{Reaches}
 
 -- the content is this packet
 abbrev pub IsPacket : Option IncomingValue → IpRepr → List ℕ → Type 0

@@ -73,9 +73,10 @@ module _ {D : Type 0} (moves : D → Move → D → Type 0) where
   abbrev pub host_in : OutStep → InnerValue
   host_in x = at_instant x.instant x.old.host.inner
 
-  -- In a step the device refuses nothing, the host keeps count of fewer neighbours than it can, and the sockets wait on.
+  -- In a step the device refuses nothing, the host, without host requirements, keeps count of fewer neighbours than it can, and the sockets wait on.
   pub record GoesFreely (hops : List IpAddress) (x : OutStep) : Type 0 where
     pub free : RefusesNothing moves x.old.device x.new.device
+    pub alone : (host_in x).host_requirements ≡ false
     pub room : is_crowded (host_in x) ≡ false
     pub waiting : AllByRecursion (WaitsOn (host_in x) hops) x.old.slots
 

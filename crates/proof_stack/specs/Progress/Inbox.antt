@@ -1,5 +1,5 @@
 -- Frames that wait at a device in order, and a poll that reads them.
-use Rattle.std.specs.Prelude.{◌≡◌, ℕ, ◌<◌, ℤ, true, false, List, [], ◌∷◌, ◌++◌, length}
+use Rattle.std.specs.Prelude.{◌≡◌, ℕ, ◌<◌, ℤ, true, false, List, ◌∷◌, ◌++◌, length}
 use Rattle.net_base.specs.Device.{Move, Took, Empty}
 use Rattle.net_base.specs.Packets.{contents, is_full_for}
 use Rattle.wire_ip.specs.declared.ip.repr.IpRepr.{IpRepr}
@@ -16,7 +16,7 @@ use Rattle.interface.specs.Ingress.{is_read}
 use Rattle.interface.specs.State.{State}
 use Rattle.interface.specs.TransmittedFrame.{CanRead}
 use Rattle.proof_stack.specs.PeerHost.Datagrams.{IsUdpAt}
-use Rattle.proof_stack.specs.PeerHost.Steps.{Reaches}
+use Rattle.lan.specs.Worlds.PollSteps.{Reaches}
 use Rattle.proof_stack.specs.Progress.Delivered.{IsExpected, WentAs, reader_of}
 use Rattle.proof_stack.specs.Progress.Moves.{AreMoves, is_transmitted}
 use Rattle.proof_stack.specs.Progress.Queued.{frame_under, ports_of}

@@ -40,12 +40,13 @@ use Rattle.proof_stack.specs.Progress.Moves.{AreMoves, is_refused}
 use Rattle.proof_stack.specs.Progress.Queued.{HasTurn, Sends}
 
 -- This packet takes a datagram of a socket with these settings, and may leave the host; the hardware address of its next hop isn't known,
--- and may be asked for now; and the host keeps count of fewer neighbours than it can.
+-- and may be asked for now; the host, without host requirements, parks no packets; and it keeps count of fewer neighbours than it can.
 pub record HasToAsk (i : InnerValue) (settings : UdpSettings) (d : UdpMetadata × List ℕ) (hop : IpAddress) (p : PacketValue) : Type 0 where
   pub takes : TakesDatagram (context_of i) settings d p
   pub may : never_leaves i p.header ≡ false
   pub unknown : link_address i (destination_of p.header) ≡ Link.Unknown hop
   pub asks : may_solicit i hop ≡ true
+  pub alone : i.host_requirements ≡ false
   pub room : is_crowded i ≡ false
 
 -- the part of that which the host's settings say alone

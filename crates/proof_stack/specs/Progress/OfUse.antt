@@ -5,6 +5,7 @@ use Rattle.net_base.specs.Device.{Move}
 use Rattle.iface_ingress.specs.Socket.{Socket}
 use Rattle.iface_egress.specs.declared.socket_set.SocketStorage.{SocketStorage}
 use Rattle.interface.specs.QuietStep.{IsEarlier}
+use Rattle.interface.specs.State.{State}
 use Rattle.proof_stack.specs.Progress.Moves.{AreMoves, is_sent, is_refused}
 
 -- among the moves a frame went, or the device gave no leave or refused one
@@ -26,3 +27,9 @@ pub record Acts {D : Type 0} (moves : D → Move → D → Type 0) (old new : D)
   pub all : List Move
   pub are : AreMoves moves all old new
   pub what : Stirs all ⊎ (after ≡ before → ⊥)
+
+-- the same, or a packet that waited for its next hop doesn't wait any more
+pub record ActsOrDrops {D : Type 0} (moves : D → Move → D → Type 0) (old new : State D) : Type 0 where
+  pub all : List Move
+  pub are : AreMoves moves all old.device new.device
+  pub what : Stirs all ⊎ (new.slots ≡ old.slots → new.host.inner.parking ≡ old.host.inner.parking → ⊥)

@@ -1,5 +1,5 @@
 -- Two peers at hosts as a pair that events led to, and when their connection goes on.
-use Rattle.std.specs.Prelude.{◌≡◌, ◌⊎◌, ℕ, suc, ◌+◌, ◌-◌, ◌*◌, ◌≤◌, ℤ, pos, ◌+ℤ◌, ◌<ℤ◌, List}
+use Rattle.std.specs.Prelude.{◌≡◌, ◌⊎◌, ℕ, suc, ◌-◌, ◌*◌, ◌≤◌, ℤ, pos, ◌+ℤ◌, ◌<ℤ◌, List}
 use Rattle.tcp_refinement.specs.Pair.Sides.{other}
 use Rattle.tcp_refinement.specs.Pair.Values.{HoldsPayload, PairValue}
 use Rattle.tcp_refinement.specs.declared.pair.event.PairEvent.{PairEvent}

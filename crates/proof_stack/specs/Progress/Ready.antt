@@ -20,7 +20,7 @@ use Rattle.iface_egress.specs.declared.socket_meta.Meta.{Meta}
 use Rattle.iface_egress.specs.declared.socket_set.SocketStorage.{SocketStorage}
 use Rattle.interface.specs.State.{State}
 use Rattle.proof_stack.specs.PeerHost.Datagrams.{IsUdpAt}
-use Rattle.proof_stack.specs.PeerHost.Steps.{Reaches}
+use Rattle.lan.specs.Worlds.PollSteps.{Reaches}
 use Rattle.proof_stack.specs.Progress.Delivered.{IsExpected}
 use Rattle.proof_stack.specs.Progress.Queued.{frame_under}
 

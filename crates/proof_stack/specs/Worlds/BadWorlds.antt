@@ -1,7 +1,8 @@
 -- Worlds to which no events lead, and turns that no host takes.
-use Rattle.std.specs.Prelude.{◌≡◌, ◌≢◌, ℕ, ℤ, pos, true, List, [], ◌∷◌, map, slice_get, Option, Some, None}
+use Rattle.std.specs.Prelude.{◌≡◌, ◌≢◌, ℕ, ℤ, pos, true, false, List, [], ◌∷◌, map, slice_get, Option, Some, None}
 use Rattle.net_base.specs.Capabilities.{all_checksums}
 use Rattle.net_base.specs.Checksum.TheVariants.{Both}
+use Rattle.net_base.specs.Device.{Took}
 use Rattle.net_base.specs.Medium.{Medium}
 use Rattle.lan.specs.Worlds.FragKey.{FragKey}
 use Rattle.lan.specs.Worlds.FragKey.TheVariants as Keys
@@ -9,7 +10,8 @@ use Rattle.lan.specs.Worlds.AtLink.Departure.{Departure, Asks}
 use Rattle.lan.specs.Worlds.NeighborQuery.{NeighborQuery}
 use Rattle.lan.specs.Worlds.AtLink.Arrives.{Arrived, Arrives}
 use Rattle.lan.specs.Worlds.AtLink.Delivered.{Slots}
-use Rattle.lan.specs.Worlds.AtLink.Reassembled.{Assemblers}
+use Rattle.iface_ingress.specs.Incoming.{IncomingValue, IsContent}
+use Rattle.lan.specs.Worlds.AtLink.Reassembled.{Assemblers, FragmentValue, part_in}
 use Rattle.lan.specs.Worlds.AtLink.Inner.{InnerValue}
 use Rattle.lan.specs.Worlds.Settings.{is_of_medium}
 use Rattle.lan.specs.Worlds.AtLink.History.{Entry, Counts}
@@ -22,9 +24,12 @@ use Rattle.lan.specs.declared.at_link.history.event.Event.TheVariants as E
 use Rattle.lan.specs.declared.at_link.history.event.Side.TheVariants.{A}
 use Rattle.lan.specs.Worlds.AtLink.Origins.{medium_of, frame_of_origin}
 use Rattle.lan.specs.Worlds.AtLink.Runs.{Starts, WorldValue}
-use Rattle.lan.specs.Worlds.AtLink.Node.{Nodes}
+use Rattle.sim_link.specs.Port.{PortMove, PortValue}
+use Rattle.lan.specs.Worlds.AtLink.Node.{NodeValue, Nodes, at_port}
 use Rattle.lan.specs.Worlds.Hosts.Machine.{Turn, frames_of}
 use Rattle.lan.specs.Worlds.FragmentFacts.{Fact, Carries}
+use Rattle.lan.specs.Worlds.ReassembledDatagram.{IsPolled, NamesPorts, following_header}
+use Rattle.proof_stack.specs.PeerHost.ReceivedPackets.{whole_in}
 
 -- a world with this history
 abbrev pub after : Starts → List Entry → Nodes → WorldValue
@@ -104,3 +109,22 @@ pub record IsTaken (hosts : Nodes) (k slot word : ℕ) (padding : List ℕ) (i :
   pub medium : is_of_medium i.hardware (medium_of hosts.a) ≡ true
   pub checksums : i.checksums ≡ all_checksums Both
   pub arrives : Arrives i timeout assemblers slots (frame_of_origin hosts (Damaged A k slot word padding)) after a
+
+-- A poll that began at this host takes a frame with a fragment of the datagram of this key, and with it, as the host takes it in, the datagram is
+-- whole, of TCP or UDP, with these bytes after its IP header. A host of a world is without host requirements.
+pub record IsRebuilt (s : NodeValue) (key : FragKey) (bytes : List ℕ) : Type 0 where
+  pub now : NodeValue
+  pub reached : IsPolled s now
+  pub alone : now.host.inner.host_requirements ≡ false
+  pub frame : List ℕ
+  pub port : PortValue
+  pub took : PortMove reached.port_now (Took now.host.inner.instant frame) port
+  pub content : IncomingValue
+  pub read : IsContent now.host.inner.hardware now.host.inner.checksums frame (Some content)
+  pub fragment : FragmentValue
+  pub cut : part_in content ≡ Some fragment
+  pub key_is : fragment.key ≡ key
+  pub datagram : IncomingValue
+  pub whole : whole_in (at_port reached.port_now now) (Some content) ≡ Some datagram
+  pub ports : NamesPorts datagram
+  pub bytes_are : bytes ≡ following_header datagram

@@ -18,7 +18,7 @@ ghost use Rattle.interface.specs.QuietPoll.{HasNoFrame};
 ghost use Rattle.interface.specs.State.{State};
 ghost use Rattle.interface.specs.TransmittedFrame.{CanRead, HasWidths};
 ghost use Rattle.proof_stack.specs.PeerHost.Datagrams.{IsUdpAt};
-ghost use Rattle.proof_stack.specs.PeerHost.Steps.{Reaches};
+ghost use Rattle.lan.specs.Worlds.PollSteps.{Reaches};
 ghost use Rattle.proof_stack.specs.Progress.Delivered.{RefusesNothing, as_received, reader_of};
 ghost use Rattle.proof_stack.specs.Progress.Inbox.{BringsAmong, IsInbox, IsReady, WaitsAmongThem};
 ghost use Rattle.proof_stack.specs.Progress.Queued.{CanGo, HasTurn, HasWay, ports_of};

@@ -16,7 +16,7 @@ ghost use Rattle.iface_egress.specs.Meta.{has_waited};
 ghost use Rattle.interface.specs.Egress.{EgressStep};
 ghost use Rattle.interface.specs.State.{State};
 ghost use Rattle.interface.specs.Serve.{crowded_time};
-ghost use Rattle.proof_stack.specs.PeerHost.Steps.{Reaches};
+ghost use Rattle.lan.specs.Worlds.PollSteps.{Reaches};
 ghost use Rattle.proof_stack.specs.Progress.NeighborResolution.{HasToAsk, MayAsk};
 ghost use Rattle.proof_stack.specs.Progress.Exchanged.{IsStillFirst};
 ghost use Rattle.proof_stack.specs.Progress.Rounds.{IsOneOf};
@@ -40,7 +40,7 @@ pub fn a_waiting_datagram_stays_first<D: Device>()
 
 /// Law: that a packet takes the datagram, may leave the host, and its next hop may be asked for, is so wherever a poll has come, at whatever instant: by the
 /// settings of the host, which no poll changes. With that the next hop has to be asked for where its hardware address isn't known, and the host keeps
-/// count of fewer neighbours than it can.
+/// count of fewer neighbours than it can: so for a host without host requirements, which parks no packets.
 pub fn a_packet_may_leave_throughout<E: Device>()
     ensures stays { (t u now : ℤ) (s x : State E) (settings : UdpSettings) (d : UdpMetadata × List ℕ) (hop : IpAddress) (p : PacketValue)
         → MayAsk (at_instant t s.host.inner) settings d hop p
@@ -49,6 +49,7 @@ pub fn a_packet_may_leave_throughout<E: Device>()
     ensures asks { (i : InnerValue) (settings : UdpSettings) (d : UdpMetadata × List ℕ) (hop : IpAddress) (p : PacketValue)
         → MayAsk i settings d hop p
         → link_address i (destination_of p.header) ≡ Link.Unknown hop
+        → i.host_requirements ≡ false
         → is_crowded i ≡ false
         → HasToAsk i settings d hop p }
 {}

@@ -20,6 +20,7 @@ ghost use Rattle.lan.specs.Worlds.Still.{StillRun};
 ghost use Rattle.proof_stack.specs.Progress.Days.{HasDays};
 ghost use Rattle.proof_stack.specs.Progress.Events.{clock_in};
 ghost use Rattle.proof_stack.specs.Progress.KeepAliveNumerals as Late;
+ghost use Rattle.proof_stack.specs.Progress.Parked.{WaitWhole};
 ghost use Rattle.proof_stack.specs.Progress.Settled.{HasArrived};
 ghost use Rattle.proof_stack.specs.Progress.SettledNumerals as Numerals;
 ghost use Rattle.proof_stack.specs.Progress.SettledNumerals.{news, slot};
@@ -32,13 +33,17 @@ use super::known_hops::nobody_waits_where_hosts_know_each_other;
 use lan::host_laws::one_outcome;
 
 /// Law: a poll takes the first of the frames that wait for its host, and no more of them than its budget. None that it sends is empty, or too long to be
-/// read.
+/// read. With host requirements so it is where each packet that waits has as many bytes as its header says, and then each that waits afterwards does.
 pub fn polls_take_no_more_than_their_budget()
     ensures taken { (s s' : NodeValue) (instant : ℤ) (budget : ℕ) (changed : Bool) → PollsAt s instant budget changed s'
         → (frames : List (List ℕ)) × (s.link.waiting ≡ frames ++ s'.link.waiting) × (length frames ≤ budget) }
-    ensures sent { (s s' : NodeValue) (instant : ℤ) (budget : ℕ) (changed : Bool) → 576 ≤ s.host.inner.mtu → s.host.inner.mtu ≤ 65_535
-        → PollsAt s instant budget changed s'
+    ensures sent { (s s' : NodeValue) (instant : ℤ) (budget : ℕ) (changed : Bool) → s.host.inner.host_requirements ≡ false
+        → 576 ≤ s.host.inner.mtu → s.host.inner.mtu ≤ 65_535 → PollsAt s instant budget changed s'
         → (frames : List (List ℕ)) × (s'.link.sent ≡ s.link.sent ++ frames) × AllByRecursion (λ frame. is_read frame ≡ true) frames }
+    ensures sent_with { (s s' : NodeValue) (instant : ℤ) (budget : ℕ) (changed : Bool) → WaitWhole s.host.inner → 576 ≤ s.host.inner.mtu
+        → s.host.inner.mtu ≤ 65_535 → PollsAt s instant budget changed s'
+        → (frames : List (List ℕ)) × (s'.link.sent ≡ s.link.sent ++ frames) × AllByRecursion (λ frame. is_read frame ≡ true) frames
+        × WaitWhole s'.host.inner }
 {}
 
 /// Law: rounds are services alone, which keep one clock. Each frame that a host sends in one is taken by the other before the clock goes on, whatever waited

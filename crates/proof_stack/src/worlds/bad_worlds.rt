@@ -24,7 +24,7 @@ ghost use Rattle.lan.specs.declared.at_link.history.event.Side.{Side};
 ghost use Rattle.lan.specs.declared.at_link.history.event.Side.TheVariants.{A};
 ghost use Rattle.lan.specs.Worlds.AtLink.Origins.{medium_of};
 ghost use Rattle.lan.specs.Worlds.AtLink.Runs.{Starts, WorldValue, WorldRun, start, unused_both};
-ghost use Rattle.lan.specs.Worlds.AtLink.Node.{Nodes, node};
+ghost use Rattle.lan.specs.Worlds.AtLink.Node.{NodeValue, Nodes, node};
 ghost use Rattle.lan.specs.Worlds.Hosts.RequestSilence.{requests, AreApart};
 ghost use Rattle.lan.specs.Worlds.Hosts.Damage.{DamageIsHarmless};
 ghost use Rattle.lan.specs.Worlds.Hosts.HostRuns.{IsHostRun, frames_sent};
@@ -34,7 +34,7 @@ ghost use Rattle.lan.specs.Worlds.Hosts.Wire.{FramesAreApart, HasPorts};
 ghost use Rattle.lan.specs.Worlds.Moves.Raws.{OfEach, HasNoUdp};
 ghost use Rattle.lan.specs.Worlds.ReassembledDatagram.{Rebuilds, ReassembledWasMade, protocol_in, room_before};
 ghost use Rattle.lan.specs.Worlds.FragmentFacts.{ByteAt, EndsAt, IsSaid, ReassembledWasSent};
-ghost use Rattle.proof_stack.specs.Worlds.BadWorlds.{after, Delivers, Damages, IsAsked, GetsRoom, sent_by_a, asked, polled, asking, leaving, AreOfOther, IsTaken};
+ghost use Rattle.proof_stack.specs.Worlds.BadWorlds.{after, Delivers, Damages, IsAsked, GetsRoom, sent_by_a, asked, polled, asking, leaving, AreOfOther, IsRebuilt, IsTaken};
 
 /// `run`: a host sent a frame though nothing happened; a frame was handed over that wasn't sent yet; a question when to poll was answered as
 /// a call is.
@@ -112,7 +112,7 @@ pub fn bad_frames_are_excluded()
 {}
 
 /// `reassembled`: a host reassembles a datagram of either family of which the other host sent nothing; or only frames of another identification; or another byte at
-/// a slot; or one more byte; or an end at another slot.
+/// a slot, between polls or within one; or one more byte; or an end at another slot.
 pub fn bad_payloads_are_excluded()
     ensures never_sent { (w : WorldValue) (turns : Side → List Turn) (side : Side) (key : FragKey) (bytes : List ℕ)
         → Rebuilds (node w.hosts side) key bytes
@@ -132,6 +132,17 @@ pub fn bad_payloads_are_excluded()
         → IsSaid (medium_of (node w.hosts (other side))) (frames_sent (turns (other side))) key (EndsAt slot)
         → slot ≢ length bytes
         → ReassembledWasSent w turns → ⊥ }
+    ensures other_byte_in_a_poll { (w : WorldValue) (turns : Side → List Turn) (side : Side) (key : FragKey) (bytes : List ℕ) (slot byte : ℕ)
+        → IsRebuilt (node w.hosts side) key bytes
+        → IsSaid (medium_of (node w.hosts (other side))) (frames_sent (turns (other side))) key (ByteAt slot byte)
+        → slice_get bytes slot ≢ Some byte
+        → ReassembledWasSent w turns → ⊥ }
+{}
+
+/// Law: every datagram that a host rebuilds as it is polled is one of which `reassembled` and `made` speak, also where all of its fragments
+/// came with that poll.
+pub fn what_polls_rebuild_is_seen()
+    ensures { (s : NodeValue) (key : FragKey) (bytes : List ℕ) → IsRebuilt s key bytes → Rebuilds s key bytes }
 {}
 
 /// `made`: a host reassembles a UDP datagram though the other host never had a UDP socket; or a payload too short for a datagram, or of TCP too

@@ -1,4 +1,4 @@
-use Rattle.std.proofs.Common.{arith, ◌≡◌, ◌+◌, ◌<◌, ◌^◌, ◌∙◌, sym, ap, drop}
+use Rattle.std.proofs.Common.{arith, ◌+◌, ◌<◌, ◌^◌, ◌∙◌, sym, ap, drop}
 use Rattle.std.specs.List.{fold}
 use Rattle.interface.specs.Instant.{earlier, slot_instant}
 use Rattle.interface.proofs.IdleSlots.{soonest_next, soonest_last}

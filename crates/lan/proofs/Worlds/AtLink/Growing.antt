@@ -126,6 +126,7 @@ counts_nothing t = record {
   maintenance = λ n s so. tt;
   arrivals = λ n s s' answer runs so takes. tt;
   fragments = λ n h ps x x' l gone runs is so leaves same. tt;
+  parked = λ n h ps x x' all runs many so serves. tt;
   turns = λ turn n h before after p p' x x' turned runs so turns. tt;
 }
 

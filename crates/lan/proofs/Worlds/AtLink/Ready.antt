@@ -1,5 +1,5 @@
 -- A poll at a port with buffers for all that it may send: none is refused.
-use Rattle.std.proofs.Common.{◌≡◌, ℕ, ◌+◌, ◌-◌, ◌*◌, ◌≤◌, ℤ, Bool, true, false, List, length, Option, None, Some, is_some, inl, inr, refl, sym, ap, ◌∙◌}
+use Rattle.std.proofs.Common.{◌≡◌, ℕ, ◌+◌, ◌-◌, ◌*◌, ◌≤◌, ℤ, Bool, true, false, ◌&&◌, List, length, Option, None, Some, is_some, inl, inr, refl, sym, ap, ◌∙◌}
 use Rattle.std.proofs.Common.{subst, arith}
 use Rattle.std.specs.Prelude.{nat_le, if◌then◌else◌}
 use Rattle.net_base.specs.Device.{Took, Emitted, Denied}
@@ -26,14 +26,15 @@ use Rattle.iface_ingress.specs.Arrives as Replies
 use Rattle.iface_ingress.specs.Arrives.{ReplyValue, whole_arrived}
 use Rattle.iface_ingress.specs.FragmentStored.{HasSameSettings}
 use Rattle.interface.specs.Host.{Sender}
-use Rattle.interface.specs.Ingress.{Takes, Replied, is_awaited}
+use Rattle.interface.specs.Ingress.{Takes, Replied, is_awaited, would_solicit}
 use Rattle.interface.specs.Polls.{Polls}
 use Rattle.interface.specs.State.{State}
 use Rattle.interface.specs.Serve.{Leaves, SendsBy, Answers, TurnsIf, ItemTurns, ServesSlot, is_waiting, let_through}
 use Rattle.interface.specs.EgressPath.{FragmentLeaves}
 use Rattle.interface.specs.declared.serve.Served.{Served}
-use Rattle.interface.proofs.Kept.{IsCounted}
-use Rattle.interface.proofs.Count.{polls_count}
+use Rattle.interface.proofs.Alone.{answers_alone, leaves_alone}
+use Rattle.interface.proofs.Kept.{IsCountedAlone}
+use Rattle.interface.proofs.KeepAlone.{polls_count_alone}
 use Rattle.interface.proofs.Runs.{receives_same}
 use Rattle.sim_link.specs.Port.{PortValue, PortMove}
 use Rattle.lan.proofs.Worlds.AtLink.Replies.{IsMeasured, IfReplyMeasured, brings_so}
@@ -134,36 +135,39 @@ module _ (most refusals : ℕ) where
   so_told : (n : ℕ) (i : InnerValue) → 576 ≤ i.mtu → 42 ≤ link_room i.hardware + i.mtu
   so_told n i low = omega (arith, low)
 
-  so_replied : (n : ℕ) (awaited : Bool) (reply : Option ReplyValue) (x x' : Sender PortValue) → n + 1 ≤ most → IfReplyMeasured reply →
+  so_replied : (n : ℕ) (awaited : Bool) (reply : Option ReplyValue) (x x' : Sender PortValue) → x.inner.host_requirements ≡ false → n + 1 ≤ most →
+      IfReplyMeasured reply →
       Replied PortMove awaited reply x x' → So n x.device x.inner → So (n + 1) x'.device x'.inner
-  so_replied n awaited None x x' within so_long is so =
+  so_replied n awaited None x x' alone within so_long is so =
       so_more n (n + 1) x'.device x'.inner (omega arith) (subst (λ (y : Sender PortValue). So n y.device y.inner) (sym is) so)
-  so_replied n awaited (Some (Replies.Tells packet)) x x' within so_long tells so =
+  so_replied n awaited (Some (Replies.Tells packet)) x x' alone within so_long tells so =
       subst (λ (i : InnerValue). So (n + 1) x'.device i) (sym tells.2)
       (so_sends n (Departures.Tells packet) tells.0 x.device x'.device x.inner within (so_told n x.inner so.low) tells.1 so)
-  so_replied n awaited (Some (Replies.Answers p)) x x' within so_long (inl held) so =
+  so_replied n awaited (Some (Replies.Answers p)) x x' alone within so_long (inl held) so =
       so_more n (n + 1) x'.device x'.inner (omega arith) (subst (λ (y : Sender PortValue). So n y.device y.inner) (sym held.0) so)
-  so_replied n awaited (Some (Replies.Answers p)) x x' within so_long (inr answers) so =
+  so_replied n awaited (Some (Replies.Answers p)) x x' alone within so_long (inr goes) so =
+      let answers = answers_alone PortMove p (awaited && would_solicit x p) x x' alone goes in
       so_out n x.device x'.device x.inner x'.inner x.left x'.left p (is_some x.left) answers.0 within so_long answers.1 so
 
-  so_takes : (n : ℕ) (s s' : State PortValue) (answer : Option Bool) → n + 1 ≤ most → So n s.device s.host.inner → Takes PortMove s answer s' →
+  so_takes : (n : ℕ) (s s' : State PortValue) (answer : Option Bool) → s.host.inner.host_requirements ≡ false → n + 1 ≤ most → So n s.device s.host.inner → Takes PortMove s answer s' →
       So (n + 1) s'.device s'.host.inner
-  so_takes n s s' None within so takes =
+  so_takes n s s' None alone within so takes =
       so_more n (n + 1) s'.device s'.host.inner (omega arith)
       (subst (λ (i : InnerValue). So n s'.device i) (sym (ap (λ (x : State PortValue). x.host.inner) takes.1))
       (so_same n s.device s'.device s.host.inner takes.0.0 so))
-  so_takes n s s' (Some false) within so takes =
+  so_takes n s s' (Some false) alone within so takes =
       so_more n (n + 1) s'.device s'.host.inner (omega arith)
       (subst (λ (i : InnerValue). So n s'.device i) (sym (ap (λ (x : State PortValue). x.host.inner) takes.3))
       (so_took n s.device s'.device s.host.inner takes.0 takes.1 so))
-  so_takes n s s' (Some true) within so takes =
+  so_takes n s s' (Some true) alone within so takes =
       let reads = takes.4 in
       let i : InnerValue = s.host.inner in
       let j : InnerValue = reads.2.0.inner in
       let same : HasSameSettings i j = (receives_same PortMove reads.0 (record s { device = takes.1 }) s' reads.2).0 in
       let took : So n takes.1 i = so_took n s.device takes.1 i takes.0 takes.2 so in
       so_replied n (is_awaited reads.2.0) reads.2.0.reply (record { device = takes.1; inner = j; left = s.host.left })
-      (record { device = s'.device; inner = s'.host.inner; left = s'.host.left }) within
+      (record { device = s'.device; inner = s'.host.inner; left = s'.host.left })
+      (same.host_requirements ∙ alone) within
       (brings_so i s.slots (whole_arrived i s.host.timeout s.host.assemblers reads.0) reads.2.0 reads.2.1.1) reads.2.3
       (so_host n takes.1 i j same.hardware same.mtu took)
 
@@ -178,7 +182,8 @@ module _ (most refusals : ℕ) where
       subst (λ (i : InnerValue). So (n + 1) x'.device i) (sym is)
       (so_fragment n l gone goes.0 x'.device x.inner x'.left within goes.2 (so_same n x.device goes.0 x.inner goes.1.0 so))
 
-  module _ (turn : Option IpAddress) (n : ℕ) (within : n + 1 ≤ most) (x x' : Sender PortValue) (so : So n x.device x.inner) where
+  module _ (turn : Option IpAddress) (n : ℕ) (within : n + 1 ≤ most) (x x' : Sender PortValue) (alone : x.inner.host_requirements ≡ false)
+      (so : So n x.device x.inner) where
     abbrev Next : Type 0
     Next = So (n + 1) x'.device x'.inner
 
@@ -195,7 +200,8 @@ module _ (most refusals : ℕ) where
     so_sent : (o : Option PacketValue) (item item' : Item Socket) (changed : Bool) (turned : Served) →
         SendsBy PortMove turn o x item changed turned x' item' → Next
     so_sent None item item' changed turned sends = absurd sends
-    so_sent (Some p) item item' changed turned sends = so_leaves item.meta sends.0 sends.3.0 sends.3.4.sendable.len sends.3.1
+    so_sent (Some p) item item' changed turned sends =
+        so_leaves item.meta sends.0 sends.3.0 sends.3.4.sendable.len (leaves_alone PortMove turn x x' item.meta sends.0 sends.3.0 alone sends.3.1)
 
     so_answers : (answer : Answer.Offer) (item item' : Item Socket) (turned : Served) → Answers PortMove turn answer x item turned x' item' → Next
     so_answers (Offer.Silent changed) item item' turned answers = so_stays answers.1
@@ -222,13 +228,13 @@ module _ (t : ℤ) (most refusals : ℕ) where
   before : (n : ℕ) → n + 1 ≤ most → n ≤ most
   before n within = omega (arith, within)
 
-  counted : IsCounted PortMove t Within
+  counted : IsCountedAlone PortMove t Within
   counted = record {
     more = λ n m s up so within. so_more most refusals n m s.device s.host.inner up (so (omega (arith, up, within)));
     maintenance = λ n s so within. so_host most refusals n s.device s.host.inner (at_instant t s.host.inner) refl refl (so within);
-    arrivals = λ n s s' answer runs so takes within. so_takes most refusals n s s' answer within (so (before n within)) takes;
+    arrivals = λ n s s' answer runs so takes within. so_takes most refusals n s s' answer runs.2 within (so (before n within)) takes;
     fragments = λ n h ps x x' l gone runs is so leaves same within. so_fragment_leaves most refusals n l x x' gone within leaves same (so (before n within));
-    turns = λ turn n h earlier after p p' x x' turned runs so turns within. so_slot most refusals turn n within x x' (so (before n within)) p p' turned turns;
+    turns = λ turn n h earlier after p p' x x' turned runs so turns within. so_slot most refusals turn n within x x' runs.2 (so (before n within)) p p' turned turns;
   }
 
   start : (d : PortValue) (i : InnerValue) → 576 ≤ i.mtu → link_room i.hardware + i.mtu ≤ d.size → most ≤ d.ready → d.link.refusals ≡ refusals →
@@ -236,14 +242,14 @@ module _ (t : ℤ) (most refusals : ℕ) where
   start d i low fits ready none = record { low = low; fits = fits; ready = omega (arith, ready); none_refused = none }
 
 -- a poll at a port with so many buffers that fit
-pub none_refused : (t : ℤ) (budget : ℕ) (s s' : State PortValue) (changed : Bool) → 576 ≤ s.host.inner.mtu →
+pub none_refused : (t : ℤ) (budget : ℕ) (s s' : State PortValue) (changed : Bool) → s.host.inner.host_requirements ≡ false → 576 ≤ s.host.inner.mtu →
     link_room s.host.inner.hardware + s.host.inner.mtu ≤ s.device.size
     → budget * (length s.slots + 2) ≤ s.device.ready → Polls PortMove t budget s changed s' → s'.device.link.refusals ≡ s.device.link.refusals
-none_refused t budget s s' changed low fits ready polls =
+none_refused t budget s s' changed alone low fits ready polls =
     let most : ℕ = budget * (length s.slots + 2) in
     let first : Within t most s.device.link.refusals 0 s =
     λ within. start t most s.device.link.refusals s.device s.host.inner low fits ready refl in
     let last : Stocked most s.device.link.refusals (0 + most) s'.device s'.host.inner =
-    (polls_count PortMove t (Within t most s.device.link.refusals) (counted t most s.device.link.refusals) budget 0 s s' changed first
+    (polls_count_alone PortMove t (Within t most s.device.link.refusals) (counted t most s.device.link.refusals) budget 0 s s' changed alone first
     polls).0 (omega arith) in
     last.none_refused

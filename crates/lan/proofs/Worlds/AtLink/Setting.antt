@@ -1,5 +1,5 @@
 -- A setting and a poll of a host, from its parts.
-use Rattle.std.proofs.Common.{◌≡◌, ℕ, ℤ, Bool, List, None, refl, sym, ap, ◌∙◌, subst}
+use Rattle.std.proofs.Common.{◌≡◌, ℕ, ℤ, Bool, false, List, None, refl, sym, ap, ◌∙◌, subst}
 use Rattle.sockets.specs.declared.socket.Socket.{Socket}
 use Rattle.iface_egress.specs.declared.socket_set.SocketStorage.{SocketStorage}
 use Rattle.interface.specs.Host.{HostValue}
@@ -32,8 +32,9 @@ configured_from s h h' ps link setting t short is sets answer gives =
 
 pub polls_from : (s : NodeValue) (port port' : PortValue) (h h' : HostValue) (ps ps' : List (SocketStorage Socket)) (link : LinkEnd) (instant : ℤ)
     (budget : ℕ) (changed : Bool) → of_parts h ps link ≡ s → port.link ≡ link
-    → Polls PortMove instant budget (state port h ps) changed (state port' h' ps') → port'.link.refusals ≡ port.link.refusals →
+    → Polls PortMove instant budget (state port h ps) changed (state port' h' ps') →
+    (h.inner.host_requirements ≡ false → port'.link.refusals ≡ port.link.refusals) →
     PollsAt s instant budget changed (of_parts h' ps' port'.link)
 polls_from s port port' h h' ps ps' link instant budget changed is before polls none =
     subst (λ (x : NodeValue). PollsAt x instant budget changed (of_parts h' ps' port'.link)) is
-    (record { port = port; port_after = port'; before = before; after = refl; polls = polls; none_denied = none ∙ ap (λ (x : LinkEnd). x.refusals) before })
+    (record { port = port; port_after = port'; before = before; after = refl; polls = polls; none_denied = λ alone. none alone ∙ ap (λ (x : LinkEnd). x.refusals) before })

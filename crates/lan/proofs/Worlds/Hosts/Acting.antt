@@ -47,23 +47,24 @@ quiet_turn s s' act room quiet = record {
   device = ap (λ (x : LinkEnd). x.capabilities) quiet.link;
 }
 
-polled_turn : (s s' : NodeValue) (instant : ℤ) (budget : ℕ) → IsPolled s instant s' → IsTurn s (Polls instant budget) s'
-polled_turn s s' instant budget p =
+polled_turn : (s s' : NodeValue) (instant : ℤ) (budget : ℕ) → s.host.inner.host_requirements ≡ false → IsPolled s instant s' → IsTurn s (Polls instant budget) s'
+polled_turn s s' instant budget alone p =
     record {
       taken = looked p.touches;
       departures = departed p.touches;
       waiting = p.waiting;
       sent = p.sent;
       room = p.room;
-      silent = p.silent;
+      silent = p.silent alone;
       device =
           p.capabilities;
     }
 
-pub is_turn : (s s' : NodeValue) (act : Act) (answer : Answer) (found : Option State) → Acts s act answer found s' → IsTurn s act s'
-is_turn s s' (Calls i call) answer found acts = quiet_turn s s' (Calls i call) (λ n. refl) (call_quiet s s' i call answer found acts)
-is_turn s s' (Sets setting) answer found acts = quiet_turn s s' (Sets setting) (λ n. refl) (setting_quiet s s' setting answer acts.0)
-is_turn s s' (Opens n) answer found acts =
+pub is_turn : (s s' : NodeValue) (act : Act) (answer : Answer) (found : Option State) → s.host.inner.host_requirements ≡ false → Acts s act answer found s' →
+    IsTurn s act s'
+is_turn s s' (Calls i call) answer found alone acts = quiet_turn s s' (Calls i call) (λ n. refl) (call_quiet s s' i call answer found acts)
+is_turn s s' (Sets setting) answer found alone acts = quiet_turn s s' (Sets setting) (λ n. refl) (setting_quiet s s' setting answer acts.0)
+is_turn s s' (Opens n) answer found alone acts =
     let is = acts.2 in
     record {
       taken = [];
@@ -74,7 +75,7 @@ is_turn s s' (Opens n) answer found acts =
       silent = ap (λ (x : NodeValue). x.host.inner.neighbors.silent) is;
       device = ap (λ (x : NodeValue). x.link.capabilities) is;
     }
-is_turn s s' (Asks instant) answer found acts =
+is_turn s s' (Asks instant) answer found alone acts =
     let is = acts.2 in
     record {
       taken = [];
@@ -85,7 +86,7 @@ is_turn s s' (Asks instant) answer found acts =
       silent = ap (λ (x : NodeValue). x.host.inner.neighbors.silent) is;
       device = ap (λ (x : NodeValue). x.link.capabilities) is;
     }
-is_turn s s' (Polls instant budget) answer found acts = polled_turn s s' instant budget (polled s s' instant budget acts.0 acts.1)
+is_turn s s' (Polls instant budget) answer found alone acts = polled_turn s s' instant budget alone (polled s s' instant budget acts.0 acts.1)
 
 abbrev pub turn_of : (s s' : NodeValue) (act : Act) (answer : Answer) (found : Option State) → IsTurn s act s' → Turn
 turn_of s s' act answer found t = record {
@@ -98,9 +99,10 @@ turn_of s s' act answer found t = record {
   sent = frames_of s.host.inner t.departures;
 }
 
-pub step_of : (s s' : NodeValue) (act : Act) (answer : Answer) (found : Option State) (t : IsTurn s act s') → Acts s act answer found s'
-    → HostStep (machine_of s) (turn_of s s' act answer found t) (machine_of s')
-step_of s s' act answer found t acts = record {
+pub step_of : (s s' : NodeValue) (act : Act) (answer : Answer) (found : Option State) (t : IsTurn s act s') → s.host.inner.host_requirements ≡ false →
+    Acts s act answer found s' → HostStep (machine_of s) (turn_of s s' act answer found t) (machine_of s')
+step_of s s' act answer found t alone acts = record {
+  alone = alone;
   link = s.link;
   link_after = s'.link;
   device = refl;

@@ -1,5 +1,5 @@
 -- Events lead from one world to one world.
-use Rattle.std.proofs.Common.{◌≡◌, ℕ, Bool, List, [], ◌∷◌, Option, None, Some, sym, ap, ◌∙◌, subst}
+use Rattle.std.proofs.Common.{◌≡◌, ℕ, Bool, false, List, [], ◌∷◌, Option, None, Some, sym, ap, ◌∙◌, subst}
 use Rattle.std.specs.Prelude.{slice_get}
 use Rattle.interface.specs.Host.{HostValue}
 use Rattle.iface_egress.specs.declared.socket_set.Item.{Item}
@@ -22,7 +22,7 @@ use Rattle.lan.specs.Worlds.AtLink.Side.{Side}
 use Rattle.lan.specs.Worlds.AtLink.Side.TheVariants.{A, B}
 use Rattle.lan.specs.Worlds.AtLink.Calls.{Did}
 use Rattle.lan.specs.Worlds.AtLink.Does.{does, DidAt, ItemDoes, SlotDoes, Does}
-use Rattle.lan.specs.Worlds.AtLink.Runs.{WorldValue, Step, Steps}
+use Rattle.lan.specs.Worlds.AtLink.Runs.{AreAlone, WorldValue, Step, Steps}
 use Rattle.lan.specs.Worlds.AtLink.Sets.{SetsTo, Configures, has_route_room}
 use Rattle.lan.specs.Worlds.AtLink.Node.{NodeValue, Nodes}
 use Rattle.lan.specs.Worlds.AtLink.Steps.{Acts, ActsAt, Happens}
@@ -72,35 +72,35 @@ configured_once s one other setting a b first second =
 -- ACTS
 
 module _ (one_offer : OneOffer) where
-  acts_once : (s one other : NodeValue) (act : Act) (a b : Answer) (f g : Option State) → Acts s act a f one → Acts s act b g other
+  acts_once : (s one other : NodeValue) (act : Act) (a b : Answer) (f g : Option State) → s.host.inner.host_requirements ≡ false → Acts s act a f one → Acts s act b g other
       → Same a f one b g other
-  acts_once s one other (Calls i call) a b f g first second = call_once s one other i call a b f g first second
-  acts_once s one other (Sets setting) a b f g first second =
+  acts_once s one other (Calls i call) a b f g alone first second = call_once s one other i call a b f g first second
+  acts_once s one other (Sets setting) a b f g alone first second =
       let same = configured_once s one other setting a b first.0 second.0 in
       (same.0, first.1 ∙ sym second.1, same.1)
-  acts_once s one other (Opens n) a b f g first second = (first.0 ∙ sym second.0, first.1 ∙ sym second.1, first.2 ∙ sym second.2)
-  acts_once s one other (Asks instant) a b f g first second = (first.0 ∙ sym second.0, first.1 ∙ sym second.1, first.2 ∙ sym second.2)
-  acts_once s one other (Polls instant budget) a b f g first second =
-      let same = polls_once one_offer s one other instant budget first.0 second.0 first.1 second.1 in
+  acts_once s one other (Opens n) a b f g alone first second = (first.0 ∙ sym second.0, first.1 ∙ sym second.1, first.2 ∙ sym second.2)
+  acts_once s one other (Asks instant) a b f g alone first second = (first.0 ∙ sym second.0, first.1 ∙ sym second.1, first.2 ∙ sym second.2)
+  acts_once s one other (Polls instant budget) a b f g alone first second =
+      let same = polls_once one_offer s one other instant budget first.0 second.0 alone first.1 second.1 in
       (first.2 ∙ ap (λ (c : Bool). To.Poll c) same.0 ∙ sym second.2, first.3 ∙ sym second.3, same.1)
 
   same_nodes : (one other : Nodes) → one.a ≡ other.a → one.b ≡ other.b → one ≡ other
   same_nodes one other first second = λ k. record { a = first k; b = second k }
 
-  acts_at_once : (old one other : Nodes) (act : Act) (side : Side) (a b : Answer) (f g : Option State) → ActsAt old side act a f one →
+  acts_at_once : (old one other : Nodes) (act : Act) (side : Side) (a b : Answer) (f g : Option State) → AreAlone old → ActsAt old side act a f one →
       ActsAt old side act b g other
       → Same a f one b g other
-  acts_at_once old one other act A a b f g first second =
-      let same = acts_once old.a one.a other.a act a b f g first.acts second.acts in
+  acts_at_once old one other act A a b f g alone first second =
+      let same = acts_once old.a one.a other.a act a b f g alone.0 first.acts second.acts in
       (same.0, same.1, same_nodes one other same.2 (first.rests ∙ sym second.rests))
-  acts_at_once old one other act B a b f g first second =
-      let same = acts_once old.b one.b other.b act a b f g first.acts second.acts in
+  acts_at_once old one other act B a b f g alone first second =
+      let same = acts_once old.b one.b other.b act a b f g alone.1 first.acts second.acts in
       (same.0, same.1, same_nodes one other (first.rests ∙ sym second.rests) same.2)
 
-  happens_once : (old one other : Nodes) (k : Kind) (a b : Answer) (f g : Option State) → Happens old k a f one → Happens old k b g other →
+  happens_once : (old one other : Nodes) (k : Kind) (a b : Answer) (f g : Option State) → AreAlone old → Happens old k a f one → Happens old k b g other →
       Same a f one b g other
-  happens_once old one other (OfHost side act) a b f g first second = acts_at_once old one other act side a b f g first second
-  happens_once old one other (OfLink act) a b f g first second = (first.0 ∙ sym second.0, first.1 ∙ sym second.1, first.2 ∙ sym second.2)
+  happens_once old one other (OfHost side act) a b f g alone first second = acts_at_once old one other act side a b f g alone first second
+  happens_once old one other (OfLink act) a b f g alone first second = (first.0 ∙ sym second.0, first.1 ∙ sym second.1, first.2 ∙ sym second.2)
 
   -- WORLDS
 
@@ -116,7 +116,7 @@ module _ (one_offer : OneOffer) where
       let d = second.entry in
       let left = subst (λ (x : Event). Happens old.hosts (kind_of x) e.answer e.found one.hosts) first.event_kept first.leads.happens in
       let right = subst (λ (x : Event). Happens old.hosts (kind_of x) d.answer d.found other.hosts) second.event_kept second.leads.happens in
-      let same = happens_once old.hosts one.hosts other.hosts (kind_of event) e.answer d.answer e.found d.found left right in
+      let same = happens_once old.hosts one.hosts other.hosts (kind_of event) e.answer d.answer e.found d.found first.leads.alone left right in
       let entries : e ≡ d = same_entry e d (first.event_kept ∙ sym second.event_kept) same.0 (first.leads.counted ∙ sym second.leads.counted) same.1 in (
         sym first.answer_kept ∙ same.0 ∙ second.answer_kept,
         same_world one other same.2 (first.starts ∙ sym second.starts) (first.history ∙ ap (λ (x : Entry). x ∷ old.history) entries ∙ sym second.history),

@@ -116,11 +116,11 @@ module _ (refusals longest : ℕ) where
   mapped = record { up = up; down = down; there = there }
 
   link_polls : (s s' : NodeValue) (t : ℤ) (budget : ℕ) (changed : Bool) → refusals ≡ s.link.refusals → total s'.link.sent ≤ longest →
-      PollsAt s t budget changed s'
+      s.host.inner.host_requirements ≡ false → PollsAt s t budget changed s'
       → Polls (LinkMove longest) t budget (state s.link s.host s.slots) changed (state s'.link s'.host s'.slots)
-  link_polls s s' t budget changed is short at =
+  link_polls s s' t budget changed is short alone at =
       let before : Before at.port = subst (λ (l : LinkEnd). refusals ≤ l.refusals) (sym at.before) (omega (arith, is)) in
-      let none = at.none_denied in
+      let none = at.none_denied alone in
       let after : After at.port_after = (
         subst (λ (l : LinkEnd). l.refusals ≤ refusals) (sym at.after) (omega (arith, is, none)),
         subst (λ (l : LinkEnd). total l.sent ≤ longest) (sym at.after) short,
@@ -133,12 +133,12 @@ module _ (refusals longest : ℕ) where
 abbrev node_of : State LinkEnd → NodeValue
 node_of s = record { host = s.host; slots = s.slots; link = s.device }
 
-pub polls_once : OneOffer → (s one other : NodeValue) (t : ℤ) (budget : ℕ) (a b : Bool) → PollsAt s t budget a one → PollsAt s t budget b other →
-    (a ≡ b) × (one ≡ other)
-polls_once one_offer s one other t budget a b first second =
+pub polls_once : OneOffer → (s one other : NodeValue) (t : ℤ) (budget : ℕ) (a b : Bool) → s.host.inner.host_requirements ≡ false →
+    PollsAt s t budget a one → PollsAt s t budget b other → (a ≡ b) × (one ≡ other)
+polls_once one_offer s one other t budget a b alone first second =
     let longest : ℕ = total one.link.sent + total other.link.sent in
-    let left = link_polls s.link.refusals longest s one t budget a refl (omega arith) first in
-    let right = link_polls s.link.refusals longest s other t budget b refl (omega arith) second in
+    let left = link_polls s.link.refusals longest s one t budget a refl (omega arith) alone first in
+    let right = link_polls s.link.refusals longest s other t budget b refl (omega arith) alone second in
     let same = one_poll one_offer (LinkMove longest) longest (link_steady longest) t budget (state s.link s.host s.slots) (state one.link one.host one.slots)
     (state other.link other.host other.slots) a b (link_determined longest s.link) left right in
     (same.1, ap node_of same.0)

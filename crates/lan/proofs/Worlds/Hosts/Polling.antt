@@ -1,12 +1,12 @@
 -- What a poll leaves of a host.
-use Rattle.std.proofs.Common.{◌≡◌, ℕ, ◌-◌, ℤ, Bool, List, ◌++◌, length, sym, ap, ◌∙◌}
+use Rattle.std.proofs.Common.{◌≡◌, ℕ, ◌-◌, ℤ, Bool, false, List, ◌++◌, length, sym, ap, ◌∙◌, subst}
 use Rattle.interface.specs.State.{State}
 use Rattle.iface_egress.specs.Departing.{HasSettingsOf}
 use Rattle.interface.proofs.Kept.{IsCounted}
-use Rattle.interface.specs.Touches.{Touch, departed, Silences}
+use Rattle.interface.specs.Touches.{Touch, departed, Silences, SilencesIf}
 use Rattle.interface.proofs.Count.{polls_count}
 use Rattle.interface.proofs.Hosts.{settings_so}
-use Rattle.interface.proofs.Trace.{polls_traced}
+use Rattle.interface.proofs.Trace.{one_silence, polls_traced}
 use Rattle.lan.specs.Worlds.AtLink.Port.{LinkEnd, PortValue, PortMove}
 use Rattle.lan.specs.Worlds.AtLink.Node.{NodeValue, at_port}
 use Rattle.lan.specs.Worlds.AtLink.Steps.{PollsAt}
@@ -19,7 +19,7 @@ pub record IsPolled (s : NodeValue) (instant : ℤ) (s' : NodeValue) : Type 0 wh
   pub sent : s'.link.sent ≡ s.link.sent ++ frames_of s.host.inner (departed touches)
   pub room : s'.link.room ≡ s.link.room - length (departed touches)
   pub capabilities : s'.link.capabilities ≡ s.link.capabilities
-  pub silent : Silences instant (departed touches) s.host.inner.neighbors.silent s'.host.inner.neighbors.silent
+  pub silent : s.host.inner.host_requirements ≡ false → Silences instant (departed touches) s.host.inner.neighbors.silent s'.host.inner.neighbors.silent
   pub settings : HasSettingsOf s.host.inner s'.host.inner
   pub now : s'.host.inner.instant ≡ instant
   pub slots : length s'.slots ≡ length s.slots
@@ -34,6 +34,7 @@ nothing t = record {
   maintenance = λ n s so. tt;
   arrivals = λ n s s' answer runs so takes. tt;
   fragments = λ n h ps x x' l gone runs is so leaves same. tt;
+  parked = λ n h ps x x' all runs many so serves. tt;
   turns = λ turn n h before after p p' x x' turned runs so turns. tt;
 }
 
@@ -54,7 +55,8 @@ polled s s' instant budget changed at =
           sym (ap (λ (x : LinkEnd). x.room) at.after) ∙ path.room
           ∙ ap (λ (x : LinkEnd). x.room - length (departed traced.touches)) at.before;
       capabilities = sym (ap (λ (x : LinkEnd). x.capabilities) at.after) ∙ path.capabilities ∙ ap (λ (x : LinkEnd). x.capabilities) at.before;
-      silent = traced.silence;
+      silent = λ alone. one_silence instant (departed traced.touches) s.host.inner.neighbors.silent s'.host.inner.neighbors.silent
+          (subst (λ (many : Bool). SilencesIf many instant (departed traced.touches) s.host.inner.neighbors.silent s'.host.inner.neighbors.silent) alone traced.silence);
       settings = settings_so PortMove instant budget (at_port at.port s) (at_port at.port_after s') changed at.polls;
       now = counted.1.0;
       slots = counted.2;

@@ -11,6 +11,7 @@ use Rattle.lan.specs.Worlds.AtLink.Origins.{frame_of_origin, origins_of, origins
 use Rattle.lan.specs.Worlds.AtLink.Runs.{Starts, start, unused, unused_both, WorldValue, Leads, WorldRun, counts_of, tables_in}
 use Rattle.lan.specs.Worlds.AtLink.Node.{NodeValue, Nodes, node}
 use Rattle.lan.specs.Worlds.Hosts.Proceeds.{Proceeds}
+use Rattle.lan.proofs.Worlds.Alone.{alone_at}
 use Rattle.lan.proofs.Worlds.Hosts.There.{AreThere}
 use Rattle.lan.specs.Worlds.Hosts.HostRuns.{Deed, deed_of, deed_in, deeds, frames_sent, frames_taken, IsHostRun}
 use Rattle.lan.specs.Worlds.Hosts.Machine.{Turn, Machine, machine_of, HostRun, room_after, room_following}
@@ -84,7 +85,7 @@ module _ (starts : Starts) (past : List Entry) (old new : Nodes) (e : Entry) (si
 
   module _ (acted : HasActed old new side k e) where
     t : IsTurn s acted.act s'
-    t = is_turn s s' acted.act e.answer e.found acted.acts
+    t = is_turn s s' acted.act e.answer e.found (alone_at old leads.alone side) acted.acts
 
     abbrev turn : Turn
     turn = turn_of s s' acted.act e.answer e.found t
@@ -111,7 +112,7 @@ module _ (starts : Starts) (past : List Entry) (old new : Nodes) (e : Entry) (si
     acted_now = record {
       run = record {
         turns = turn ∷ now.run.turns;
-        run = (machine_of s, now.run.run, sym now.room, step_of s s' acted.act e.answer e.found t acted.acts);
+        run = (machine_of s, now.run.run, sym now.room, step_of s s' acted.act e.answer e.found t (alone_at old leads.alone side) acted.acts);
         deeds_are =
             ap (λ (ds : List Deed). deed_of turn ∷ ds) now.run.deeds_are
             ∙ ap (λ (ds : List Deed). ds ++ deeds side past) (sym (ap (λ (x : Kind). deed_in side x e) acted.is ∙ acted_deed side acted.act e));

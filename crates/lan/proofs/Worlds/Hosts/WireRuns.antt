@@ -170,28 +170,28 @@ module _ (T : List ℕ → Bool) (May : IpRepr → PayloadValue → Type 0) (W :
           silent = subst (AreSilent ts) (sym silent) here.silent;
         }))
 
-    acted : (act : Act) (answer : Answer) (found_so : Option States.State) → IsTypedAct act → Acts s act answer found_so s' →
+    acted : (act : Act) (answer : Answer) (found_so : Option States.State) → s.host.inner.host_requirements ≡ false → IsTypedAct act → Acts s act answer found_so s' →
         IsHere s'.host s'.slots (asked_in T (instant_of act) sent ++ ts)
-    acted (Calls i call) answer found_so typed acts =
+    acted (Calls i call) answer found_so alone typed acts =
         settled (instant_of (Calls i call)) (call_settled s s' i call answer found_so acts) (call_quiet s s' i call answer found_so acts).clock.silent
         (by_slot s s' i call answer found_so here.all (slice_get s.slots i) refl acts)
-    acted (Sets setting) answer found_so typed acts =
+    acted (Sets setting) answer found_so alone typed acts =
         let at = acts.0 in
         let silent : at.0.inner.neighbors.silent ≡ s.host.inner.neighbors.silent =
         sym (ap (λ (x : NodeValue). x.host.inner.neighbors.silent) at.3) ∙ (setting_quiet s s' setting answer at).clock.silent in
         set_by (instant_of (Sets setting)) at.0 (set_so s.host at.0 setting typed at.1) at.3 silent
-    acted (Opens n) answer found_so typed acts =
+    acted (Opens n) answer found_so alone typed acts =
         let is = acts.2 in
         settled (instant_of (Opens n)) (subst (IsSettled s) (sym is) (room_settled s n))
         (ap (λ (x : NodeValue). x.host.inner.neighbors.silent) is)
         (subst (OfEach W) (sym (ap (λ (x : NodeValue). x.slots) is)) here.all)
-    acted (Asks instant) answer found_so typed acts =
+    acted (Asks instant) answer found_so alone typed acts =
         let is = acts.2 in
         settled (instant_of (Asks instant)) (subst (IsSettled s) (sym is) (asked_settled s instant))
         (ap (λ (x : NodeValue). x.host.inner.neighbors.silent) is)
         (subst (OfEach W) (sym (ap (λ (x : NodeValue). x.slots) is)) here.all)
-    acted (Polls instant budget) answer found_so typed acts =
-        let polled = polled_so T May W test law offers replies instant s.link.sent ts s s' budget acts.0 acts.1 refl here.sound here.own here.left here.silent
+    acted (Polls instant budget) answer found_so alone typed acts =
+        let polled = polled_so T May W test law offers replies instant s.link.sent ts s s' budget acts.0 alone acts.1 refl here.sound here.own here.left here.silent
         here.all in
         let so = polled.2 in
         let same : so.more ≡ sent =
@@ -218,7 +218,7 @@ module _ (T : List ℕ → Bool) (May : IpRepr → PayloadValue → Type 0) (W :
   here_now first room (turn ∷ past) now here typed run =
       let step : HostStep run.0 turn now = run.3 in
       acted (at_link run.0 step.link) (at_link now step.link_after) turn.sent (asked T past) (here_now first room past run.0 here typed.1 run.1) step.joins
-      turn.act turn.answer turn.found typed.0 step.acts
+      turn.act turn.answer turn.found step.alone typed.0 step.acts
 
   pub apart_now : (first : Machine) (room : ℕ) (turns : List Turn) (now : Machine) → IsSound first.host.inner → IsNode first.host.inner.hardware →
       first.host.left ≡ None → OfEach W first.slots → AreTypedTurns turns → HostRun first room turns now → AreApart (asked T turns)

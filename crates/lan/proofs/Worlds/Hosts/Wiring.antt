@@ -1,5 +1,5 @@
 -- A poll of a host on Ethernet, by the frames that it sends: one that passes a test is a question's, which waits for the end of the silence.
-use Rattle.std.proofs.Common.{◌≡◌, ◌≤ℤ◌, inl, inr, ℕ, ◌+◌, ◌≤◌, ℤ, Bool, true, false, cond, if◌then◌else◌, int_lt, List, [], ◌∷◌, ◌++◌, length, Option, Some}
+use Rattle.std.proofs.Common.{◌≡◌, ◌≤ℤ◌, inl, inr, ℕ, ◌+◌, ◌≤◌, ℤ, Bool, true, false, cond, ◌&&◌, if◌then◌else◌, int_lt, List, [], ◌∷◌, ◌++◌, length, Option, Some}
 use Rattle.std.proofs.Common.{None}
 use Rattle.std.proofs.Common.{IfSome, is_some, refl, sym, ◌∙◌, ap, subst, arith, append_assoc}
 use Rattle.std.specs.Prelude.{nat_lt}
@@ -27,7 +27,7 @@ use Rattle.iface_egress.specs.declared.socket_meta.Meta.{Meta}
 use Rattle.iface_egress.specs.declared.socket_set.Item.{Item}
 use Rattle.iface_egress.specs.declared.egress_path.Sent.{Sent}
 use Rattle.iface_egress.specs.declared.egress_path.Sent.TheVariants as Outcome
-use Rattle.iface_egress.proofs.Planned.{MayAsk, plan_cases}
+use Rattle.iface_egress.proofs.Planned.{plan_cases}
 use Rattle.iface_ingress.specs.ArpRepr.{ArpRepr}
 use Rattle.iface_ingress.specs.Arrives as Replies
 use Rattle.iface_ingress.specs.Arrives.{Arrived, Brings, ReplyValue, whole_arrived}
@@ -36,15 +36,16 @@ use Rattle.iface_ingress.specs.Incoming.{IncomingValue, IsContent}
 use Rattle.iface_ingress.specs.Reassembled.{Assemblers}
 use Rattle.iface_ingress.proofs.Settings.{brings_same}
 use Rattle.interface.specs.Host.{Sender}
-use Rattle.interface.specs.Ingress.{Takes, Replied, is_awaited, sender_of, sender_with}
-use Rattle.interface.proofs.Kept.{RunsAt, IsKept}
+use Rattle.interface.specs.Ingress.{Takes, Replied, is_awaited, sender_of, sender_with, would_solicit}
+use Rattle.interface.proofs.Alone.{answers_alone, leaves_alone}
+use Rattle.interface.proofs.Kept.{IsKept, IsKeptAlone, RunsAloneAt}
 use Rattle.interface.specs.State.{State, at_device}
 use Rattle.interface.specs.Touches.{second_after}
 use Rattle.interface.specs.Remote.{context_for}
 use Rattle.interface.specs.Serve.{Leaves, SendsBy, Answers, TurnsIf, ItemTurns, is_waiting, let_through}
 use Rattle.interface.specs.EgressPath.{FragmentLeaves}
 use Rattle.interface.specs.declared.serve.Served.{Served}
-use Rattle.interface.proofs.Keep.{polls_keep}
+use Rattle.interface.proofs.KeepAlone.{polls_keep_alone}
 use Rattle.interface.proofs.Sourced.{as_sourced}
 use Rattle.lan.specs.Worlds.AtLink.Port.{LinkEnd, PortValue, PortMove}
 use Rattle.lan.specs.Worlds.AtLink.Node.{NodeValue, at_port}
@@ -230,7 +231,8 @@ module _ (T : List ℕ → Bool) (May : IpRepr → PayloadValue → Type 0) (W :
 
   -- A PACKET'S WAY OUT
 
-  so_asked : (q : NeighborQuery) (sent : Sent) (d d' : PortValue) (i i' : InnerValue) (l : Option LeftValue) → i.instant ≡ t → MayAsk i →
+  so_asked : (q : NeighborQuery) (sent : Sent) (d d' : PortValue) (i i' : InnerValue) (l : Option LeftValue) → i.instant ≡ t →
+      int_lt i.instant i.neighbors.silent ≡ false →
       Asked PortMove d i q sent d' i' → So d i l → So d' i' l
   so_asked q Outcome.Waits d d' i i' l now may goes so =
       let frame : List ℕ = solicitation_frame i.checksums q in
@@ -303,10 +305,11 @@ module _ (T : List ℕ → Bool) (May : IpRepr → PayloadValue → Type 0) (W :
   so_stays : (d d' : PortValue) (i i' : InnerValue) (l l' : Option LeftValue) → Stays d i l d' i' l' → So d i l → So d' i' l'
   so_stays d d' i i' l l' is so = so_where d' i i' l l' is.1 is.2 (so_device d d' i l (ap (λ (x : PortValue). x.link.sent) is.0) so)
 
-  so_out : (d d' : PortValue) (i i' : InnerValue) (l l' : Option LeftValue) (p : PacketValue) (sent : Sent) → i.instant ≡ t → IsWellFormed p →
+  so_out : (d d' : PortValue) (i i' : InnerValue) (l l' : Option LeftValue) (p : PacketValue) (sent : Sent) → i.instant ≡ t →
+      i.host_requirements ≡ false → IsWellFormed p →
       May p.header p.payload
       → IsTransmitted PortMove d i l p (plan_of i (is_some l) p.header) sent d' i' l' → So d i l → So d' i' l'
-  so_out d d' i i' l l' p sent now formed may goes so =
+  so_out d d' i i' l l' p sent now alone formed may goes so =
       let busy : Bool = is_some l in
       let off : IsOffered p = offered p formed in
       let sound : IsSound i = so.sound in
@@ -314,7 +317,7 @@ module _ (T : List ℕ → Bool) (May : IpRepr → PayloadValue → Type 0) (W :
       So d' i' l')
       (λ is kind out. so_stays d d' i i' l l' out.1 so) (λ is kind out. so_stays d d' i i' l l' out.1 so)
       (λ is kind out. so_stays d d' i i' l l' out.1 so) (λ is kind out. so_stays d d' i i' l l' out.1 so)
-      (λ q asking from is kind out. so_where d' i' i' l l' refl out.1 (so_asked q sent d d' i i' l now asking out.0 so))
+      (λ q asking from is kind out. so_where d' i' i' l l' refl out.1 (so_asked q sent d d' i i' l now (asking alone) out.0 so))
       (λ to short is kind out. let most = sound.widths.mtu in
       so_where d' i' i' l l' refl out.1
       (so_was_sent to p sent d d' i i' l (writes i p sound.widths off (omega (arith, short, most))) kind may out.0 so))
@@ -335,15 +338,17 @@ module _ (T : List ℕ → Bool) (May : IpRepr → PayloadValue → Type 0) (W :
   IsOfAnswer (Replies.Tells packet) = IsBetweenNodes packet
   IsOfAnswer (Replies.Answers p) = Unit {0}
 
-  so_replied : (awaited : Bool) (reply : Option ReplyValue) (x x' : Sender PortValue) → x.inner.instant ≡ t → IfSome reply (MayReply May) →
+  so_replied : (awaited : Bool) (reply : Option ReplyValue) (x x' : Sender PortValue) → x.inner.instant ≡ t → x.inner.host_requirements ≡ false →
+      IfSome reply (MayReply May) →
       IfSome reply IsOfAnswer
       → Replied PortMove awaited reply x x' → So x.device x.inner x.left → So x'.device x'.inner x'.left
-  so_replied awaited None x x' now may of is so = subst (λ (y : Sender PortValue). So y.device y.inner y.left) (sym is) so
-  so_replied awaited (Some (Replies.Tells packet)) x x' now may of is so =
+  so_replied awaited None x x' now alone may of is so = subst (λ (y : Sender PortValue). So y.device y.inner y.left) (sym is) so
+  so_replied awaited (Some (Replies.Tells packet)) x x' now alone may of is so =
       so_where x'.device x.inner x'.inner x.left x'.left is.2 is.3 (so_told packet is.0 x.device x'.device x.inner x.left may of is.1 so)
-  so_replied awaited (Some (Replies.Answers p)) x x' now may of (inl held) so = subst (λ (y : Sender PortValue). So y.device y.inner y.left) (sym held.0) so
-  so_replied awaited (Some (Replies.Answers p)) x x' now may of (inr goes) so =
-      so_out x.device x'.device x.inner x'.inner x.left x'.left p goes.0 now goes.2 may goes.1 so
+  so_replied awaited (Some (Replies.Answers p)) x x' now alone may of (inl held) so = subst (λ (y : Sender PortValue). So y.device y.inner y.left) (sym held.0) so
+  so_replied awaited (Some (Replies.Answers p)) x x' now alone may of (inr answers) so =
+      let goes = answers_alone PortMove p (awaited && would_solicit x p) x x' alone answers in
+      so_out x.device x'.device x.inner x'.inner x.left x'.left p goes.0 now alone goes.2 may goes.1 so
 
   abbrev P : State PortValue → Type 0
   P s = So s.device s.host.inner s.host.left × OfEach W s.slots
@@ -357,7 +362,7 @@ module _ (T : List ℕ → Bool) (May : IpRepr → PayloadValue → Type 0) (W :
       (told_between i timeout assemblers slots frame content a packet six is brings reply).1
   answers_of i timeout assemblers slots frame content a six is brings (Some (Replies.Answers p)) reply = tt
 
-  so_takes : (s s' : State PortValue) (answer : Option Bool) → RunsAt t s.host.inner → So s.device s.host.inner s.host.left → Takes PortMove s answer s' →
+  so_takes : (s s' : State PortValue) (answer : Option Bool) → RunsAloneAt t s.host.inner → So s.device s.host.inner s.host.left → Takes PortMove s answer s' →
       So s'.device s'.host.inner s'.host.left
   so_takes s s' None runs so takes =
       subst (λ (x : State PortValue). So x.device x.host.inner x.host.left) (sym takes.1)
@@ -374,7 +379,7 @@ module _ (T : List ℕ → Bool) (May : IpRepr → PayloadValue → Type 0) (W :
       let brings : Brings i s.slots whole a = takes.4.2.1.1 in
       let same = brings_same i s.slots whole a brings in
       let taken : So mid i s.host.left = so_device s.device mid i s.host.left (sym (ap (λ (x : PortValue). x.link.sent) takes.2.1)) so in
-      so_replied (is_awaited a) a.reply (sender_with PortMove (at_device s mid) a) (sender_of PortMove s') (same.instant ∙ runs.0)
+      so_replied (is_awaited a) a.reply (sender_with PortMove (at_device s mid) a) (sender_of PortMove s') (same.instant ∙ runs.0) (same.host_requirements ∙ runs.2)
       (brings_may May replies i s.slots whole a brings)
       (answers_of i s.host.timeout s.host.assemblers s.slots takes.0 content a so.sound.own takes.4.1 brings a.reply refl) takes.4.2.3
       (so_host mid i a.inner s.host.left (arrival_sound i s.slots whole a brings so.sound) same.hardware same.silent taken)
@@ -399,7 +404,8 @@ module _ (T : List ℕ → Bool) (May : IpRepr → PayloadValue → Type 0) (W :
             so_where x'.device x.inner x.inner x.left x'.left refl (out.1 ∙ sym is)
             (so_device goes.0 x'.device x.inner x.left (ap (λ (y : PortValue). y.link.sent) out.0.0) so)
 
-  module _ (turn : Option IpAddress) (x x' : Sender PortValue) (now : x.inner.instant ≡ t) (so : So x.device x.inner x.left) where
+  module _ (turn : Option IpAddress) (x x' : Sender PortValue) (now : x.inner.instant ≡ t) (alone : x.inner.host_requirements ≡ false)
+      (so : So x.device x.inner x.left) where
     abbrev Next : Type 0
     Next = So x'.device x'.inner x'.left
 
@@ -411,7 +417,7 @@ module _ (T : List ℕ → Bool) (May : IpRepr → PayloadValue → Type 0) (W :
         so_where x'.device x.inner x'.inner x.left x'.left rests.2 rests.3
         (so_device x.device x'.device x.inner x.left (ap (λ (y : PortValue). y.link.sent) rests.1.0) so)
     so_leaves m p sent formed may (inr goes) =
-        so_out goes.0 x'.device x.inner x'.inner x.left x'.left p sent now formed may goes.2
+        so_out goes.0 x'.device x.inner x'.inner x.left x'.left p sent now alone formed may goes.2
         (so_device x.device goes.0 x.inner x.left (ap (λ (y : PortValue). y.link.sent) goes.1.0) so)
 
     so_sent : (o : Option PacketValue) (item item' : Item Socket) (changed : Bool) (turned : Served) →
@@ -419,7 +425,8 @@ module _ (T : List ℕ → Bool) (May : IpRepr → PayloadValue → Type 0) (W :
     so_sent None item item' changed turned may sends = absurd sends
     so_sent (Some p) item item' changed turned may sends =
         so_leaves item.meta sends.0 sends.3.0 sends.3.4
-        (subst (λ (q : PacketValue). May q.header q.payload) (sym sends.1) (as_sourced May test.sourced x.inner p (may p refl))) sends.3.1
+        (subst (λ (q : PacketValue). May q.header q.payload) (sym sends.1) (as_sourced May test.sourced x.inner p (may p refl)))
+        (leaves_alone PortMove turn x x' item.meta sends.0 sends.3.0 alone sends.3.1)
 
     so_answers : (answer : Answer.Offer) (item item' : Item Socket) (turned : Served) →
         ((p : PacketValue) → offered_by item.socket ≡ Some p → May p.header p.payload) → Answers PortMove turn answer x item turned x' item' → Next
@@ -439,26 +446,26 @@ module _ (T : List ℕ → Bool) (May : IpRepr → PayloadValue → Type 0) (W :
     so_item None (Some item') turned holds turns = absurd turns
     so_item (Some item) None turned holds turns = absurd turns
 
-  all_kept : IsKept PortMove t P
+  all_kept : IsKeptAlone PortMove t P
   all_kept = record {
     maintenance = λ s h. (so_host s.device s.host.inner _ s.host.left (instant_sound t s.host.inner h.0.sound) refl refl h.0, slots.maintenance s h.1);
-    arrivals = λ s s' answer runs h takes. (so_takes s s' answer runs h.0 takes, slots.arrivals s s' answer runs h.1 takes);
+    arrivals = λ s s' answer runs h takes. (so_takes s s' answer runs h.0 takes, slots.arrivals s s' answer (runs.0, runs.1) h.1 takes);
     fragments = λ h ps x x' l gone runs is so leaves same.
-        (so_fragment_leaves l x x' gone is leaves same so.0, slots.fragments h ps x x' l gone runs is so.1 leaves same);
+        (so_fragment_leaves l x x' gone is leaves same so.0, slots.fragments h ps x x' l gone (runs.0, runs.1) is so.1 leaves same);
     turns = λ turn h first after p p' x x' turned runs so turns. (
-      so_item turn x x' runs.0 so.0 p.inner p'.inner turned (middle W first after p so.1) turns,
-      slots.turns turn h first after p p' x x' turned runs so.1 turns,
+      so_item turn x x' runs.0 runs.2 so.0 p.inner p'.inner turned (middle W first after p so.1) turns,
+      slots.turns turn h first after p p' x x' turned (runs.0, runs.1) so.1 turns,
     );
   } where
     slots : IsKept PortMove t (λ s. OfEach W s.slots)
     slots = kept W law PortMove t
 
   -- a host that is polled
-  pub polled_so : (s s' : NodeValue) (budget : ℕ) (changed : Bool) → PollsAt s t budget changed s' → s.link.sent ≡ before → IsSound s.host.inner →
+  pub polled_so : (s s' : NodeValue) (budget : ℕ) (changed : Bool) → s.host.inner.host_requirements ≡ false → PollsAt s t budget changed s' → s.link.sent ≡ before → IsSound s.host.inner →
       IsNode s.host.inner.hardware
       → IfSome s.host.left IsLeftSo → AreSilent rest s.host.inner.neighbors.silent → OfEach W s.slots →
       (d : PortValue) × (d.link ≡ s'.link) × So d s'.host.inner s'.host.left × OfEach W s'.slots
-  polled_so s s' budget changed at same sound own left silent all =
+  polled_so s s' budget changed alone at same sound own left silent all =
       let began : So at.port s.host.inner s.host.left = record {
         sound = sound;
         own = own;
@@ -467,7 +474,7 @@ module _ (T : List ℕ → Bool) (May : IpRepr → PayloadValue → Type 0) (W :
         sent = ap (λ (x : LinkEnd). x.sent) at.before ∙ same ∙ sym (none_more before);
         silent = silent;
       } in
-      let ended = polls_keep PortMove t P all_kept budget (at_port at.port s) (at_port at.port_after s') changed (began, all) at.polls in
+      let ended = polls_keep_alone PortMove t P all_kept budget (at_port at.port s) (at_port at.port_after s') changed alone (began, all) at.polls in
       (at.port_after, at.after, ended.0.0, ended.0.1) where
         none_more : (fs : List (List ℕ)) → fs ++ [] ≡ fs
         none_more [] = refl

@@ -14,7 +14,7 @@ use Rattle.interface.specs.IpRepr.{IpRepr}
 use Rattle.iface_ingress.specs.Ipv4Address.{Ipv4Address}
 use Rattle.iface_tables.specs.Best.{at_index}
 use Rattle.iface_tables.specs.Inner.{InnerValue, mtu_to, is_local_broadcast, is_on_link, next_hop, link_by, link_of_hop, link_on, link_address}
-use Rattle.iface_tables.specs.Inner.{group_hardware_addr, all_stations}
+use Rattle.iface_tables.specs.Inner.{asked_of, group_hardware_addr, all_stations}
 use Rattle.iface_tables.specs.Neighbor.{CacheValue, lookup, missing, answer_by, neighbor_index_of, unless_failed, has_failed}
 use Rattle.iface_tables.specs.Route.{best_route, router_of}
 use Rattle.iface_tables.specs.Source.{source_v4}
@@ -98,9 +98,9 @@ hop_limit : (own : EthernetAddress) (i : InnerValue) (o : Option IpAddress) → 
 hop_limit own i None sound is = tt
 hop_limit own i (Some hop) sound is =
     let entry : Option Neighbor = at_index (neighbor_index_of i.neighbors.entries hop) i.neighbors.entries in
-    links own (lookup i.neighbors hop i.instant) hop is
-    (unless_kind (has_failed i.neighbors hop i.instant) (answer_by entry i.neighbors i.instant)
-    (answers entry i.neighbors i.instant (at (neighbor_index_of i.neighbors.entries hop) i.neighbors.entries sound.neighbors)))
+    links own (lookup (asked_of i hop) hop i.instant) hop is
+    (unless_kind (has_failed (asked_of i hop) hop i.instant) (answer_by entry (asked_of i hop) i.instant)
+    (answers entry (asked_of i hop) i.instant (at (neighbor_index_of i.neighbors.entries hop) i.neighbors.entries sound.neighbors)))
 
 next_is : (i : InnerValue) (address : IpAddress) → IsSound i → IsIpAddress address → IfSome (next_hop i address) IsIpAddress
 next_is i address sound is =

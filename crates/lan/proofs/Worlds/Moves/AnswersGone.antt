@@ -1,9 +1,10 @@
 -- What answers a frame that was taken goes as planned, where the device gives leave.
-use Rattle.std.proofs.Common.{◌≡◌, ◌⊎◌, inl, inr, ℕ, ◌^◌, ◌<◌, Bool, true, false, List, [], ◌∷◌, ◌++◌, Option, Some, None, IfSome, is_some, refl, sym, ◌∙◌, subst}
+use Rattle.std.proofs.Common.{◌≡◌, ◌⊎◌, inl, inr, ℕ, ◌^◌, ◌<◌, Bool, true, false, ◌&&◌, List, [], ◌∷◌, ◌++◌, Option, Some, None, IfSome, is_some, refl, sym, ◌∙◌, subst}
 use Rattle.std.proofs.lemmas.Bool.{and_parts}
 use Rattle.std.specs.Prelude.{slice_get}
 use Rattle.interface.specs.Host.{Sender}
 use Rattle.interface.specs.Ingress.{Replied, is_solicitation, would_solicit}
+use Rattle.interface.proofs.Alone.{answers_alone}
 use Rattle.interface.specs.Serve.{is_done}
 use Rattle.iface_egress.specs.Departing.{HasSettingsOf}
 use Rattle.iface_egress.specs.Departure.{Whole, Tells}
@@ -100,18 +101,23 @@ module _ {D : Type 0} (moves : D → Move → D → Type 0) (Taken : Frames → 
     was_sent_to to is out =
         subst (λ (w : Plan). WasSentBy (F.gone ++ left.out.more) i p w) is (left.was_sent (was_sent_so d d' i i' p to sent out.0 begins gives))
 
-  pub replied_left : (awaited : Bool) (reply : Option ReplyValue) (x x' : Sender D) → Replied moves awaited reply x x' → Taken F x.device → Begun x.device
+  pub replied_left : (awaited : Bool) (reply : Option ReplyValue) (x x' : Sender D) → x.inner.host_requirements ≡ false →
+      Replied moves awaited reply x x' → Taken F x.device → Begun x.device
       → HasSettingsOf i0 x.inner → (i0.ident < 2 ^ 16 → x.inner.ident < 2 ^ 16) → Known x.inner → IfSome reply CanBeWide → Answers reply x'.device
-  replied_left awaited None x x' is taken begins settings small hop_limit wide =
+  replied_left awaited None x x' alone is taken begins settings small hop_limit wide =
       none_left None x'.device (λ p none. absurd (cc))
       (none_sent moves Taken taking F x'.device (subst (λ (y : Sender D). Taken F y.device) (sym is) taken))
-  replied_left awaited (Some (Replies.Tells packet)) x x' is taken begins settings small hop_limit wide =
+  replied_left awaited (Some (Replies.Tells packet)) x x' alone is taken begins settings small hop_limit wide =
       none_left (Some (Replies.Tells packet)) x'.device (λ p none. absurd (let one : Replies.Tells packet ≡ Replies.Answers p = cc in cc))
       (told x.device x'.device x.inner packet is.0 is.1 taken)
-  replied_left awaited (Some (Replies.Answers p)) x x' (inl held) taken begins settings small hop_limit wide =
+  replied_left awaited (Some (Replies.Answers p)) x x' alone (inl held) taken begins settings small hop_limit wide =
       let out = none_sent moves Taken taking F x'.device (subst (λ (y : Sender D). Taken F y.device) (sym held.0) taken) in
       record { out = out; left = λ q is gives. packet_left x x'.device p out.more settings small hop_limit (inl (and_parts awaited (would_solicit x p) held.1).1) q is }
-  replied_left awaited (Some (Replies.Answers p)) x x' (inr (sent, goes, formed, free)) taken begins settings small hop_limit wide =
+  replied_left awaited (Some (Replies.Answers p)) x x' alone (inr answers) taken begins settings small hop_limit wide =
+      let went = answers_alone moves p (awaited && would_solicit x p) x x' alone answers in
+      let sent : Sent = went.0 in
+      let goes = went.1 in
+      let formed = went.2 in
       let plan : Plan = plan_of x.inner (is_some x.left) p.header in
       let left = out_by moves Taken taking F x.device x'.device x.inner x'.inner x.left x'.left p plan sent goes taken in
       record {

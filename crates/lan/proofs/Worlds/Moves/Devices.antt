@@ -1,5 +1,5 @@
 -- What each move of a device keeps of it is kept by each thing that a poll does.
-use Rattle.std.proofs.Common.{◌≡◌, ℕ, Bool, true, false, inl, inr, List, Option, Some, None, is_some, sym, ap, subst}
+use Rattle.std.proofs.Common.{◌≡◌, ℕ, Bool, true, false, ◌&&◌, inl, inr, List, Option, Some, None, is_some, sym, ap, subst}
 use Rattle.net_base.specs.Device.{Move, Took, Empty, Allowed, Emitted, Denied}
 use Rattle.ip_wire.specs.IpAddress.{IpAddress}
 use Rattle.ip_wire.specs.IpRepr.{IpRepr}
@@ -26,11 +26,13 @@ use Rattle.iface_egress.specs.declared.egress_path.Sent.TheVariants as Outcome
 use Rattle.iface_ingress.specs.Arrives as Replies
 use Rattle.iface_ingress.specs.Arrives.{ReplyValue}
 use Rattle.interface.specs.Host.{Sender}
-use Rattle.interface.specs.Ingress.{Takes, Replied, is_awaited, sender_of}
+use Rattle.interface.specs.Ingress.{AnswerGoes, Takes, Replied, is_awaited, sender_of, would_solicit}
 use Rattle.interface.specs.State.{State}
-use Rattle.interface.specs.Serve.{Leaves, SendsBy, Answers, TurnsIf, ItemTurns, ServesSlot, is_waiting, let_through}
+use Rattle.interface.specs.Serve.{Leaves, LeavesIf, SendsBy, Answers, TurnsIf, ItemTurns, ServesSlot, is_waiting, let_through}
 use Rattle.interface.specs.EgressPath.{FragmentLeaves}
 use Rattle.interface.specs.declared.serve.Served.{Served}
+use Rattle.interface.proofs.Parked.{HasLeft, parked_keep}
+use Rattle.iface_egress.specs.Parked.{ServesParked}
 use Rattle.lan.proofs.Worlds.Moves.Frames.{IsNoTake}
 
 module _ {D : Type 0} (moves : D → Move → D → Type 0) (Q : D → Type 0) (keeps : (d d' : D) (m : Move) → IsNoTake m → moves d m d' → Q d → Q d') where
@@ -85,13 +87,20 @@ module _ {D : Type 0} (moves : D → Move → D → Type 0) (Q : D → Type 0) (
 
   -- A FRAME COMES
 
+  answered : (many : Bool) (p : PacketValue) (kept_back : Bool) (x x' : Sender D) → AnswerGoes moves many p kept_back x x' → Q x.device → Q x'.device
+  answered false p kept_back x x' is holds =
+      goes x.device x'.device x.inner x'.inner x.left x'.left p (plan_of x.inner (is_some x.left) p.header) is.0 is.1 holds
+  answered true p kept_back x x' is holds =
+      subst (λ (y : Sender D). Q y.device) (sym is.3)
+      (goes x.device is.1.device x.inner is.1.inner x.left is.1.left p (plan_of x.inner (is_some x.left) p.header) is.0 is.2 holds)
+
   replied : (awaited : Bool) (reply : Option ReplyValue) (x x' : Sender D) → Replied moves awaited reply x x' → Q x.device → Q x'.device
   replied awaited None x x' is holds = same x.device x'.device (ap (λ (y : Sender D). y.device) is) holds
   replied awaited (Some (Replies.Tells packet)) x x' is holds =
       emits x.device x'.device (frame_of x.inner (Departures.Tells packet)) (frame_len_of x.inner (Departures.Tells packet)) is.0 is.1 holds
   replied awaited (Some (Replies.Answers p)) x x' (inl held) holds = same x.device x'.device (ap (λ (y : Sender D). y.device) held.0) holds
   replied awaited (Some (Replies.Answers p)) x x' (inr answers) holds =
-      goes x.device x'.device x.inner x'.inner x.left x'.left p (plan_of x.inner (is_some x.left) p.header) answers.0 answers.1 holds
+      answered x.inner.host_requirements p (awaited && would_solicit x p) x x' answers holds
 
   -- from where it was taken
   pub reads : (s s' : State D) (is : Takes moves s (Some true) s') → Q is.1 → Q s'.device
@@ -107,13 +116,31 @@ module _ {D : Type 0} (moves : D → Move → D → Type 0) (Q : D → Type 0) (
         goes mid x'.device x.inner x'.inner x.left x'.left p (plan_of x.inner (is_some x.left) p.header) sent out
         (keeps x.device mid (Allowed x.inner.instant true) tt leave holds)
 
+  -- PACKETS THAT WAIT for their next hops
+
+  left_parked : (x x' : Sender D) (p : PacketValue) (sent : Sent) → Q x.device → HasLeft moves x p sent x' → Q x'.device
+  left_parked x x' p sent holds (inl is) = same x.device x'.device (ap (λ (y : Sender D). y.device) is) holds
+  left_parked x x' p sent holds (inr (inl stays)) = keeps x.device x'.device (Allowed x.inner.instant false) tt stays.0 holds
+  left_parked x x' p sent holds (inr (inr (mid, leave, out))) =
+      goes mid x'.device x.inner x'.inner x.left x'.left p (plan_of x.inner (is_some x.left) p.header) sent out
+      (keeps x.device mid (Allowed x.inner.instant true) tt leave holds)
+
+  pub parked : (x x' : Sender D) (all : Bool) → Q x.device → ServesParked moves x all x' → Q x'.device
+  parked x x' all holds serves =
+      parked_keep moves (λ (y : Sender D). Q y.device) left_parked (λ y k so. so) x x' all holds serves
+
+  module _ (turn : Option IpAddress) (x x' : Sender D) (holds : Q x.device) where
+    leaves_if : (many : Bool) (m : Meta) (p : PacketValue) (sent : Sent) → LeavesIf moves turn many x m p sent x' → Q x'.device
+    leaves_if false m p sent is = leaves turn x x' holds m p sent is
+    leaves_if true m p sent is = subst (λ (y : Sender D). Q y.device) (sym is.4) (leaves turn x is.1 holds m p is.0 is.2)
+
     unmoved : x' ≡ x → Q x'.device
     unmoved is = same x.device x'.device (ap (λ (y : Sender D). y.device) is) holds
 
     sends : (o : Option PacketValue) (item item' : Item Socket) (changed : Bool) (turned : Served) → SendsBy moves turn o x item changed turned x' item' →
         Q x'.device
     sends None item item' changed turned is = absurd is
-    sends (Some p) item item' changed turned is = leaves item.meta is.0 is.3.0 is.3.1
+    sends (Some p) item item' changed turned is = leaves_if x.inner.host_requirements item.meta is.0 is.3.0 is.3.1
 
     answers : (answer : Answer.Offer) (item item' : Item Socket) (turned : Served) → Answers moves turn answer x item turned x' item' → Q x'.device
     answers (Offer.Silent changed) item item' turned is = unmoved is.1

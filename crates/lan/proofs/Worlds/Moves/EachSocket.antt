@@ -225,6 +225,7 @@ module _ (W : Socket → Type 0) where
         maintenance = λ s all. all;
         arrivals = λ s s' answer runs all is. takes s s' answer all is;
         fragments = λ h ps x x' l gone runs is all leaves same. all;
+        parked = λ h ps x x' went runs many all serves. all;
         turns = λ turn h before after p p' x x' turned runs all is.
             exchanged before after p p' (items turn x x' p.inner p'.inner turned (middle before after p all) is) all;
       }

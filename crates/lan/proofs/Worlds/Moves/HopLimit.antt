@@ -35,7 +35,7 @@ use Rattle.sockets.specs.Packet.{PayloadValue, ControlV4, ControlV6, Bytes, Data
 use Rattle.iface_egress.specs.Departing.{HasSettingsOf}
 use Rattle.iface_tables.specs.Best.{at_index}
 use Rattle.iface_tables.specs.Inner.{InnerValue, at_instant, context_of, is_broadcast_of, is_local_broadcast, next_hop, link_by, link_of_hop, link_on, link_address}
-use Rattle.iface_tables.specs.Inner.{all_stations, group_hardware_addr, with_error, with_neighbor, with_path, with_renewal}
+use Rattle.iface_tables.specs.Inner.{all_stations, asked_of, group_hardware_addr, with_error, with_neighbor, with_path, with_renewal}
 use Rattle.iface_tables.specs.Neighbor.{CacheValue, lookup, missing, answer_by, neighbor_index_of, is_of, unless_failed, has_failed, filled_at, victim}
 use Rattle.iface_tables.specs.Neighbor.{entry_lifetime, renewed_at, renewed_entry}
 use Rattle.iface_tables.specs.declared.link.LinkAddress.{LinkAddress}
@@ -540,8 +540,8 @@ module _ (t : ℤ) (remote : IpAddress) (to : HardwareAddress) where
           link_of_hop (at_instant t i') o ≡ Link.Known to
       by_hop None is goes = absurd (let never : Link.NoRoute ≡ Link.Known to = goes in cc)
       by_hop (Some hop) is goes =
-          let was = believed_of t hop to i.neighbors (link_found (lookup i.neighbors hop t) hop goes) in
-          ap (λ (a : Answer). link_by a hop) (lookup_of t hop to i'.neighbors (keeps hop is was))
+          let was = believed_of t hop to (asked_of (at_instant t i) hop) (link_found (lookup (asked_of (at_instant t i) hop) hop t) hop goes) in
+          ap (λ (a : Answer). link_by a hop) (lookup_of t hop to (asked_of (at_instant t i') hop) (keeps hop is was))
 
       abbrev among : Bool → LinkAddress → LinkAddress
       among all link =

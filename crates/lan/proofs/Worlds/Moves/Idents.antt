@@ -32,4 +32,5 @@ small_counted i0 t = record {
   arrives = λ n i i' same small few. subst (λ (k : ℕ). k < 2 ^ 16) (sym same.ident) (small few);
   goes = λ n i i' plan sent h is small few.
       subst (λ (k : ℕ). k < 2 ^ 16) (sym (ap (λ (x : InnerValue). x.ident) is)) (small_after i.ident plan sent h (small few));
+  parks = λ n i p many small. small;
 }

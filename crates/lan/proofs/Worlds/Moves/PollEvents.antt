@@ -1,5 +1,5 @@
 -- A poll's event, as moves.
-use Rattle.std.proofs.Common.{◌≡◌, ◌+◌, ◌*◌, ◌≤◌, ℕ, [], ◌∷◌, ◌++◌, append-nil, List, refl, sym, ap, ◌∙◌, subst, arith}
+use Rattle.std.proofs.Common.{◌≡◌, ◌+◌, ◌*◌, ◌≤◌, ℕ, false, [], ◌∷◌, ◌++◌, append-nil, List, refl, sym, ap, ◌∙◌, subst, arith}
 use Rattle.std.specs.Prelude.{ℤ, IsTrue}
 use Rattle.interface.specs.State.{State}
 use Rattle.lan.specs.Worlds.AtLink.History.{Entry}
@@ -57,7 +57,8 @@ pub record Polled (i0 : InnerValue) (waits sent : List (List ℕ)) (t : ℤ) (ne
       → AreLet i0 t (KnowsHop i0 t frames.taken (node new side).host.inner) comes.steps
 
 module _ (net : Net) (old new : Nodes) (past : List Entry) (e : Entry) (side : Side) (t : ℤ) (budget n : ℕ) (L : ℕ → State PortValue → Party →
-    Type 0) (link : IsLink PortMove (party net (other side)) L) (of : IsNetOf net old past) (is : kind_of e.event ≡ OfHost side (Polls t budget)) where
+    Type 0) (link : IsLink PortMove (party net (other side)) L) (of : IsNetOf net old past) (is : kind_of e.event ≡ OfHost side (Polls t budget))
+    (alone : (node old side).host.inner.host_requirements ≡ false) where
   -- the host before it
   abbrev i0 : InnerValue
   i0 = (node old side).host.inner
@@ -109,6 +110,6 @@ module _ (net : Net) (old new : Nodes) (past : List Entry) (e : Entry) (side : S
       let start : Follows names side (GivesTxToken refused) (TookOf waits sent) i0 t (L n) net (at_port polls.port (node old side)) =
       record { now = net; frames = no_frames; taken = (ap (λ (l : LinkEnd). l.waiting) (sym polls.before), ap (λ (l : LinkEnd). l.sent) polls.before ∙ sym (append-nil sent)); reaches = here names side (Stays i0 i0) (GivesTxToken refused polls.port) (KnowsHop i0 t [] i0) i0 t net; hop_limit = hop_limit_first i0 t; sockets = of.sockets side; link = holds polls.port polls.before } in
       let none_before : refused ≤ polls.port.link.refusals = (let same = ap (λ (l : LinkEnd). l.refusals) polls.before in omega (arith, same)) in
-      ended polls.port_after polls.after polls.none_denied acts.rests
-      (polls_follow PortMove t names side i0 net L link (λ p. refused ≤ p.link.refusals) (GivesTxToken refused) (giving_ports refused) (TookOf waits sent) (taking_ports waits sent) budget n (at_port polls.port (node old side)) (at_port polls.port_after (node new side)) acts.acts.0
-      fit (since_itself i0) none_before (λ small. small) start polls.polls).1
+      ended polls.port_after polls.after (polls.none_denied alone) acts.rests
+      (polls_follow PortMove t names side i0 net L link (λ p. refused ≤ p.link.refusals) (GivesTxToken refused) (giving_ports refused) (TookOf waits sent) (taking_ports waits sent) alone budget n (at_port polls.port (node old side)) (at_port polls.port_after (node new side)) acts.acts.0
+      alone fit (since_itself i0) none_before (λ small. small) start polls.polls).1

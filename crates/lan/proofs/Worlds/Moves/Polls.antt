@@ -1,5 +1,5 @@
 -- A poll of a host is a run of moves.
-use Rattle.std.proofs.Common.{◌≡◌, ◌<◌, ◌≤◌, ◌+◌, ◌*◌, ◌^◌, arith, ℕ, Bool, true, false, inl, inr, List, [], ◌∷◌, Option, Some, None, IfSome, refl, sym, ap, ◌∙◌, subst}
+use Rattle.std.proofs.Common.{◌≡◌, ◌<◌, ◌≤◌, ◌+◌, ◌*◌, ◌^◌, arith, ℕ, Bool, true, false, ◌&&◌, inl, inr, List, [], ◌∷◌, Option, Some, None, IfSome, refl, sym, ap, ◌∙◌, subst}
 use Rattle.std.specs.Prelude.{ℤ}
 use Rattle.std.proofs.Math.Nat.{mul-le-mul_left}
 use Rattle.sim_link.specs.Device.{Move, Empty, Took}
@@ -13,16 +13,17 @@ use Rattle.lan.proofs.Worlds.Moves.Nets.{grows_not}
 use Rattle.iface_ingress.specs.Arrives as Replies
 use Rattle.iface_ingress.specs.Arrives.{ReplyValue}
 use Rattle.interface.specs.Host.{HostValue, Sender, sender}
-use Rattle.interface.specs.Ingress.{is_read, Takes, Reads, Replied, is_awaited, sender_of}
+use Rattle.interface.specs.Ingress.{is_read, Takes, Reads, Replied, is_awaited, sender_of, would_solicit}
 use Rattle.interface.specs.Polls.{Polls, begun}
 use Rattle.interface.specs.State.{State, state, at_device}
 use Rattle.interface.specs.EgressPath.{FragmentLeaves}
 use Rattle.interface.specs.State.{sending_as}
 use Rattle.interface.proofs.Kept.{IsKept}
-use Rattle.interface.proofs.Kept.{IsPriced}
+use Rattle.interface.proofs.Alone.{answers_alone}
+use Rattle.interface.proofs.Kept.{IsPriced, IsPricedAlone}
 use Rattle.interface.specs.Used.{sockets_in}
 use Rattle.interface.proofs.HostCounts.{hosts_priced}
-use Rattle.interface.proofs.Priced.{polls_cost}
+use Rattle.interface.proofs.KeepAlone.{polls_cost_alone}
 use Rattle.lan.specs.Worlds.AtLink.Side.{Side}
 use Rattle.lan.specs.Worlds.AtLink.Kinds.{other}
 use Rattle.lan.specs.Worlds.AtLink.Parties.{Party, Net, party}
@@ -53,7 +54,7 @@ use Rattle.lan.proofs.Worlds.Moves.Wide.{CanBeWide, brings_wide}
 
 module _ {D : Type 0} (moves : D → Move → D → Type 0) (t : ℤ) (names : List ℕ → Bool) (side : Side) (i0 : InnerValue) (net : Net) (L : ℕ →
     State D → Party → Type 0) (link : IsLink moves (party net (other side)) L) (Begun Gives : D → Type 0)
-    (giving : IsGiving moves Begun Gives) (Taken : Frames → D → Type 0) (taking : IsTaking moves Taken) where
+    (giving : IsGiving moves Begun Gives) (Taken : Frames → D → Type 0) (taking : IsTaking moves Taken) (alone : i0.host_requirements ≡ false) where
   abbrev At : ℕ → State D → Type 0
   At n s = Follows names side Gives Taken i0 t (L n) net s
 
@@ -121,18 +122,19 @@ module _ {D : Type 0} (moves : D → Move → D → Type 0) (t : ℤ) (names : L
       → L n (sending_as g x ps) p → L n (at_device (sending_as g x ps) d) p
 
   replied : (n : ℕ) (g : HostValue) (ps : Slots) (x x' : Sender D) (p : Party) (awaited : Bool) (reply : Option ReplyValue) → CanTell n g ps x p reply →
-      IfSome reply CanBeWide → IfSome reply (IsMadeReply p) → Replied moves awaited reply x x'
+      IfSome reply CanBeWide → IfSome reply (IsMadeReply p) → x.inner.host_requirements ≡ false → Replied moves awaited reply x x'
       → L n (sending_as g x ps) p → L (n + 1) (sending_as g x' ps) p
-  replied n g ps x x' p awaited None tell wide made is holds =
+  replied n g ps x x' p awaited None tell wide made none is holds =
       link.more n (n + 1) (sending_as g x' ps) p (omega arith) (subst (λ (y : Sender D). L n (sending_as g y ps) p) (sym is) holds)
-  replied n g ps x x' p awaited (Some (Replies.Tells packet)) tell wide made (gone, departs, inner, left) holds =
+  replied n g ps x x' p awaited (Some (Replies.Tells packet)) tell wide made none (gone, departs, inner, left) holds =
       let there : state x'.device (record g { inner = x.inner; left = x.left }) ps ≡ sending_as g x' ps =
       λ k. state x'.device (record g { inner = sym inner k; left = sym left k }) ps in
       link.more n (n + 1) (sending_as g x' ps) p (omega arith) (subst (λ (s : State D). L n s p) there (tell packet gone x'.device refl departs holds))
-  replied n g ps x x' p awaited (Some (Replies.Answers packet)) tell wide made (inl held) holds =
+  replied n g ps x x' p awaited (Some (Replies.Answers packet)) tell wide made none (inl held) holds =
       link.more n (n + 1) (sending_as g x' ps) p (omega arith) (subst (λ (y : Sender D). L n (sending_as g y ps) p) (sym held.0) holds)
-  replied n g ps x x' p awaited (Some (Replies.Answers packet)) tell wide made (inr (sent, goes, formed, free)) holds =
-      link.goes n (sending_as g x ps) p packet sent x'.device x'.inner x'.left (wide formed) (λ done. made) goes holds
+  replied n g ps x x' p awaited (Some (Replies.Answers packet)) tell wide made none (inr answers) holds =
+      let went = answers_alone moves packet (awaited && would_solicit x packet) x x' none answers in
+      link.goes n (sending_as g x ps) p packet went.0 x'.device x'.inner x'.left (wide went.2) (λ done. made) went.1 holds
 
   read : (n : ℕ) (s s' : State D) (frame : List ℕ) (mid : D) → moves s.device (Took s.host.inner.instant frame) mid → is_read frame ≡ true →
       Reads moves frame (at_device s mid) s' →
@@ -150,7 +152,7 @@ module _ {D : Type 0} (moves : D → Move → D → Type 0) (t : ℤ) (names : L
       let then_hop_limit : HopLimit i0 t with_it.taken a.inner =
       hop_limit_arrival i0 s.host.inner t frame s.host.timeout s.host.assemblers s.slots content a like.settings like.instant same is receives.1.1 f.frames.taken f.hop_limit in
       let answers = replied_left moves Taken taking with_it i0 later Begun Gives giving (is_awaited a) a.reply (sender mid a.inner s.host.left) (sender_of moves s')
-      receives.3 (taking.takes s.device mid s.host.inner.instant frame f.frames took f.taken) (giving.since s.device mid (Took s.host.inner.instant frame) took begins)
+      (same.host_requirements ∙ like.settings.host_requirements ∙ alone) receives.3 (taking.takes s.device mid s.host.inner.instant frame f.frames took f.taken) (giving.since s.device mid (Took s.host.inner.instant frame) took begins)
       (settings_on i0 s.host.inner a.inner like.settings same)
       (λ small. subst (λ (k : ℕ). k < 2 ^ 16) (sym same.ident) (like.ident small))
       (λ remote to knows. hop_now a.inner t remote to (same.instant ∙ like.instant) (then_hop_limit remote to (knew_it remote to knows)))
@@ -176,7 +178,7 @@ module _ {D : Type 0} (moves : D → Move → D → Type 0) (t : ℤ) (names : L
       λ packet gone d so departs holds. link.tells n s p' frame mid content s'.host.assemblers a packet gone d took reads is receives.1 so departs holds in
       let told : L (n + 1) (sending_as g (sender_of moves s') s.slots) p' =
       replied n g s.slots x (sender_of moves s') p' (is_awaited a) a.reply tell (brings_wide s.host.inner s.slots (brought s content) a receives.1.1) end.made
-      receives.3 given in
+      (same.host_requirements ∙ like.settings.host_requirements ∙ alone) receives.3 given in
       let placed : L (n + 1) (sending_as g (sender_of moves s') s'.slots) p' =
       link.grown (n + 1) (sending_as g (sender_of moves s') s.slots) s'.slots p' p' (grows_not p') told in
       let there : sending_as g (sender_of moves s') s'.slots ≡ s' =
@@ -260,12 +262,12 @@ module _ {D : Type 0} (moves : D → Move → D → Type 0) (t : ℤ) (names : L
   Small n s = StaysSmall i0 s.host.inner
 
   small_priced : IsPriced moves t 0 Small
-  small_priced = hosts_priced moves t (λ n i. StaysSmall i0 i) (small_counted i0 t)
+  small_priced = hosts_priced moves t (λ n i. StaysSmall i0 i) (small_counted i0 t) (λ n i k small. small)
 
   abbrev Both : ℕ → State D → Type 0
   Both n s = Fit s × (Since s × (Begun s.device × (Small n s × At n s)))
 
-  all_priced : IsPriced moves t 0 Both
+  all_priced : IsPricedAlone moves t 0 Both
   all_priced = record {
     more = λ n m s up both. (both.0, (both.1.0, (both.1.1.0, (both.1.1.1.0, more n m s up both.1.1.1.1))));
     maintenance = λ n s both. (
@@ -273,40 +275,40 @@ module _ {D : Type 0} (moves : D → Move → D → Type 0) (t : ℤ) (names : L
       (since_begun i0 s.host.inner t both.1.0, (both.1.1.0, (small_priced.maintenance n s both.1.1.1.0, maintenance n s both.1.1.1.1))),
     );
     arrivals = λ n s s' answer runs both took. (
-      fit_kept.arrivals s s' answer runs both.0 took,
+      fit_kept.arrivals s s' answer (runs.0, runs.1) both.0 took,
       (
         since_arrivals s s' answer both.1.0 took,
         (
           takes moves Begun giving.since s s' answer took both.1.1.0,
           (
-            small_priced.arrivals n s s' answer runs both.1.1.1.0 took,
+            small_priced.arrivals n s s' answer (runs.0, runs.1) both.1.1.1.0 took,
             arrivals n s s' answer (as_since i0 s.host.inner t runs.0 both.1.0 both.1.1.1.0) both.1.1.0 both.1.1.1.1 took,
           ),
         ),
       ),
     );
     fragments = λ n h ps x x' l gone runs is both leaves same. (
-      fit_kept.fragments h ps x x' l gone runs is both.0 leaves same,
+      fit_kept.fragments h ps x x' l gone (runs.0, runs.1) is both.0 leaves same,
       (
         subst (IsSince i0) (sym same) both.1.0,
         (
           fragment_leaves moves Begun (λ d d' m none. giving.since d d' m) l x x' gone leaves both.1.1.0,
           (
-            small_priced.fragments n h ps x x' l gone runs is both.1.1.1.0 leaves same,
+            small_priced.fragments n h ps x x' l gone (runs.0, runs.1) is both.1.1.1.0 leaves same,
             more n (n + 0) (sending_as h x' ps) (omega arith) (fragments n h ps x x' l gone is leaves same both.1.1.1.1),
           ),
         ),
       ),
     );
     turns = λ turn n h before after p p' x x' turned used runs both took. (
-      fit_kept.turns turn h before after p p' x x' turned runs both.0 took,
+      fit_kept.turns turn h before after p p' x x' turned (runs.0, runs.1) both.0 took,
       (
         since_out i0 x.inner x'.inner (slot_same moves turn x x' p p' turned took) both.1.0,
         (
           slot_turns moves Begun (λ d d' m none. giving.since d d' m) turn x x' both.1.1.0 p p' turned took,
           (
-            small_priced.turns turn n h before after p p' x x' turned used runs both.1.1.1.0 took,
-            turn_follows moves turn names side i0 t net (party net (other side)) L link Begun Gives giving Taken taking n h before after p p' x x' turned took both.1.1.0
+            small_priced.turns turn n h before after p p' x x' turned used (runs.0, runs.1) both.1.1.1.0 took,
+            turn_follows moves turn names side i0 t net (party net (other side)) L link Begun Gives giving Taken taking alone n h before after p p' x x' turned took both.1.1.0
                 (as_since i0 x.inner t runs.0 both.1.0 both.1.1.1.0) (middle IsFit before after p both.0) both.1.1.1.1,
           ),
         ),
@@ -316,10 +318,10 @@ module _ {D : Type 0} (moves : D → Move → D → Type 0) (t : ℤ) (names : L
 
   -- What holds before a poll holds after it, where moves of this host have led to its sockets. It counted no more packets than one for
   -- each frame that it took and each socket's turn.
-  pub polls_follow : (budget n : ℕ) (s s' : State D) (changed : Bool) → OfEach IsFit s.slots → Since s → Begun s.device → StaysSmall i0 s.host.inner → Follows names side Gives Taken i0 t (L n) net s →
+  pub polls_follow : (budget n : ℕ) (s s' : State D) (changed : Bool) → s.host.inner.host_requirements ≡ false → OfEach IsFit s.slots → Since s → Begun s.device → StaysSmall i0 s.host.inner → Follows names side Gives Taken i0 t (L n) net s →
       Polls moves t budget s changed s'
       → OfEach IsFit s'.slots × Follows names side Gives Taken i0 t (L (n + budget * (1 + sockets_in s.slots))) net s'
-  polls_follow budget n s s' changed fit since begins small f polls =
-      let both = (polls_cost moves t 0 Both all_priced budget n s s' changed (fit, (since, (begins, (small, f)))) polls).0 in
+  polls_follow budget n s s' changed none fit since begins small f polls =
+      let both = (polls_cost_alone moves t 0 Both all_priced budget n s s' changed none (fit, (since, (begins, (small, f)))) polls).0 in
       let most : budget * (1 + (0 + sockets_in s.slots)) ≤ budget * (1 + sockets_in s.slots) = mul-le-mul_left budget (omega arith) in
       (both.0, more (n + budget * (1 + (0 + sockets_in s.slots))) (n + budget * (1 + sockets_in s.slots)) s' (omega (arith, most)) both.1.1.1.1)

@@ -54,6 +54,7 @@ use Rattle.lan.specs.Worlds.AtLink.Safe.{seen}
 use Rattle.lan.specs.Worlds.Moves.Follows.{seen_slot, sockets_of}
 use Rattle.interface.proofs.SameHost.{slot_same}
 use Rattle.interface.specs.SameHost.{IsSameHost}
+use Rattle.interface.proofs.Alone.{leaves_alone}
 use Rattle.iface_tables.specs.Inner.{InnerValue}
 use Rattle.lan.proofs.Worlds.Moves.Devices.{leaves as device_leaves}
 use Rattle.lan.proofs.Worlds.Moves.Following.{Reaches, Follows, narrowed, sent_more}
@@ -265,7 +266,7 @@ nowhere = Address.Ipv4 (record { 0 = [] })
 
 module _ {D : Type 0} (moves : D → Move → D → Type 0) (turn_of : Option IpAddress) (names : List ℕ → Bool) (side : Side) (i0 : InnerValue) (t : ℤ) (net : Net) (q : Party) (L : ℕ →
     State D → Party → Type 0) (link : IsLink moves q L) (Since Gives : D → Type 0) (giving : IsGiving moves Since Gives)
-    (Taken : Frames → D → Type 0) (taking : IsTaking moves Taken) (n : ℕ) (h : HostValue) (before after : Slots) where
+    (Taken : Frames → D → Type 0) (taking : IsTaking moves Taken) (alone : i0.host_requirements ≡ false) (n : ℕ) (h : HostValue) (before after : Slots) where
   abbrev At : Sender D → Option (Item Socket) → State D
   At x o = sending_as h x (before ++ record { inner = o } ∷ after)
 
@@ -367,6 +368,8 @@ module _ {D : Type 0} (moves : D → Move → D → Type 0) (turn_of : Option Ip
       let leaving = sending.0 in
       let goes : SendsAs moves turn_of leaving x (record item { socket = offered }) changed turned x' item' = sending.3 in
       let sent = goes.0 in
+      let went : Leaves moves turn_of x item.meta leaving sent x' =
+      leaves_alone moves turn_of x x' item.meta leaving sent (like.settings.host_requirements ∙ alone) goes.1 in
       let meta = marked sent x.inner.instant (waits_until (plan_at x leaving) x'.inner) (destination_of leaving.header) item.meta in
       let slots = before ++ holding meta (settled (is_done sent) offered) ∷ after in
       let cx = context_for x.inner item.socket in
@@ -374,9 +377,9 @@ module _ {D : Type 0} (moves : D → Move → D → Type 0) (turn_of : Option Ip
       let from_it : LeavesFrom cx from packet.header = leaves_from x.inner packet in
       let back : Gives x'.device → Gives x.device =
       device_leaves moves (λ (d : D). Gives d → Gives x.device) (λ d d' m none moved had given. had (giving.had d d' m moved given)) turn_of x x' (λ g. g)
-      item.meta leaving sent goes.1 in
+      item.meta leaving sent went in
       let way : Left moves Taken taking f.frames x.inner leaving (plan_at x leaving) sent x'.device =
-      left_by moves Taken taking f.frames turn_of x x' item.meta leaving sent goes.1 f.taken in
+      left_by moves Taken taking f.frames turn_of x x' item.meta leaving sent went f.taken in
       let frames : Frames = and_gone f.frames way.out.more in
       let Knows : IpAddress → HardwareAddress → Type 0 = KnowsHop i0 t f.frames.taken x.inner in
       let reaches = narrowed names side (Stays i0 x.inner) (Stays i0 x.inner) (Gives x.device) (Gives x'.device) Knows Knows frames i0 t net f.now (λ c. c) back
@@ -388,7 +391,7 @@ module _ {D : Type 0} (moves : D → Move → D → Type 0) (turn_of : Option Ip
         subst (λ (o : Option PacketValue). IfSome o (λ y. from ≡ source_of (sourced x.inner y).header)) is refl,
       ))
       (λ c g. subst (λ (o : Option PacketValue). IfSome o (λ y. (is_done sent ≡ true) ⊎ IsHindered i0 t Knows (λ j. (sourced j y).header))) is
-      (or_hindered x f.frames leaving packet (is_done sent) sending.1 like c.0 f.hop_limit (leaves_so moves Since Gives giving turn_of x x' item.meta leaving sent goes.1 since g)))
+      (or_hindered x f.frames leaving packet (is_done sent) sending.1 like c.0 f.hop_limit (leaves_so moves Since Gives giving turn_of x x' item.meta leaving sent went since g)))
       (λ done. subst (λ (o : Option PacketValue). IfSome o (λ y. LeftFrom i0 t (Stays i0 x.inner) Knows frames.gone cx item.socket from y)) is (record {
         i = x.inner;
         settings = like.settings;
@@ -420,7 +423,7 @@ module _ {D : Type 0} (moves : D → Move → D → Type 0) (turn_of : Option Ip
             (subst IsWide (sym sending.1) (sourced_wide x.inner packet (wide sending.2) (subst IsWellFormed sending.1 goes.4)))
             (λ done. subst (IsMade (party given.moved.next side)) (sym sending.1)
             (sourced_made (party given.moved.next side) x.inner packet
-            (some_so (offered_by offered) (IsMadeFrom (party given.moved.next side) from) packet (sym is) (given.made done)))) goes.1 linked;
+            (some_so (offered_by offered) (IsMadeFrom (party given.moved.next side) from) packet (sym is) (given.made done)))) went linked;
       } in
       subst (λ (i : Item Socket). Next (At x' (Some i))) (sym goes.3) told
 

@@ -1,5 +1,5 @@
 -- A world of two hosts, and its runs.
-use Rattle.std.specs.Prelude.{◌≡◌, ℕ, List, [], ◌∷◌, length, map, reverse, Option, None}
+use Rattle.std.specs.Prelude.{◌≡◌, ℕ, false, List, [], ◌∷◌, length, map, reverse, Option, None}
 use Rattle.interface.specs.Host.{HostValue}
 use Rattle.iface_egress.specs.declared.socket_set.SocketStorage.{SocketStorage}
 use Rattle.lan.specs.Worlds.AtLink.History.{Entry, Counts}
@@ -74,10 +74,15 @@ counts_of hosts = record {
   waiting_b = length hosts.b.link.waiting;
 }
 
+-- a world's hosts have no host requirements
+abbrev pub AreAlone : Nodes → Type 0
+AreAlone hosts = (hosts.a.host.inner.host_requirements ≡ false) × (hosts.b.host.inner.host_requirements ≡ false)
+
 -- an entry was allowed by the history before it, and leads from hosts to hosts
 pub record Leads (past : List Entry) (old : Nodes) (e : Entry) (new : Nodes) : Type 0 where
   pub allowed : refusal_in past old e.event ≡ None
   pub counted : e.before ≡ counts_of old
+  pub alone : AreAlone old
   pub happens : Happens old (kind_of e.event) e.answer e.found new
 
 -- one event taken, with the answer that it has, kept in the history

@@ -1,5 +1,5 @@
 -- What an event does to the two hosts and the link.
-use Rattle.std.specs.Prelude.{◌≡◌, ℕ, ℤ, Bool, Option, None}
+use Rattle.std.specs.Prelude.{false, ◌≡◌, ℕ, ℤ, Bool, Option, None}
 use Rattle.interface.specs.Polls.{Polls as IsPoll}
 use Rattle.lan.specs.Worlds.AtLink.Kinds.{other, Kind, Act, LinkAct}
 use Rattle.lan.specs.Worlds.AtLink.Kinds.Kind.{OfHost, OfLink}
@@ -15,14 +15,15 @@ use Rattle.lan.specs.Worlds.AtLink.Does.{Does}
 use Rattle.lan.specs.Worlds.AtLink.Sets.{Configures, with_room, instant_at, asked}
 use Rattle.lan.specs.Worlds.AtLink.Origins.{handed, cut}
 
--- A poll of the interface over the host's port. Buffers may lie ready in the port, so that none of its sends is refused for memory.
+-- A poll of the interface over the host's port. Buffers may lie ready in the port, so that none of its sends is refused for memory, where nothing
+-- is parked.
 pub record PollsAt (s : NodeValue) (instant : ℤ) (budget : ℕ) (changed : Bool) (s' : NodeValue) : Type 0 where
   pub port : PortValue
   pub port_after : PortValue
   pub before : port.link ≡ s.link
   pub after : port_after.link ≡ s'.link
   pub polls : IsPoll PortMove instant budget (at_port port s) changed (at_port port_after s')
-  pub none_denied : s'.link.refusals ≡ s.link.refusals
+  pub none_denied : s.host.inner.host_requirements ≡ false → s'.link.refusals ≡ s.link.refusals
 
 -- what one host does, its answer, and of a close of a TCP socket the state that it found
 abbrev pub Acts : NodeValue → Act → Answer → Option State → NodeValue → Type 0

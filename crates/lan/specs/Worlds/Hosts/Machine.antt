@@ -1,5 +1,5 @@
 -- A host as a machine: what it takes, answers and sends at a turn, and what it becomes.
-use Rattle.std.specs.Prelude.{◌≡◌, ℕ, ◌-◌, ℤ, pos, List, [], ◌∷◌, ◌++◌, length, Option}
+use Rattle.std.specs.Prelude.{◌≡◌, ℕ, ◌-◌, ℤ, pos, false, List, [], ◌∷◌, ◌++◌, length, Option}
 use Rattle.sim_link.specs.DeviceCapabilities.{DeviceCapabilities}
 use Rattle.interface.specs.Host.{HostValue}
 use Rattle.iface_egress.specs.Departure.{Departure}
@@ -54,6 +54,7 @@ instant_of act = pos 0
 pub record HostStep (m : Machine) (turn : Turn) (m' : Machine) : Type 0 where
   pub link : LinkEnd
   pub link_after : LinkEnd
+  pub alone : m.host.inner.host_requirements ≡ false
   pub device : link.capabilities ≡ m.capabilities
   pub device_after : link_after.capabilities ≡ m.capabilities
   pub stays : m'.capabilities ≡ m.capabilities

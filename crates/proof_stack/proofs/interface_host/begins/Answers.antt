@@ -1,11 +1,21 @@
-use Rattle.std.proofs.Common.{◌≡◌, pos, [], None, true, false, length, refl}
+use Rattle.std.proofs.Common.{◌≡◌, ℕ, pos, Bool, if◌then◌else◌, [], None, true, false, length, refl}
 use Rattle.std.specs.Prelude.{max}
 use Rattle.std.proofs.lemmas.List.{length-replicate}
+use Rattle.iface_tables.specs.Neighbor as Neighbors
+use Rattle.iface_tables.specs.Neighbor.{CacheValue}
 use Rattle.iface_tables.specs.Reassembly.{initial}
+use Rattle.iface_tables.specs.Settings.{neighbors_for}
 use Rattle.interface.specs.Host.{HostValue}
 use Rattle.interface.specs.Made.{assembler_count}
 use Rattle.proof_stack.proofs.Begins.{made-has, refused-short, refused-long}
 use Rattle.proof_stack.proofs.interface_host.begins.Goals as goal
+
+abbrev cache : Bool → ℕ → CacheValue
+cache many room = record { entries = []; room = room; silent = pos 0; searches = []; search_room = if many then 64 else 8 }
+
+for_many : (many : Bool) (room : ℕ) → neighbors_for many (Neighbors.initial room) ≡ cache many room
+for_many true room = refl
+for_many false room = refl
 
 pub returns : goal.returns
 returns g c =
@@ -20,7 +30,8 @@ returns g c =
       routes = made-has config device instant result (λ (h : HostValue). h.inner.routes ≡ []) made refl;
       route_room = made-has config device instant result (λ (h : HostValue). h.inner.route_room ≡ config.max_route_count) made refl;
       neighbors = made-has config device instant result (λ (h : HostValue). h.inner.neighbors ≡
-          record { entries = []; room = max config.neighbor_cache_count 1; silent = pos 0; searches = [] }) made refl;
+          cache config.host_requirements (max config.neighbor_cache_count 1)) made
+          (for_many config.host_requirements (max config.neighbor_cache_count 1));
       initial = made-has config device instant result (λ (h : HostValue). h.inner.initial ≡ true) made refl;
       left = made-has config device instant result (λ (h : HostValue). h.left ≡ None) made refl;
       assemblers = made-has config device instant result (λ (h : HostValue). length h.assemblers ≡ assembler_count config) made

@@ -5,15 +5,15 @@ use Rattle.lan.proofs.Worlds.AtLink.Ready.{none_refused}
 use Rattle.lan.proofs.at_link.poll.poll_ready.Goals as goal
 
 pub returns-in-None-clause-none_denied : goal.returns-in-None-clause-none_denied
-returns-in-None-clause-none_denied c =
+returns-in-None-clause-none_denied c = λ alone.
     none_refused c.args.instant c.args.budget
     (state c.args.port.now c.args.interface.now (slots c.args.sockets.now)) (state c.poll.new.device c.poll.new.self (slots c.poll.new.sockets))
     (is_change c.poll.result)
-    c.requires.least c.requires.size c.requires.count c.poll.ensures.steps
+    alone c.requires.least c.requires.size c.requires.count c.poll.ensures.steps
 
 pub returns-in-SocketStateChanged-clause-none_denied : goal.returns-in-SocketStateChanged-clause-none_denied
-returns-in-SocketStateChanged-clause-none_denied c =
+returns-in-SocketStateChanged-clause-none_denied c = λ alone.
     none_refused c.args.instant c.args.budget
     (state c.args.port.now c.args.interface.now (slots c.args.sockets.now)) (state c.poll.new.device c.poll.new.self (slots c.poll.new.sockets))
     (is_change c.poll.result)
-    c.requires.least c.requires.size c.requires.count c.poll.ensures.steps
+    alone c.requires.least c.requires.size c.requires.count c.poll.ensures.steps

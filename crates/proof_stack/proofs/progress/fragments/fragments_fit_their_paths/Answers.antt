@@ -1,4 +1,4 @@
-use Rattle.std.proofs.Common.{◌≡◌, ℕ, ◌+◌, ◌≤◌, length, drop, refl, arith}
+use Rattle.std.proofs.Common.{drop, refl, arith}
 use Rattle.std.proofs.lemmas.List.{length-take}
 use Rattle.iface_egress.specs.Fragments.{cut_mtu, fragment_room}
 use Rattle.proof_stack.proofs.progress.fragments.fragments_fit_their_paths.Goals as goal

@@ -5,5 +5,5 @@ pub returns-clause-stays : goal.returns-clause-stays
 returns-clause-stays g c = may_ask_throughout g.E.Device.moves
 
 pub returns-clause-asks : goal.returns-clause-asks
-returns-clause-asks g c i settings d hop p may unknown room =
-    record { takes = may.takes; may = may.may; unknown = unknown; asks = may.asks; room = room }
+returns-clause-asks g c i settings d hop p may unknown alone room =
+    record { takes = may.takes; may = may.may; unknown = unknown; asks = may.asks; alone = alone; room = room }

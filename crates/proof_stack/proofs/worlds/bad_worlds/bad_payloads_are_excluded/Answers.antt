@@ -7,4 +7,6 @@ returns c = record {
   other_identification = λ w turns side key bytes r others sent. by.payload_other_identification w turns side key bytes r sent others;
   other_byte = λ w turns side key bytes slot byte r said differs sent. by.payload_other_byte w turns side key bytes r sent slot byte said differs;
   other_end = λ w turns side key bytes slot r said differs sent. by.payload_other_end w turns side key bytes r sent slot said differs;
+  other_byte_in_a_poll = λ w turns side key bytes slot byte r said differs sent.
+      by.payload_other_byte_in_a_poll w turns side key bytes slot byte r said differs sent;
 }

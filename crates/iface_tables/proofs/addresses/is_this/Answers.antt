@@ -2,7 +2,7 @@ use Rattle.std.proofs.Common.{rules, ◌≡◌, ◌∙◌, nat_eq, refl}
 use Rattle.std.specs.Str.{bytes_eq}
 use Rattle.iface_tables.proofs.FourBytes.{FourBytes, from_le_bytes-tells}
 use Rattle.iface_tables.specs.Inner.{is_this}
-use Rattle.iface_tables.proofs.inner.is_this.Goals as goal
+use Rattle.iface_tables.proofs.addresses.is_this.Goals as goal
 
 pub returns-in-Some : goal.returns-in-Some
 returns-in-Some c =
