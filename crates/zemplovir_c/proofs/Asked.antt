@@ -31,3 +31,8 @@ pub acted : (before after : Option StackValue) (s t : StackValue) (n : ℕ) (ans
     Acts Does before n after
 acted before after s t n answer Does had left number does =
     subst (λ (b : Option StackValue). Acts Does b n after) (sym had) (answer, (t, does, number, left))
+
+-- the number of what a call of the host that is inside answers
+pub answered : {A : Type 0} (inside : Option StackValue) (host : StackValue) (number : ℕ) (answer : Result A Code) (f : StackValue → Result A Code) →
+    inside ≡ Some host → number ≡ number_by answer → answer ≡ f host → number ≡ answer_by inside f
+answered inside host number answer f had is same = is ∙ ap number_by same ∙ sym (ap (λ (i : Option StackValue). answer_by i f) had)

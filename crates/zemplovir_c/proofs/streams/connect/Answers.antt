@@ -2,10 +2,10 @@ use Rattle.std.proofs.Common.{◌≡◌, Some, sym, ap, ◌∙◌}
 use Rattle.std.specs.Prelude.{if◌then◌else◌}
 use Rattle.c_calls.specs.Configuring.{context_of, drawn, with_inner}
 use Rattle.sockets.specs.AnySocket.{as_tcp}
-use Rattle.sockets.specs.TcpCalls.{connect_answer, connect_after, connect_draws}
+use Rattle.sockets.specs.TcpCalls.{connect_after, connect_answer, connect_draws}
 use Rattle.sockets.specs.declared.socket.Socket.TheVariants as Kind
 use Rattle.c_calls.specs.Codes.{coded, of_connect}
-use Rattle.c_calls.specs.Slots.{answer_at, after_at, draws_at}
+use Rattle.c_calls.specs.Slots.{after_at, answer_at, draws_at}
 use Rattle.c_calls.specs.Host.{StackValue}
 use Rattle.zemplovir_c.proofs.Asked.{answered, called}
 use Rattle.zemplovir_c.proofs.streams.connect.Goals as goal
@@ -28,5 +28,5 @@ returns-clause-answer c =
     c.in-Some.ensures.taken ∙ ap (λ (s : StackValue). Some s) (sym c.deref_mut.ensures.value)
     in
     answered c.args.handle.now.inside c.deref_mut.result.now c.done.result c.tcp_connect-answer.result
-    (λ host. answer_at as_tcp (λ v. coded of_connect (connect_answer (context_of host.host.inner) v c.args.remote c.args.local)) host.slots c.args.socket) had
-    c.done.ensures c.tcp_connect-answer.ensures.answer
+    (λ host. answer_at as_tcp (λ v. coded of_connect (connect_answer (context_of host.host.inner) v c.args.remote c.args.local)) host.slots c.args.socket)
+    had c.done.ensures c.tcp_connect-answer.ensures.answer
