@@ -16,10 +16,6 @@ pub is_asked : (name : List ℕ) (kind : DnsQueryType) (s s' : StackValue) (answ
     → (length name ≤ most_name → IsUtf8 name → AsksName name kind s answer s') → NameIsAsked name kind s answer s'
 is_asked name kind s s' answer long text asks = record { long = long; text = text; asks = asks }
 
-pub answered : {A : Type 0} (before : Option StackValue) (s : StackValue) (n : ℕ) (answer : Result A Code) (F : StackValue → Result A Code)
-    → before ≡ Some s → n ≡ number_by answer → answer ≡ F s → n ≡ answer_by before F
-answered before s n answer F had number is = number ∙ ap number_by is ∙ ap (λ (b : Option StackValue). answer_by b F) (sym had)
-
 -- a call of the host that was taken out and is put back
 pub called : (before after : Option StackValue) (s t : StackValue) (F : StackValue → StackValue) → before ≡ Some s → after ≡ Some t → t ≡ F s →
     after ≡ after_by before F
