@@ -142,7 +142,7 @@ class Rows:
         if words[0] in POLLS or words[0] in ("offer", "ask", "settle", "rounds"):
             text = poll_text(row, takes(row.taken))
             beside.append(("poll", text, f"{row.step.line} → {said}" + ("" if len(text) <= BESIDE else f": {text}")))
-            beside += [("refused", f"gives up on {address}, drops what waited: {MOST_REQUESTS} requests, no answer", None)
+            beside += [("refused", f"{MOST_REQUESTS} requests, no answer: gives up on {address}", f"gives up on {address}, and drops what waited for it")
                        for address in self.hosts[name].newly_given_up(row.moment)]
             room = self.history.room[name]
             if room == 0 and words[0] == "poll":

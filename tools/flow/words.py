@@ -1,6 +1,7 @@
 """The same rows as lines of text, and the counts."""
 from frames import FIN, RST
 from history import OTHER
+from hosts import MOST_REQUESTS
 from play import seconds
 from rows import times
 from tcp import listed
@@ -163,11 +164,11 @@ def remarks(history, rows, only=None):
             silent = ", ".join(f"{address} at {' and '.join(map(seconds, at))}" for address, (_, at) in host.silent.items())
             many = len(host.silent) > 1
             yield ("Neighbors that never answered" if many else "A neighbor that never answered",
-                   f"{name} gave up on {silent}, and dropped what waited for {'them' if many else 'it'}")
+                   f"{name} gave up on {silent}, after {MOST_REQUESTS} requests{' each' * many}, all a second apart, and dropped what waited for {'them' if many else 'it'}")
     for name, host in rows.hosts.items():
         began, ended, why = host.longest or (0, 0, "")
-        if ended - began >= WORTH_TELLING:
-            yield f"Longest wait of {name}", f"{seconds(began)} to {seconds(ended)}: {why}"
+        told = f"{seconds(began)} to {seconds(ended)}: {why}" if ended - began >= WORTH_TELLING else f"none of {seconds(WORTH_TELLING)} or more"
+        yield f"Longest wait of {name}", told
     yield from (("At the end", words) for words in endings(history, rows, only))
     for host in "A" if history.run.kind == "one" else "AB":
         yield f"At the end {host}", rows.at_end(host)

@@ -119,7 +119,7 @@ export class Rows {
             const text = pollText(row, takes(row.taken));
             beside.push(['poll', text, `${row.step.line} → ${said}${text.length <= BESIDE ? '' : `: ${text}`}`]);
             for (const address of this.hosts[name].newlyGivenUp(row.moment)) {
-                beside.push(['refused', `gives up on ${address}, drops what waited: ${MOST_REQUESTS} requests, no answer`, null]);
+                beside.push(['refused', `${MOST_REQUESTS} requests, no answer: gives up on ${address}`, `gives up on ${address}, and drops what waited for it`]);
             }
             if (this.history.room[name] === 0 && words[0] === 'poll') beside.push(['refused', 'its device has no room', null]);
         } else if (CALLS.includes(words[0]) || refused && !['deliver', 'damage', 'cut', 'noise', 'state', 'pollat'].includes(words[0])) {

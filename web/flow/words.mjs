@@ -1,6 +1,7 @@
 // The counts, and what a reader looks for first. As tools/flow/words.py.
 import {FIN, RST, keyOf, turned} from './frames.mjs';
 import {connections} from './graph.mjs';
+import {MOST_REQUESTS} from './hosts.mjs';
 import {OTHER, seconds} from './play.mjs';
 import {times} from './rows.mjs';
 import {listed} from './tcp.mjs';
@@ -104,11 +105,12 @@ export function remarks(history, rows) {
         const many = silent.size > 1, told = [...silent].map(([address, [, at]]) => `${address} at ${at.map(seconds).join(' and ')}`).join(', ');
         if (silent.size) {
             said.push([many ? 'Neighbors that never answered' : 'A neighbor that never answered',
-                       `${name} gave up on ${told}, and dropped what waited for ${many ? 'them' : 'it'}`]);
+                       `${name} gave up on ${told}, after ${MOST_REQUESTS} requests${many ? ' each' : ''}, all a second apart, and dropped what waited for ${many ? 'them' : 'it'}`]);
         }
     }
     for (const [name, {longest}] of Object.entries(rows.hosts)) {
-        if (longest && longest[1] - longest[0] >= WORTH_TELLING) said.push([`Longest wait of ${name}`, `${seconds(longest[0])} to ${seconds(longest[1])}: ${longest[2]}`]);
+        const told = longest && longest[1] - longest[0] >= WORTH_TELLING ? `${seconds(longest[0])} to ${seconds(longest[1])}: ${longest[2]}` : `none of ${seconds(WORTH_TELLING)} or more`;
+        said.push([`Longest wait of ${name}`, told]);
     }
     for (const words of endings(history, rows)) said.push(['At the end', words]);
     for (const host of 'AB') said.push([`At the end ${host}`, rows.atEnd(host)]);
