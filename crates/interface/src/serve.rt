@@ -312,8 +312,8 @@ pub(crate) fn transmit_direct_segment<D: Device, P: Carried>(
     }
 }
 
-/// Transmits a packet from its source by its plan, if the device has a transmit token. One that keeps its source isn't copied. Apart, so
-/// that its plan isn't made ready where none is needed.
+/// Transmits a packet from its source by its plan, if the device has a transmit token. One that keeps its source isn't copied. Not inlined,
+/// so that its plan isn't made ready where none is needed.
 #[inline(never)]
 fn transmit_planned<D: Device>(
     turn: &Option<IpAddress>,
@@ -337,7 +337,7 @@ fn transmit_planned<D: Device>(
     }
 }
 
-/// Transmits a packet from the address that is chosen for its destination. It stands apart, so that its copy isn't made ready where
+/// Transmits a packet from the address that is chosen for its destination. Not inlined, so that its copy isn't made ready where
 /// none is needed.
 #[inline(never)]
 fn transmit_sourced<D: Device>(
