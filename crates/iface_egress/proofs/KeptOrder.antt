@@ -1,5 +1,5 @@
 -- Packets that wait keep their order.
-use Rattle.std.proofs.Common.{◌≡◌, ◌⊎◌, inl, inr, Bool, true, false, if◌then◌else◌, List, [], ◌∷◌, ◌++◌, refl, sym, ap, subst, ◌∙◌}
+use Rattle.std.proofs.Common.{◌≡◌, ◌⊎◌, inl, inr, Bool, true, false, if◌then◌else◌, List, [], ◌∷◌, ◌++◌, append_assoc, append-nil, refl, sym, ap, subst, ◌∙◌}
 use Rattle.std.specs.Prelude.{◌&&◌, not}
 use Rattle.net_base.specs.Device.{Move}
 use Rattle.iface_tables.specs.Parking.{ParkedValue}
@@ -20,14 +20,6 @@ part_of_more (p ∷ part) [] ys k is = inr is
 part_of_more (p ∷ part) (x ∷ xs) ys k (inl here) = inl (here.0, part_of_more part xs ys k here.1)
 part_of_more (p ∷ part) (x ∷ xs) ys k (inr later) = inr (part_of_more (p ∷ part) xs ys k later)
 
-append_none : (xs : List ParkedValue) → xs ++ [] ≡ xs
-append_none [] = refl
-append_none (x ∷ xs) = ap (λ (ys : List ParkedValue). x ∷ ys) (append_none xs)
-
-append_one : (xs ys : List ParkedValue) (k : ParkedValue) → (xs ++ k ∷ []) ++ ys ≡ xs ++ k ∷ ys
-append_one [] ys k = refl
-append_one (x ∷ xs) ys k = ap (λ (zs : List ParkedValue). x ∷ zs) (append_one xs ys k)
-
 -- A WALK
 
 module _ {D : Type 0} (moves : D → Move → D → Type 0) where
@@ -36,8 +28,8 @@ module _ {D : Type 0} (moves : D → Move → D → Type 0) where
       → GoesOn moves sent gone waits_on refused → IsPartOf left (kept ++ k ∷ rest)
   after Outcome.Gone kept rest left k gone waits_on refused on past end goes = part_of_more left kept rest k (on goes)
   after Outcome.Dropped kept rest left k gone waits_on refused on past end goes = part_of_more left kept rest k (on goes)
-  after Outcome.Waits kept rest left k gone waits_on refused on past end goes = subst (IsPartOf left) (append_one kept rest k) (past goes)
-  after Outcome.Busy kept rest left k gone waits_on refused on past end goes = subst (IsPartOf left) (append_one kept rest k) (past goes)
+  after Outcome.Waits kept rest left k gone waits_on refused on past end goes = subst (IsPartOf left) (append_assoc kept (k ∷ []) rest) (past goes)
+  after Outcome.Busy kept rest left k gone waits_on refused on past end goes = subst (IsPartOf left) (append_assoc kept (k ∷ []) rest) (past goes)
   after Outcome.Refused kept rest left k gone waits_on refused on past end goes =
       subst (λ (xs : List ParkedValue). IsPartOf xs (kept ++ k ∷ rest)) (sym (end goes)) (part_itself (kept ++ k ∷ rest))
 
@@ -45,7 +37,7 @@ module _ {D : Type 0} (moves : D → Move → D → Type 0) where
       ServesEach moves rest kept x all x' left → IsPartOf left (kept ++ rest)
   in_order [] kept x all x' left serves =
       subst (λ (xs : List ParkedValue). IsPartOf xs (kept ++ [])) (sym serves.2)
-      (subst (λ (xs : List ParkedValue). IsPartOf kept xs) (sym (append_none kept)) (part_itself kept))
+      (subst (λ (xs : List ParkedValue). IsPartOf kept xs) (sym (append-nil kept)) (part_itself kept))
   in_order (k ∷ rest) kept x all x' left serves =
       after serves.0 kept rest left k (ServesEach moves rest kept serves.1 all x' left) (ServesEach moves rest (kept ++ k ∷ []) serves.1 all x' left)
       ((all ≡ false) × (x' ≡ serves.1) × (left ≡ kept ++ k ∷ rest)) (λ more. in_order rest kept serves.1 all x' left more)
