@@ -19,6 +19,6 @@ pub dropped : (s : StackValue) (to : HardwareAddress) (mtu : ℕ) (busy : Bool) 
 dropped s to mtu busy header length long sum less =
     let more : max s.host.inner.mtu 4096 < total_len header = omega (arith, long, sum) in
     let frame : nat_le (total_len header) mtu ≡ false = not_below (total_len header) mtu (omega (arith, more, less)) in
-    let pieces : nat_le (total_len header) 4096 ≡ false = not_below (total_len header) 4096 (omega (arith, more)) in
+    let whole : nat_le (total_len header) 4096 ≡ false = not_below (total_len header) 4096 (omega (arith, more)) in
     ap (λ b. if b then Way.Go to else long_plan busy to header) frame
-    ∙ ap (λ b. if b && not (has_extensions header) then cut_if_idle busy to else Way.Drop) pieces
+    ∙ ap (λ b. if b && not (has_extensions header) then cut_if_idle busy to else Way.Drop) whole

@@ -4,6 +4,7 @@ use Rattle.ip_wire.specs.IpAddress.{IpAddress}
 use Rattle.ip_wire.specs.IpAddress.TheVariants as Ip
 use Rattle.sockets.specs.AnySocket.{as_udp}
 use Rattle.sockets.specs.declared.socket.Socket.TheVariants as Kind
+use Rattle.iface_egress.specs.Plan.{longest_cut}
 use Rattle.socket_datagram.specs.Udp.{UdpValue, bind_answer, bind_after, send_answer, send_after, with_hop_limit, closed}
 use Rattle.socket_datagram.specs.declared.udp.UdpMetadata.{UdpMetadata}
 use Rattle.c_calls.specs.Codes.{coded, of_bind, of_send}
@@ -31,9 +32,9 @@ abbrev pub headers_len : IpAddress → ℕ
 headers_len (Ip.Ipv4 address) = 28
 headers_len (Ip.Ipv6 address) = 48
 
--- a packet is no longer than a frame carries, or goes in fragments if it has 4,096 bytes at most
+-- a packet is no longer than a frame carries, or goes in fragments if it isn't too long to be cut
 abbrev pub room_in : ℕ → IpAddress → ℕ
-room_in mtu remote = max mtu 4096 - headers_len remote
+room_in mtu remote = max mtu longest_cut - headers_len remote
 
 abbrev pub datagram_room : StackValue → IpAddress → ℕ
 datagram_room s remote = room_in s.host.inner.mtu remote

@@ -41,7 +41,7 @@ query_made servers host_requirements = Some (Dns.with_host_requirements (Dns.mad
 abbrev pub Asked : ContextValue → List ℕ → DnsQueryType → DnsValue → Result (Unit {0}) Code → DnsValue → Type 0
 Asked cx name kind v result v' = (own : Result (Unit {0}) StartQueryError) × Starts cx v name kind own v' × (result ≡ coded of_start own)
 
--- of a longer name no byte is looked at: it has at most 253, and a dot may stand behind them
+-- no byte is read of a longer text: a name has at most 253 bytes, and a dot may follow
 abbrev pub most_name : ℕ
 most_name = 255
 
