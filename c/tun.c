@@ -1,8 +1,9 @@
 /* A host on a TUN or TAP device of Linux that sends back what it gets: UDP and TCP at port 7, a page at port 80, and answers to pings.
  *
- *   tun NAME tun|tap ADDRESS PREFIX [ROUTER] [--trace] [--pcap FILE]        as root, the device made before: docs/guide/c_and_rust.md
+ *   tun NAME tun|tap ADDRESS PREFIX [ROUTER] [--join GROUP].. [--trace] [--pcap FILE]        as root, the device made before:
+ *                                                                                            docs/guide/c_and_rust.md
  *
- * --trace writes a line of text for each frame on standard error.
+ * What is sent to a multicast group that was joined is sent back, too; SIGUSR1 leaves all groups. --trace writes a line of text for each frame on standard error.
  * FILE gets each frame that came and each that went, one by one, as Wireshark reads them; `-` is standard output: tun .. --pcap - | tshark -r -
  *
  * Frames go behind a header of virtio, many in one call (offload.h).
@@ -20,17 +21,19 @@
 #include <time.h>
 #include <unistd.h>
 
-enum { STREAMS = 4, PAGES = 4, BUDGET = 64 };
+enum { STREAMS = 4, PAGES = 4, BUDGET = 64, GROUPS = 8 };
 
 /* No socket. */
 #define NONE ((size_t)-1)
 
-static volatile sig_atomic_t is_over;
+static volatile sig_atomic_t is_over, is_leaving;
 
 static void end(int number)
 {
-    (void)number;
-    is_over = 1;
+    if (number == SIGUSR1)
+        is_leaving = 1;
+    else
+        is_over = 1;
 }
 
 static void must(uint32_t code, const char *what)
@@ -295,6 +298,33 @@ static int serve(zv_host *host, struct sockets *it)
     return any | serve_pages(host, it->listener, it->accepted);
 }
 
+/* The groups that are joined. */
+static zv_address groups[GROUPS];
+static int joined_groups;
+
+/* Takes the words `--join GROUP` from the end of the line. Says how many words are left. */
+static int read_groups(int count, char **words)
+{
+    while (count > 6 && joined_groups < GROUPS && strcmp(words[count - 2], "--join") == 0) {
+        groups[joined_groups++] = read_address(words[count - 1]);
+        count -= 2;
+    }
+    return count;
+}
+
+static void join_groups(zv_host *host)
+{
+    for (int i = 0; i < joined_groups; i++)
+        must(zv_group_join(host, &groups[i]), "group");
+}
+
+static void leave_groups(zv_host *host)
+{
+    is_leaving = 0;
+    while (joined_groups > 0)
+        must(zv_group_leave(host, &groups[--joined_groups]), "group");
+}
+
 /* Behind a wait what one read has is taken alone and answered, so that the answer goes at once; then as much as there is. */
 static void run(zv_host *host, int device, struct sockets *it)
 {
@@ -303,6 +333,10 @@ static void run(zv_host *host, int device, struct sockets *it)
     while (!is_over) {
         const int64_t moment = now();
         const int taken = take(device, most);
+        if (is_leaving) {
+            leave_groups(host);
+            at = 0;
+        }
         if (taken == 0 && moment < at) {
             wait_for(device, at - moment);
             most = 1;
@@ -329,8 +363,9 @@ int main(int count, char **words)
         is_traced = 1;
         count--;
     }
+    count = read_groups(count, words);
     if (count < 5 || count > 6) {
-        fprintf(stderr, "usage: tun NAME tun|tap ADDRESS PREFIX [ROUTER] [--trace] [--pcap FILE]\n");
+        fprintf(stderr, "usage: tun NAME tun|tap ADDRESS PREFIX [ROUTER] [--join GROUP].. [--trace] [--pcap FILE]\n");
         return 2;
     }
     const int is_tap = strcmp(words[2], "tap") == 0;
@@ -367,7 +402,9 @@ int main(int count, char **words)
         const zv_address all = {router.family, {0}};
         must(zv_route_add(&host, &all, 0, &router), "route");
     }
+    join_groups(&host);
     struct sockets sockets = opened(&host);
+    signal(SIGUSR1, end);
     signal(SIGTERM, end);
     signal(SIGINT, end);
     fprintf(stderr, "tun: ready\n");
