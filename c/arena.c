@@ -4,7 +4,11 @@
 #include <stddef.h>
 #include <stdint.h>
 
-enum { ARENA = 256 * 1024, ALIGN = 16 };
+#ifndef ZV_ARENA
+#define ZV_ARENA (256 * 1024) /* how many bytes there are */
+#endif
+
+enum { ARENA = ZV_ARENA, ALIGN = 16 };
 
 void *malloc(size_t size);
 void *realloc(void *block, size_t size);

@@ -14,9 +14,9 @@ def kit():
     return os.path.dirname(subprocess.run(["rt", "doc"], capture_output=True, text=True, check=True).stdout.strip())
 
 
-def module_of(top, name, room):
+def module_of(top, name, room, *options):
     """Proves and builds the crate over the libraries below it as `rt lib` left them, by a toolchain whose clang keeps what it is given: the path of
-    that."""
+    that. The library itself is left in the room, too."""
     tools, module = f"{room}/toolchain", f"{room}/module.bc"
     shutil.copytree(f"{kit()}/toolchain", tools, copy_function=os.symlink)
     os.remove(f"{tools}/bin/clang")
@@ -27,7 +27,7 @@ def module_of(top, name, room):
     import rtlib  # the module of `rt` itself
 
     crate = {it.name: it for it in rtlib.crates_below(top)}[name]
-    words = crate.words([*rtlib.KEPT, "--toolchain", tools, "-o", f"{room}/lib{name}.a"])
+    words = crate.words([*rtlib.KEPT, *options, "--toolchain", tools, "-o", f"{room}/lib{name}.a"])
     built = subprocess.run([f"{kit()}/bin/rattle", "build", *words], cwd=f"{top}/crates/{name}")
     if built.returncode or not os.path.exists(module):
         raise Failed(f"{name} was not proved and built: (cd crates/{name} && rt lib) builds the libraries below it")
