@@ -1,0 +1,4 @@
+pub mod Options
+pub mod RouterOption
+pub mod Advert
+pub mod Solicit
