@@ -1,6 +1,7 @@
 //! Router advertisements.
 ghost use Rattle.std.specs.Prelude.{◌≡◌, ◌+◌, ◌≤◌, IfOk, IsOk, ◌↔◌, length, drop};
 ghost use Rattle.wire_router.specs.Advert.{IsRouterAdvert, preference_of, preference_number, options_in, spelling};
+ghost use Rattle.wire_router.specs.declared.advert.RouterAdvert.{RouterAdvert};
 
 use crate::options::are_options;
 use wire_address::Error;
@@ -38,7 +39,7 @@ impl RouterPreference {
     }
 
     fn number(self) -> u8
-        ensures value { result ≡ preference_number self.entry }
+        ensures value { result ≡ preference_number self }
         ensures small { result ≤ 3 }
     {
         match self {
@@ -71,7 +72,7 @@ impl RouterAdvert {
     /// The advertisement in an ICMPv6 message, whose options are whole (RFC 4861, section 6.1.2). Its checksum isn't looked at.
     pub fn parse(message: &[u8]) -> Result<RouterAdvert, Error>
         ensures found { IfOk result (λ v. IsRouterAdvert message.now v) }
-        ensures only { (v : crate::specs::declared::advert::RouterAdvert::RouterAdvert) → IsRouterAdvert message.now v → result ≡ Ok v }
+        ensures only { (v : RouterAdvert) → IsRouterAdvert message.now v → result ≡ Ok v }
     {
         if message.len() < HEADER_LEN || message[0] != ROUTER_ADVERT || message[1] != 0 {
             return Err(Error);

@@ -45,10 +45,10 @@ pub fn are_options(bytes: &[u8]) -> bool
 {
     let mut rest = bytes;
     while !rest.is_empty() {
-        let Ok((_option, following)) = OptionBytes::parse(rest) else {
-            return false;
-        };
-        rest = following;
+        match OptionBytes::parse(rest) {
+            Ok((_option, following)) => rest = following,
+            Err(_) => return false,
+        }
     }
     true
 }
