@@ -1,5 +1,5 @@
 -- Options read one by one.
-use Rattle.std.proofs.Common.{◌≡◌, ℕ, ◌<◌, List, [], ◌∷◌, ◌++◌, length, ap, ◌∙◌, arith, ◌↔◌}
+use Rattle.std.proofs.Common.{◌≡◌, ℕ, ◌<◌, List, [], ◌∷◌, ◌++◌, length, ap, ◌∙◌, arith}
 use Rattle.wire_icmpv6.specs.NdiscOption.{OptionValue, Begins, option_bytes, options_bytes}
 use Rattle.wire_router.specs.Options.{AreOptions, AreWhole}
 

@@ -1,6 +1,6 @@
 -- What an option of an advertisement says, by its type and what is after its length (RFC 4861, section 4.6; RFC 8106, section 5.1; RFC 3971,
 -- section 5.3.2).
-use Rattle.std.specs.Prelude.{◌≡◌, ℕ, ◌+◌, ◌*◌, ◌/◌, ◌%◌, ◌<◌, ◌^◌, ◌==◌, nat_le, ◌&&◌, if◌then◌else◌, List, [], ◌∷◌, ◌++◌, length, slice_index, slice_range}
+use Rattle.std.specs.Prelude.{ℕ, ◌+◌, ◌*◌, ◌/◌, ◌%◌, ◌<◌, ◌^◌, ◌==◌, nat_le, ◌&&◌, if◌then◌else◌, List, ◌∷◌, ◌++◌, length, slice_index, slice_range}
 use Rattle.std.specs.Int.{w32, to_be_bytes}
 use Rattle.wire_address.specs.Address.{IsIpv6Address}
 use Rattle.wire_address.specs.Fields.{be32}
