@@ -1,5 +1,7 @@
-//! Tests of the messages of multicast groups and of the rules of members, with values from outside.
+//! Tests of the messages of multicast groups and of routers, and of the rules of members, with values from outside.
 #![tactic(auto)]
 
 #[cfg(test)]
 mod queries;
+#[cfg(test)]
+mod routers;

@@ -2,8 +2,10 @@
 use crate::control::{Icmpv4Text, Icmpv6Text};
 use crate::groups::{is_mld, put_mld};
 use crate::put::{Out, all, none, tested_first};
+use crate::routers::put_router_advert;
 use control_wire::{Icmpv4Packet, Icmpv4Repr, Icmpv6Header, Icmpv6Packet, Icmpv6Repr};
 use ip_wire::Ipv6Address;
+use wire_router::RouterAdvert;
 
 /// A message of IPv4.
 pub(crate) fn put_icmpv4(out: &mut Out<'_>, bytes: &[u8]) {
@@ -59,6 +61,10 @@ pub(crate) fn put_icmpv6(
     }
     if is_mld(bytes) {
         put_mld(out, source, destination, bytes);
+        return;
+    }
+    if let Ok(advert) = RouterAdvert::parse(bytes) {
+        put_router_advert(out, source, destination, bytes, &advert);
         return;
     }
     let found = tested_first(

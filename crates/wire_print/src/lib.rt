@@ -10,6 +10,7 @@ mod ip;
 mod names;
 mod parts;
 mod put;
+mod routers;
 mod tcp;
 mod tcp_text;
 
