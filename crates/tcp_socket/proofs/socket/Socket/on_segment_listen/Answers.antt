@@ -23,7 +23,7 @@ invariant_of-self g c =
         c.refresh_recent.ensures,
         c.answer_syn.ensures,
       ) (kept_opening c.self.inside.tcb i.ip_repr.now i.header.now c.isn-number.result c.now-now.result c.now-now.ensures.instant
-          (sized_mss i.header.now.options.max_seg_size sized));
+          (sized_mss (Some (pair_in i.ip_repr.now i.header.now)) i.header.now.options.max_seg_size sized));
       unsettled = none_open c.self.inside.offered c.restart_timeout.new.self none;
     }
 
