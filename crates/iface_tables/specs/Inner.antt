@@ -24,7 +24,7 @@ use Rattle.socket_context.specs.Packet.{PacketValue}
 use Rattle.iface_tables.specs.ErrorLimit.{may_answer, answered_at}
 pub use Rattle.iface_tables.specs.Groups.{is_all_systems, is_all_nodes}
 use Rattle.iface_tables.specs.Groups.{is_joined}
-use Rattle.iface_tables.specs.Neighbor.{CacheValue, last_request, own_silence, lookup, is_found, filled, renewed, doubted, requested, silent_time, entry_lifetime}
+use Rattle.iface_tables.specs.Neighbor.{CacheValue, last_request, own_silence, lookup, is_found, filled, renewed, requested, silent_time, entry_lifetime}
 use Rattle.iface_tables.specs.Parking.{ParkingValue, parked_as, with_parked}
 use Rattle.iface_tables.specs.PathMtu.{mtu_towards, end_towards, lowered}
 use Rattle.iface_tables.specs.Route.{best_route, router_of}
@@ -339,14 +339,6 @@ with_neighbor i address hardware = record i {
 -- a packet came from a neighbour
 abbrev pub with_renewal : InnerValue → IpAddress → HardwareAddress → InnerValue
 with_renewal i address hardware = record i { neighbors = renewed i.neighbors address hardware i.instant }
-
--- Packets for a destination get no answer: what is known of its next hop isn't believed any more, unless that was heard within the last second.
-abbrev pub doubted_by : Option IpAddress → InnerValue → CacheValue
-doubted_by None i = i.neighbors
-doubted_by (Some hop) i = doubted i.neighbors hop i.instant
-
-abbrev pub with_doubt : InnerValue → IpAddress → InnerValue
-with_doubt i address = record i { neighbors = doubted_by (next_hop i address) i }
 
 -- a neighbour was asked for
 abbrev pub with_request : InnerValue → IpAddress → InnerValue

@@ -173,26 +173,6 @@ renewed c address hardware instant = record c {
   searches = if is_known_by (at_index (neighbor_index_of c.entries address) c.entries) hardware then ended c.searches address else c.searches;
 }
 
--- NEGATIVE ADVICE: what is sent to a neighbour stays unanswered (RFC 1122, section 2.3.2.1; RFC 4861, section 7.3.1)
-
--- how long an entry is still to be believed that was heard less than a second ago
-abbrev pub fresh_time : ℕ
-fresh_time = 59_000_000
-
--- an entry that was heard longer ago isn't believed any more
-abbrev pub doubted_entry : Neighbor → ℤ → Neighbor
-doubted_entry entry instant =
-    if int_lt (instant +ℤ pos fresh_time) entry.expires_at then entry else record entry { expires_at = instant }
-
--- it stays where it stands
-abbrev pub doubted_at : Option ℕ → Option Neighbor → List Neighbor → ℤ → List Neighbor
-doubted_at (Some at) (Some entry) entries instant = slice_set entries at (doubted_entry entry instant)
-doubted_at index entry entries instant = entries
-
-abbrev pub doubted : CacheValue → IpAddress → ℤ → CacheValue
-doubted c address instant =
-    record c { entries = doubted_at (neighbor_index_of c.entries address) (at_index (neighbor_index_of c.entries address) c.entries) c.entries instant }
-
 -- after a request at this instant
 abbrev pub silenced : CacheValue → ℤ → CacheValue
 silenced c instant = record c { silent = instant +ℤ pos silent_time }

@@ -19,7 +19,7 @@ ghost use Rattle.iface_tables.specs.Inner.{silence_of, asked_of, parked_instant,
 ghost use Rattle.iface_tables.specs.Inner.{is_limited_broadcast, is_nameless, is_local_source, is_mapped, never_comes};
 ghost use Rattle.iface_tables.specs.Inner.{is_for_us, is_loopback_of, is_foreign_loopback, may_be_source, next_hop, group_hardware_addr, link_by, link_address};
 ghost use Rattle.iface_tables.specs.Inner.{is_known_hop, has_neighbor, is_in_link_prefix, is_on_link, at_instant};
-ghost use Rattle.iface_tables.specs.Inner.{with_next_ident, with_neighbor, with_renewal, with_doubt, with_request, awaited_hop};
+ghost use Rattle.iface_tables.specs.Inner.{with_next_ident, with_neighbor, with_renewal, with_request, awaited_hop};
 ghost use Rattle.iface_tables.specs.Inner.{is_crowded, next_request, may_tell, with_error, mtu_to, path_end, with_path};
 ghost use Rattle.iface_tables.specs.Settings.{refusal, made, unless, first_ident, hardware_refusal, with_hardware, is_stranger, with_addresses};
 ghost use Rattle.iface_tables.specs.Groups.{join_refusal, leave_refusal};
@@ -488,15 +488,6 @@ impl InterfaceInner {
     {
         self.neighbor_cache
             .reset_expiry_if_existing(protocol_addr, hardware_addr, self.instant);
-    }
-
-    /// Takes in that packets for a destination get no answer: its next hop is searched for anew, unless it was heard within the last second.
-    pub fn doubt_neighbor(&mut self, addr: &IpAddress)
-        ensures { self.new ≡ with_doubt self.old addr.now }
-    {
-        if let Some(hop) = self.route(addr) {
-            self.neighbor_cache.doubt(&hop, self.instant);
-        }
     }
 
     /// Counts a request for a neighbour that goes now.

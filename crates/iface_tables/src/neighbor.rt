@@ -3,7 +3,7 @@ ghost use Rattle.std.specs.Prelude.{◌≡◌, ◌≤◌, ◌<◌, ◌+◌, if�
 ghost use Rattle.std.specs.Option.{ForSome};
 ghost use Rattle.net_base.specs.Time.{IsMoment};
 ghost use Rattle.ip_wire.specs.AddressTests.{is_same_hardware};
-ghost use Rattle.iface_tables.specs.Neighbor.{initial, lookup, filled, filled_at, renewed, renewed_entry, doubted, doubted_entry, silenced, requested, searched_at, one_more, first_search};
+ghost use Rattle.iface_tables.specs.Neighbor.{initial, lookup, filled, filled_at, renewed, renewed_entry, silenced, requested, searched_at, one_more, first_search};
 ghost use Rattle.iface_tables.specs.Neighbor.{count_after, search_index, search_of, oldest_search, ended, is_failed, has_failed_by, has_failed};
 ghost use Rattle.iface_tables.specs.Neighbor.{last_request, flushed, is_found, is_known_by, victim, for_many, own_silence, entry_lifetime, silent_time, cache_room};
 
@@ -20,9 +20,6 @@ use std::marker::Model;
 pub(crate) const SILENT_MILLIS: u64 = 1_000;
 
 const LIFETIME_MILLIS: u64 = 60_000;
-
-/// How long an entry is still to be believed that was heard less than a second ago, in milliseconds.
-const FRESH_MILLIS: u64 = 59_000;
 
 /// How often a neighbour is asked for (RFC 4861, section 10), and how long it counts as without answer then, in milliseconds.
 const MOST_REQUESTS: u8 = 3;
@@ -52,17 +49,6 @@ impl Neighbor {
             return;
         }
         self.expires_at = timestamp + Duration::from_millis(LIFETIME_MILLIS);
-    }
-
-    /// Believes the entry no more, unless it was heard within the last second.
-    fn doubt(&mut self, timestamp: Instant)
-        requires { IsMoment timestamp }
-        ensures { self.new ≡ doubted_entry self.old timestamp }
-    {
-        if timestamp + Duration::from_millis(FRESH_MILLIS) < self.expires_at {
-            return;
-        }
-        self.expires_at = timestamp;
     }
 }
 
@@ -384,16 +370,6 @@ impl Cache {
             let known = is_known_at(self.storage.as_slice(), at, &source_hardware_addr);
             self.end_search_if(known, &protocol_addr);
             self.storage[at].renew(&source_hardware_addr, timestamp);
-        }
-    }
-
-    /// Believes an entry no more, unless it was heard within the last second.
-    pub fn doubt(&mut self, protocol_addr: &IpAddress, timestamp: Instant)
-        requires { IsMoment timestamp }
-        ensures { self.new ≡ doubted self.old protocol_addr.now timestamp }
-    {
-        if let Some(at) = index_in(self.storage.as_slice(), &self.positions, protocol_addr) {
-            self.storage[at].doubt(timestamp);
         }
     }
 
