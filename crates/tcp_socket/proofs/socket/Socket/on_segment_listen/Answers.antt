@@ -1,4 +1,4 @@
-use Rattle.std.proofs.Common.{◌≡◌, ◌∙◌, ℕ, ℤ, Bool, true, false, None, if◌then◌else◌, refl, ap, sym}
+use Rattle.std.proofs.Common.{◌≡◌, ◌∙◌, ℕ, ℤ, Bool, true, false, Some, None, if◌then◌else◌, refl, ap, sym}
 use Rattle.tcp_block.specs.Endpoints.{pair_in}
 use Rattle.tcp_block.specs.Isn.{isn, draws_number}
 use Rattle.tcp_block.specs.Controls.{is_syn, is_zero}
