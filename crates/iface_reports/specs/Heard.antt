@@ -18,7 +18,7 @@ use Rattle.iface_groups.specs.Counts.{counts_v4, counts_v6}
 use Rattle.iface_groups.specs.Query.{igmp_max_micros, mld_max_micros}
 use Rattle.iface_groups.specs.declared.mode.CompatibilityMode.{CompatibilityMode}
 use Rattle.iface_groups.specs.declared.mode.CompatibilityMode.TheVariants as Mode
-use Rattle.iface_egress.specs.Inner.{InnerValue, is_address_of}
+use Rattle.iface_tables.specs.Inner.{InnerValue, is_address_of}
 use Rattle.iface_reports.specs.declared.heard.Heard.{Heard}
 use Rattle.iface_reports.specs.declared.heard.Heard.TheVariants as Came
 
@@ -176,8 +176,8 @@ abbrev pub heard_v6 : InnerValue → List ℕ → Option Heard
 heard_v6 i packet =
     if is_whole_v6 packet
     then mld_heard i (v6_at packet 8) (v6_at packet 24) (slice_index packet 7)
-        (has_alert (slice_range packet 42 (40 + options_len packet)))
-        (slice_range packet (40 + options_len packet) (40 + payload_len_v6 packet))
+    (has_alert (slice_range packet 42 (40 + options_len packet)))
+    (slice_range packet (40 + options_len packet) (40 + payload_len_v6 packet))
     else None
 
 abbrev pub heard_in_packet : InnerValue → List ℕ → Option Heard

@@ -1,5 +1,5 @@
 -- What a host tells of its multicast groups, as a value, and what joins, leaves, its addresses, queries and others' reports make of it.
-use Rattle.std.specs.Prelude.{ℕ, ◌+◌, ◌*◌, ◌%◌, ◌^◌, ◌≤◌, ◌==◌, ◌&&◌, ◌||◌, not, min, Bool, true, false, if◌then◌else◌, ℤ, pos, List, [], ◌∷◌, ◌++◌, length, map, drop, Option, None, Some, unsigned_abs, is_none}
+use Rattle.std.specs.Prelude.{ℕ, ◌+◌, ◌-◌, ◌*◌, ◌%◌, ◌^◌, ◌≤◌, ◌==◌, ◌&&◌, ◌||◌, not, min, Bool, true, false, if◌then◌else◌, ℤ, pos, List, [], ◌∷◌, ◌++◌, length, map, drop, Option, None, Some, unsigned_abs, is_none}
 use Rattle.std.specs.List.{list_any}
 use Rattle.net_base.specs.RandomWords.{next_state, word}
 use Rattle.ip_wire.specs.Address.{solicited_of}
@@ -19,7 +19,7 @@ use Rattle.iface_groups.specs.declared.mode.CompatibilityMode.{CompatibilityMode
 use Rattle.iface_groups.specs.declared.mode.CompatibilityMode.TheVariants as Mode
 use Rattle.iface_groups.specs.declared.querier.Querier.{Querier}
 use Rattle.iface_groups.specs.declared.table.Row.{Row}
-use Rattle.iface_egress.specs.Inner.{InnerValue, is_member_of}
+use Rattle.iface_tables.specs.Inner.{InnerValue, is_member_of}
 use Rattle.iface_reports.specs.declared.heard.Heard.{Heard}
 use Rattle.iface_reports.specs.declared.heard.Heard.TheVariants as Came
 
@@ -187,7 +187,7 @@ unqueried_unless false family r = record r { rows = unqueried family r.rows }
 abbrev pub in_version : InnerValue → CompatibilityMode → IpAddress → ReportsValue → ReportsValue
 in_version i version family r =
     unqueried_unless (mode_number (mode_in i family r) == mode_number (mode_in i family (with_version i version family r))) family
-        (with_version i version family r)
+    (with_version i version family r)
 
 abbrev pub answered : InnerValue → IpAddress → ℕ → ReportsValue → ReportsValue
 answered i group longest r =

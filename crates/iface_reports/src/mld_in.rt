@@ -1,5 +1,5 @@
 //! What a packet of IPv6 says of groups.
-ghost use Rattle.std.specs.Prelude.{◌≡◌, ◌≤◌, ◌+◌, ◌<◌, ◌^◌, length, slice_index};
+ghost use Rattle.std.specs.Prelude.{◌≡◌, ◌≤◌, ◌+◌, ◌<◌, ◌^◌, length};
 ghost use Rattle.std.specs.Option.{ForSome};
 ghost use Rattle.iface_reports.specs.Heard.{v6_at, has_alert, alerts_among, payload_len_v6, options_len, is_whole_v6, is_summed, mld_version, mld_query, mld_report, mld_said, mld_heard, heard_v6};
 ghost use Rattle.iface_reports.specs.Reports.{IsShort};
@@ -9,6 +9,7 @@ use iface_groups::{CompatibilityMode, counts_v6, mld_max_micros};
 use iface_tables::InterfaceInner;
 use ip_wire::network_order::read_u16;
 use ip_wire::{IpAddress, IpProtocol, Ipv6Address, checksum};
+use socket_context::Context;
 
 /// The option that says that each router on the way looks at the packet.
 const ROUTER_ALERT: u8 = 5;

@@ -219,10 +219,9 @@ impl Reporter {
     fn join_for(&mut self, inner: &InterfaceInner, block: &IpCidr)
         ensures { self.new ≡ joined_for inner.now block.now self.old }
     {
-        if let IpCidr::Ipv6(block) = block {
-            if !block.address().is_loopback() {
-                let group = solicited_node(&block.address());
-                let _ = self.join(inner, &group);
+        if let IpAddress::Ipv6(address) = block.address() {
+            if !address.is_loopback() {
+                let _refused = self.join(inner, &solicited_node(&address));
             }
         }
     }
@@ -331,9 +330,9 @@ fn mode_number(mode: CompatibilityMode) -> u8
 fn solicited_node(address: &Ipv6Address) -> IpAddress
     ensures { result ≡ solicited_node address.now }
 {
-    let [.., a, b, c] = address.octets();
+    let tail = &address.0[13..];
     IpAddress::Ipv6(Ipv6Address([
-        0xff, 2, 0, 0, 0, 0, 0, 0, 0, 0, 0, 1, 0xff, a, b, c,
+        0xff, 2, 0, 0, 0, 0, 0, 0, 0, 0, 0, 1, 0xff, tail[0], tail[1], tail[2],
     ]))
 }
 
@@ -347,8 +346,8 @@ fn has_link_local(blocks: &[IpCidr]) -> bool
 fn is_link_local(block: &IpCidr) -> bool
     ensures { result ≡ is_link_local_cidr block.now }
 {
-    match block {
-        IpCidr::Ipv4(_) => false,
-        IpCidr::Ipv6(block) => block.address().is_link_local(),
+    match block.address() {
+        IpAddress::Ipv4(_) => false,
+        IpAddress::Ipv6(address) => address.is_link_local(),
     }
 }
