@@ -1,0 +1,2 @@
+mod LastThree
+mod Alerts
