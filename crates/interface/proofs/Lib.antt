@@ -20,6 +20,7 @@ pub mod Unchanged
 pub mod Runs
 pub mod Kept
 pub mod Keep
+pub mod Silent
 pub mod KeepAlone
 pub mod Hosts
 pub mod Shapes

@@ -416,7 +416,7 @@ module _ {D E : Type 0} (f : D → E) (moves : D → Move → D → Type 0) (oth
       both s.device one.1 s'.device (others (f s.device) (Took s.host.inner.instant one.0) (f one.1))
       (Receives others one.4.0 (on_state (at_device s one.1)) (on_state s'))
       (Takes others (on_state s) (Some true) (on_state s'))
-      (λ n g. (one.0, f one.1, n, one.3, (one.4.0, one.4.1, g))) (moves_so s.device one.1 (Took s.host.inner.instant one.0) one.2)
+      (λ n g. (one.0, f one.1, n, one.3, (one.4.0, one.4.1, g, one.4.3))) (moves_so s.device one.1 (Took s.host.inner.instant one.0) one.2)
       (receives one.4.0 (at_device s one.1) s' one.4.2)
 
   -- STEPS
