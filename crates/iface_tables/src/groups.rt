@@ -4,7 +4,7 @@ ghost use Rattle.std.specs.List.{list_any};
 ghost use Rattle.std.specs.Option.{ForSome};
 ghost use Rattle.std.specs.Prelude.{position};
 ghost use Rattle.iface_tables.specs.Settings.{unless};
-ghost use Rattle.iface_tables.specs.Groups.{group_room, no_groups, is_all_systems, is_all_nodes, is_heard_by_all, is_of, is_joined, is_full, join_refusal, joined, leave_refusal, left};
+ghost use Rattle.iface_tables.specs.Groups.{group_room, no_groups, is_all_systems, is_all_nodes, is_heard_by_all, is_of, is_joined, join_refusal, joined, leave_refusal, left};
 
 use arrayvec::ArrayVec;
 use ip_wire::{IPV4_MULTICAST_ALL_SYSTEMS, IPV6_LINK_LOCAL_ALL_NODES, IpAddress, Ipv4Address};
@@ -100,18 +100,11 @@ impl Groups {
         if is_heard_by_all(&addr) || self.names(&addr) {
             return Ok(());
         }
-        if self.is_full() {
+        if self.entries.is_full() || self.most <= self.entries.len() {
             return Err(MulticastError::GroupTableFull);
         }
         self.entries.push(Group { addr });
         Ok(())
-    }
-
-    /// Whether as many are joined as may be, or as there is room for.
-    fn is_full(&self) -> bool
-        ensures { result ≡ is_full self.now }
-    {
-        self.entries.is_full() || self.most <= self.entries.len()
     }
 
     /// Leaves this group, if it is there.

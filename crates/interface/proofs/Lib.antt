@@ -21,6 +21,7 @@ pub mod Runs
 pub mod Kept
 pub mod Keep
 pub mod Silent
+pub mod Worked
 pub mod KeepAlone
 pub mod Hosts
 pub mod Shapes
