@@ -5,7 +5,7 @@ use Rattle.iface_tables.specs.Inner.{InnerValue, at_instant}
 use Rattle.iface_tables.specs.Reassembly.{AssemblerValue}
 use Rattle.iface_tables.specs.Assemblers.{without_expired}
 use Rattle.iface_egress.specs.Fragments.{LeftValue}
-use Rattle.iface_reports.specs.Reports.{ReportsValue}
+pub use Rattle.iface_reports.specs.Reports.{ReportsValue}
 pub use Rattle.iface_egress.specs.Sender.{Sender, sender}
 
 -- Its addresses and tables; the datagram that is half sent; what came of datagrams in fragments, and how long such a datagram is

@@ -29,6 +29,7 @@ pub fn set_hardware_addr(interface: &mut Interface, address: EthernetAddress) ->
 }
 
 /// Sets the own addresses, in place of those that the host had.
+#[tactic(auto, using(crate::proofs::Worlds::AtLink::Silent::own_silently))]
 pub fn set_addrs(interface: &mut Interface, blocks: &ArrayVec<IpCidr, 4>) -> Brief
     requires { interface.old.reports ≡ None }
     ensures answer { brief result ≡ setting_answer interface.old (sets.Addrs blocks.now.items) }

@@ -17,7 +17,8 @@ use Rattle.iface_ingress.specs.Incoming.{IncomingValue, IsContent}
 use Rattle.iface_ingress.specs.Reassembled.{Assemblers}
 use Rattle.interface.specs.Ingress.{is_read}
 use Rattle.interface.specs.Polls.{begun}
-use Rattle.interface.specs.State.{ReportsValue, State, state, at_device, telling}
+use Rattle.interface.specs.Host.{ReportsValue}
+use Rattle.interface.specs.State.{State, state, at_device, telling}
 use Rattle.interface.specs.Serve.{is_done}
 use Rattle.lan.specs.Worlds.AtLink.Parties.{Party}
 use Rattle.lan.specs.Worlds.Moves.Made.{Grows, IsMade, IsWide, BringsMade}
