@@ -188,8 +188,8 @@ uint32_t zv_route_add(zv_host *host, const zv_address *network, uint8_t prefix, 
 uint32_t zv_route_remove(zv_host *host, const zv_address *network, uint8_t prefix);
 
 /* Listens to a multicast group from now on, eight at most: each datagram to it goes to the UDP sockets of its port. A group that is joined already,
- * 224.0.0.1 and ff02::1 stay as they are. No report is sent (IGMP, MLD): a switch that forwards a group to those alone that report it doesn't
- * forward this one. ZV_BAD_ARGUMENT, ZV_UNADDRESSABLE (no group), ZV_TABLE_FULL. */
+ * 224.0.0.1 and ff02::1 stay as they are. Routers and switches are told (IGMP, MLD) unless `without_multicast_reports`: then a switch that
+ * forwards a group to those alone that report it doesn't forward this one. ZV_BAD_ARGUMENT, ZV_UNADDRESSABLE (no group), ZV_TABLE_FULL. */
 uint32_t zv_group_join(zv_host *host, const zv_address *group);
 
 /* Listens to it no longer, however often it was joined. A group that isn't joined stays as it is. ZV_BAD_ARGUMENT, ZV_UNADDRESSABLE (no group). */

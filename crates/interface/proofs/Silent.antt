@@ -19,6 +19,10 @@ module _ {D : Type 0} (moves : D → Move → D → Type 0) (t : ℤ) where
   checks_none true s s' checks = checks
   checks_none false s s' checks = checks
 
+  pub checks_nothing : (many : Bool) (s : State D) → ChecksPathsIf moves t many s s
+  checks_nothing true s = refl
+  checks_nothing false s = refl
+
   pub no_work : (s s' : State D) → s.host.reports ≡ None → OwnWork moves t s s' → s' ≡ s
   no_work s s' none work =
       checks_none s.host.inner.host_requirements work.0 s' work.2 ∙ tells_none s.host.reports s work.0 none work.1
@@ -28,7 +32,7 @@ module _ {D : Type 0} (moves : D → Move → D → Type 0) (t : ℤ) where
   polls_silently budget s s' changed none polls =
       subst (λ (x : State D). Polls moves t budget x changed s') (no_work s polls.0 none polls.1) polls.2
 
-  IsSilent : State D → Type 0
+  abbrev pub IsSilent : State D → Type 0
   IsSilent s = s.host.reports ≡ None
 
   arrivals : (s s' : State D) (answer : Option Bool) → IsSilent s → Takes moves s answer s' → IsSilent s'
