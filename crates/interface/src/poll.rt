@@ -175,6 +175,7 @@ impl Interface {
         ensures work { OwnWork D.moves timestamp (state device.old self.old slots.now) (state device.new self.new slots.now) }
         ensures silent { self.old.reports ≡ None → self.new.reports ≡ None }
         ensures quiet { IsEarlier timestamp (reports_at self.old.reports) → (device.new ≡ device.old) × HasBegun timestamp self.old self.new }
+        ensures inner { at_instant timestamp self.new.inner ≡ at_instant timestamp self.old.inner }
         ensures settings { HasSettingsOf self.old.inner self.new.inner }
         ensures capabilities { D.described device.new ≡ D.described device.old }
     {
@@ -188,6 +189,7 @@ impl Interface {
             → TellsIf D.moves timestamp self.old.reports (state device.old self.old slots) (state device.new self.new slots) }
         ensures silent { self.old.reports ≡ None → self.new.reports ≡ None }
         ensures quiet { IsEarlier timestamp (reports_at self.old.reports) → (device.new ≡ device.old) × HasBegun timestamp self.old self.new }
+        ensures inner { at_instant timestamp self.new.inner ≡ at_instant timestamp self.old.inner }
         ensures settings { HasSettingsOf self.old.inner self.new.inner }
         ensures capabilities { D.described device.new ≡ D.described device.old }
     {
