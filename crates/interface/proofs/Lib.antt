@@ -6,6 +6,7 @@ pub mod QuietTurn
 pub mod ParkedPlan
 pub mod QuietParked
 pub mod QuietPass
+pub mod BlackHoles
 pub mod StepUnchanged
 pub mod PassStep
 pub mod Parked

@@ -2,6 +2,7 @@ pub mod Host
 pub mod Awaited
 pub mod Remote
 pub mod Serve
+pub mod BlackHoles
 pub mod SendTo
 pub mod Pass
 pub mod EgressPath

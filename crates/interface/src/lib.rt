@@ -7,6 +7,7 @@ pub mod announce_laws;
 mod announced;
 mod arrival;
 mod awaited;
+mod black_holes;
 mod by_kind;
 pub mod delivery_laws;
 mod due_instant;
@@ -22,6 +23,7 @@ mod serve;
 mod step;
 mod widths;
 
+pub use black_holes::check_paths;
 pub use by_kind::SocketsByKind;
 pub use due_instant::{earlier, poll_instant, slot_instant};
 pub use host::Interface;
