@@ -7,6 +7,7 @@ pub mod ParkedPlan
 pub mod QuietParked
 pub mod QuietPass
 pub mod BlackHoles
+pub mod BlackHoleLaws
 pub mod StepUnchanged
 pub mod PassStep
 pub mod Parked

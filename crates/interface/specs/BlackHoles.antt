@@ -1,6 +1,6 @@
 -- Paths that lose packets over a length and tell nobody (RFC 2923, section 2.1): with host requirements, where the retransmission timer of a
 -- segment runs out again, and nothing was acknowledged meanwhile, its path counts as one that carries less (RFC 4821, section 7.7).
-use Rattle.std.specs.Prelude.{ℕ, ◌+◌, nat_le, nat_lt, ◌&&◌, Bool, true, false, if◌then◌else◌, List, [], ◌∷◌, find, Option, None, Some}
+use Rattle.std.specs.Prelude.{ℕ, zero, suc, ◌+◌, nat_le, nat_lt, ◌&&◌, Bool, true, false, if◌then◌else◌, List, [], ◌∷◌, find, Option, None, Some}
 use Rattle.std.specs.List.{fold}
 use Rattle.ip_wire.specs.IpAddress.{IpAddress}
 use Rattle.ip_wire.specs.IpAddress.TheVariants as Address
@@ -79,3 +79,12 @@ paths_if false i ps = i.paths
 -- the host as a poll begins: what the timers of its connections tell of their paths is taken in
 abbrev pub paths_checked : InnerValue → List (SocketStorage Socket) → InnerValue
 paths_checked i ps = with_paths i (paths_if i.host_requirements i ps)
+
+-- A packet that is lost so often, each time a shorter one: the length that is tried after so many.
+abbrev pub or_same : ℕ → Option ℕ → ℕ
+or_same len None = len
+or_same len (Some tried) = tried
+
+abbrev pub len_after : ℕ → IpAddress → ℕ → ℕ
+len_after zero address len = len
+len_after (suc n) address len = len_after n address (or_same len (tried_below address len))
