@@ -1,3 +1,4 @@
 pub mod PeerHost
 pub mod Progress
 pub mod Worlds
+pub mod Requests
