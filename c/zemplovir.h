@@ -154,6 +154,7 @@ typedef struct zv_settings {
     uint8_t isn_key[16]; /* from a true source, and known to nobody else */
     uint8_t without_host_requirements; /* 0 where the host does what RFC 1122 and the standards after it ask of one on a network of many,
                                         * with a table of 256 neighbours; else it does as smoltcp, with one of four */
+    uint8_t without_multicast_reports; /* 0 where routers and switches are told which multicast groups the host listens to */
 } zv_settings;
 
 typedef struct zv_counts {

@@ -22,6 +22,8 @@ pub mod Unchanged
 pub mod Runs
 pub mod Kept
 pub mod Keep
+pub mod Silent
+pub mod Worked
 pub mod KeepAlone
 pub mod Hosts
 pub mod Shapes

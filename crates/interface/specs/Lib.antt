@@ -1,4 +1,5 @@
 pub mod Host
+pub mod Reports
 pub mod Awaited
 pub mod Remote
 pub mod Serve
@@ -13,6 +14,7 @@ pub mod Made
 pub mod Announced
 pub mod State
 pub mod Egress
+pub mod OwnWork
 pub mod Ingress
 pub mod Polls
 pub mod QuietPoll

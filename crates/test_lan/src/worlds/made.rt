@@ -54,7 +54,11 @@ fn interface(alloc: Global, n: u8, port: &Port, medium: Medium) -> Option<Interf
 /// Host n over this device, without sockets.
 fn host(alloc: Global, n: u8, described: DeviceCapabilities) -> Option<Host> {
     let port = Port::new(alloc, described);
-    interface(alloc, n, &port, described.medium).map(|interface| Host {
+    let interface = interface(alloc, n, &port, described.medium)?;
+    if interface.multicast_reports() {
+        return None;
+    }
+    Some(Host {
         interface,
         sockets: SocketSet::new(ManagedSlice::Owned(Vec::new(alloc))),
         port,
@@ -83,11 +87,11 @@ fn spoil(alloc: Global, a: &mut Host, wrong: &str) -> bool {
                 ..config(1, Medium::Ip)
             };
             match Interface::new(alloc, &config, &a.port, Instant::ZERO) {
-                Ok(interface) => {
+                Ok(interface) if !interface.multicast_reports() => {
                     a.interface = interface;
                     true
                 }
-                Err(_) => false,
+                _ => false,
             }
         }
         _ => true,

@@ -1,0 +1,2 @@
+//! What reports are for.
+ghost use Rattle.std.specs.Prelude.{◌≡◌};
