@@ -8,6 +8,7 @@ pub mod QuietParked
 pub mod QuietPass
 pub mod BlackHoles
 pub mod BlackHoleLaws
+pub mod Begun
 pub mod StepUnchanged
 pub mod PassStep
 pub mod Parked

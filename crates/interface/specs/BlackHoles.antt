@@ -1,6 +1,6 @@
 -- Paths that lose packets over a length and tell nobody (RFC 2923, section 2.1): with host requirements, where the retransmission timer of a
 -- segment runs out again, and nothing was acknowledged meanwhile, its path counts as one that carries less (RFC 4821, section 7.7).
-use Rattle.std.specs.Prelude.{ℕ, zero, suc, ◌+◌, nat_le, nat_lt, ◌&&◌, Bool, true, false, if◌then◌else◌, List, [], ◌∷◌, find, Option, None, Some}
+use Rattle.std.specs.Prelude.{ℕ, zero, suc, ◌+◌, ℤ, nat_le, nat_lt, ◌&&◌, Bool, true, false, if◌then◌else◌, List, [], ◌∷◌, find, Option, None, Some}
 use Rattle.std.specs.List.{fold}
 use Rattle.ip_wire.specs.IpAddress.{IpAddress}
 use Rattle.ip_wire.specs.IpAddress.TheVariants as Address
@@ -8,11 +8,12 @@ use Rattle.iface_ingress.specs.Socket.{Socket}
 use Rattle.iface_ingress.specs.Socket.TheVariants as Kind
 use Rattle.iface_ingress.specs.TcpSocket.{times_out_after}
 use Rattle.iface_ingress.specs.TcpValue.{TcpValue}
-use Rattle.iface_tables.specs.Inner.{InnerValue, mtu_to}
+use Rattle.iface_tables.specs.Inner.{InnerValue, at_instant, mtu_to}
 use Rattle.iface_tables.specs.PathMtu.{lowered}
 use Rattle.iface_tables.specs.declared.path_mtu.Path.{Path}
 use Rattle.iface_egress.specs.declared.socket_set.Item.{Item}
 use Rattle.iface_egress.specs.declared.socket_set.SocketStorage.{SocketStorage}
+use Rattle.interface.specs.Host.{HostValue}
 use Rattle.interface.specs.Remote.{remote_of}
 use Rattle.interface.specs.Serve.{is_waiting}
 
@@ -79,6 +80,14 @@ paths_if false i ps = i.paths
 -- the host as a poll begins: what the timers of its connections tell of their paths is taken in
 abbrev pub paths_checked : InnerValue → List (SocketStorage Socket) → InnerValue
 paths_checked i ps = with_paths i (paths_if i.host_requirements i ps)
+
+-- a host as a call that polls begins
+abbrev pub checked : ℤ → HostValue → List (SocketStorage Socket) → HostValue
+checked instant h ps = record h { inner = paths_checked (at_instant instant h.inner) ps }
+
+abbrev pub checked_if : (many : Bool) → ℤ → HostValue → List (SocketStorage Socket) → HostValue
+checked_if true instant h ps = checked instant h ps
+checked_if false instant h ps = h
 
 -- A packet that is lost so often, each time a shorter one: the length that is tried after so many.
 abbrev pub or_same : ℕ → Option ℕ → ℕ

@@ -24,7 +24,6 @@ mod serve;
 mod step;
 mod widths;
 
-pub use black_holes::check_paths;
 pub use by_kind::SocketsByKind;
 pub use due_instant::{earlier, poll_instant, slot_instant};
 pub use host::Interface;
