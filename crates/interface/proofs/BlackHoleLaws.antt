@@ -27,14 +27,14 @@ AtLeast least (x ∷ xs) = (least ≤ x) × AtLeast least xs
 
 found : (least len : ℕ) (xs : List ℕ) (x : ℕ) → AtLeast least xs → find (λ tried. nat_lt tried len) xs ≡ Some x → (x < len) × (least ≤ x)
 found least len [] x all is = absurd cc
-found least len (y ∷ xs) x all is = by (nat_lt y len) refl where
-  by : (b : Bool) → nat_lt y len ≡ b → (x < len) × (least ≤ x)
-  by true below =
+found least len (y ∷ xs) x all is = by (nat_lt y len) refl (found least len xs x all.1) where
+  by : (b : Bool) → nat_lt y len ≡ b → (find (λ tried. nat_lt tried len) xs ≡ Some x → (x < len) × (least ≤ x)) → (x < len) × (least ≤ x)
+  by true below rest =
       let same : y ≡ x = same_some y x (sym (ap (λ (b : Bool). cond b (Some y) (find (λ tried. nat_lt tried len) xs)) below) ∙ is) in
       let first = all.0 in
       (grind (arith, nat_tests), omega (arith, first, same))
-  by false past =
-      found least len xs x all.1 (sym (ap (λ (b : Bool). cond b (Some y) (find (λ tried. nat_lt tried len) xs)) past) ∙ is)
+  by false past rest =
+      rest (sym (ap (λ (b : Bool). cond b (Some y) (find (λ tried. nat_lt tried len) xs)) past) ∙ is)
 
 tried : (address : IpAddress) (len x : ℕ) → tried_below address len ≡ Some x → (x < len) × (least_mtu address ≤ x)
 tried (Address.Ipv4 a) len x is =

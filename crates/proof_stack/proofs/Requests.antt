@@ -25,18 +25,18 @@ young e (s ∷ ss) = if int_lt s.answer_by e then young e ss else suc (young e s
 
 young_few : (e : ℤ) (ss : List Search) → young e ss ≤ length ss
 young_few e [] = omega arith
-young_few e (s ∷ ss) = by (int_lt s.answer_by e) where
-  by : (b : Bool) → (if b then young e ss else suc (young e ss)) ≤ suc (length ss)
-  by true = let rest = young_few e ss in omega (arith, rest)
-  by false = let rest = young_few e ss in omega (arith, rest)
+young_few e (s ∷ ss) = by (int_lt s.answer_by e) (young_few e ss) where
+  by : (b : Bool) → young e ss ≤ length ss → (if b then young e ss else suc (young e ss)) ≤ suc (length ss)
+  by true rest = omega (arith, rest)
+  by false rest = omega (arith, rest)
 
 -- one more comes last
 young_last : (e : ℤ) (ss : List Search) (s : Search) → int_lt s.answer_by e ≡ false → young e (ss ++ s ∷ []) ≡ suc (young e ss)
 young_last e [] s new = ap (λ (b : Bool). if b then 0 else 1) new
-young_last e (x ∷ ss) s new = by (int_lt x.answer_by e) where
-  by : (b : Bool) → (if b then young e (ss ++ s ∷ []) else suc (young e (ss ++ s ∷ []))) ≡ suc (if b then young e ss else suc (young e ss))
-  by true = young_last e ss s new
-  by false = ap suc (young_last e ss s new)
+young_last e (x ∷ ss) s new = by (int_lt x.answer_by e) (young_last e ss s new) where
+  by : (b : Bool) → young e (ss ++ s ∷ []) ≡ suc (young e ss) → (if b then young e (ss ++ s ∷ []) else suc (young e (ss ++ s ∷ []))) ≡ suc (if b then young e ss else suc (young e ss))
+  by true rest = rest
+  by false rest = ap suc rest
 
 -- an old one becomes young
 young_set : (e : ℤ) (ss : List Search) (at : ℕ) (old s : Search) → slice_get ss at ≡ Some old → int_lt old.answer_by e ≡ true → int_lt s.answer_by e ≡ false
@@ -46,10 +46,10 @@ young_set e (x ∷ ss) zero old s is was new =
     let same : x ≡ old = cc in
     ap (λ (b : Bool). if b then young e ss else suc (young e ss)) new
     ∙ ap (λ (b : Bool). suc (if b then young e ss else suc (young e ss))) (sym (ap (λ (y : Search). int_lt y.answer_by e) same ∙ was))
-young_set e (x ∷ ss) (suc at) old s is was new = by (int_lt x.answer_by e) where
-  by : (b : Bool) → (if b then young e (slice_set ss at s) else suc (young e (slice_set ss at s))) ≡ suc (if b then young e ss else suc (young e ss))
-  by true = young_set e ss at old s is was new
-  by false = ap suc (young_set e ss at old s is was new)
+young_set e (x ∷ ss) (suc at) old s is was new = by (int_lt x.answer_by e) (young_set e ss at old s is was new) where
+  by : (b : Bool) → young e (slice_set ss at s) ≡ suc (young e ss) → (if b then young e (slice_set ss at s) else suc (young e (slice_set ss at s))) ≡ suc (if b then young e ss else suc (young e ss))
+  by true rest = rest
+  by false rest = ap suc rest
 
 -- an old one goes
 young_old : (e : ℤ) (ss : List Search) (at : ℕ) → ((s : Search) → slice_get ss at ≡ Some s → int_lt s.answer_by e ≡ true) → young e (remove ss at) ≡ young e ss
@@ -66,10 +66,10 @@ young_any e (x ∷ ss) zero = by (int_lt x.answer_by e) where
   by : (b : Bool) → (if b then young e ss else suc (young e ss)) ≤ suc (young e ss)
   by true = omega arith
   by false = omega arith
-young_any e (x ∷ ss) (suc at) = by (int_lt x.answer_by e) where
-  by : (b : Bool) → (if b then young e ss else suc (young e ss)) ≤ suc (if b then young e (remove ss at) else suc (young e (remove ss at)))
-  by true = young_any e ss at
-  by false = let rest = young_any e ss at in omega (arith, rest)
+young_any e (x ∷ ss) (suc at) = by (int_lt x.answer_by e) (young_any e ss at) where
+  by : (b : Bool) → young e ss ≤ suc (young e (remove ss at)) → (if b then young e ss else suc (young e ss)) ≤ suc (if b then young e (remove ss at) else suc (young e (remove ss at)))
+  by true rest = rest
+  by false rest = omega (arith, rest)
 
 -- HOW MANY THERE ARE
 
