@@ -6,6 +6,9 @@ pub mod QuietTurn
 pub mod ParkedPlan
 pub mod QuietParked
 pub mod QuietPass
+pub mod BlackHoles
+pub mod BlackHoleLaws
+pub mod Begun
 pub mod StepUnchanged
 pub mod PassStep
 pub mod Parked

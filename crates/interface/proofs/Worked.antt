@@ -11,6 +11,7 @@ use Rattle.iface_reports.specs.Reports.{ReportsValue, micros}
 use Rattle.iface_reports.specs.Told.{ReportValue, first_due, report_at, v4_family, v6_family}
 use Rattle.iface_reports.specs.Transmits.{GoesIf, Tells, TellsAt, Transmits}
 use Rattle.iface_tables.specs.Inner.{InnerValue, at_instant}
+use Rattle.interface.specs.BlackHoles.{paths_checked}
 use Rattle.interface.specs.Host.{HostValue}
 use Rattle.interface.specs.OwnWork.{OwnWork, TellsIf, ChecksPathsIf}
 use Rattle.interface.specs.State.{State}
@@ -102,13 +103,26 @@ module _ {D : Type 0} (moves : D → Move → D → Type 0) (t : ℤ) where
     routes = ap (λ (x : InnerValue). x.routes) is;
   }
 
+  at_checked : (i i' : InnerValue) (ps : List (SocketStorage Socket)) → i' ≡ paths_checked (at_instant t i) ps → HasSettingsOf i i'
+  at_checked i i' ps is = record {
+    hardware = ap (λ (x : InnerValue). x.hardware) is;
+    mtu = ap (λ (x : InnerValue). x.mtu) is;
+    checksums = ap (λ (x : InnerValue). x.checksums) is;
+    addresses = ap (λ (x : InnerValue). x.addresses) is;
+    isn_key = ap (λ (x : InnerValue). x.isn_key) is;
+    any_ip = ap (λ (x : InnerValue). x.any_ip) is;
+    groups = ap (λ (x : InnerValue). x.groups) is;
+    host_requirements = ap (λ (x : InnerValue). x.host_requirements) is;
+    routes = ap (λ (x : InnerValue). x.routes) is;
+  }
+
   told_settings : (reports : Option ReportsValue) (s s' : State D) → TellsIf moves t reports s s' → HasSettingsOf s.host.inner s'.host.inner
   told_settings None s s' one = same_settings s s' (ap (λ (x : State D). x.host.inner) one)
   told_settings (Some r) s s' one = at_other s.host.inner s'.host.inner (ap (λ (x : State D). x.host.inner) one.4)
 
   checked_settings : (many : Bool) (s s' : State D) → ChecksPathsIf moves t many s s' → HasSettingsOf s.host.inner s'.host.inner
   checked_settings false s s' one = same_settings s s' (ap (λ (x : State D). x.host.inner) one)
-  checked_settings true s s' one = same_settings s s' (ap (λ (x : State D). x.host.inner) one)
+  checked_settings true s s' one = at_checked s.host.inner s'.host.inner s.slots (ap (λ (x : State D). x.host.inner) one)
 
   pub worked_settings : (s s' : State D) → OwnWork moves t s s' → HasSettingsOf s.host.inner s'.host.inner
   worked_settings s s' one =

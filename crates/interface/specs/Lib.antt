@@ -3,6 +3,7 @@ pub mod Reports
 pub mod Awaited
 pub mod Remote
 pub mod Serve
+pub mod BlackHoles
 pub mod SendTo
 pub mod Pass
 pub mod EgressPath

@@ -4,6 +4,7 @@ use Rattle.net_base.specs.Device.{Move}
 use Rattle.iface_reports.specs.Reports.{ReportsValue}
 use Rattle.iface_reports.specs.Transmits.{Transmits}
 use Rattle.iface_tables.specs.Inner.{at_instant}
+use Rattle.interface.specs.BlackHoles.{checked}
 use Rattle.interface.specs.Host.{HostValue, host_at}
 use Rattle.interface.specs.State.{State, state, telling}
 
@@ -15,10 +16,10 @@ module _ {D : Type 0} (moves : D → Move → D → Type 0) (instant : ℤ) wher
       (went : Bool) × (d : D) × (r' : ReportsValue) × Transmits moves (at_instant instant s.host.inner) s.device r went d r'
       × (s' ≡ state d (telling (host_at instant s.host) (Some r')) s.slots)
 
-  -- then what is known of paths is looked at, on a network of many
+  -- then what the timers of connections tell of their paths is taken in, on a network of many
   abbrev pub ChecksPathsIf : (many : Bool) → State D → State D → Type 0
   ChecksPathsIf false s s' = s' ≡ s
-  ChecksPathsIf true s s' = s' ≡ s
+  ChecksPathsIf true s s' = s' ≡ state s.device (checked instant s.host s.slots) s.slots
 
   abbrev pub OwnWork : State D → State D → Type 0
   OwnWork s s' = (mid : State D) × TellsIf s.host.reports s mid × ChecksPathsIf s.host.inner.host_requirements mid s'

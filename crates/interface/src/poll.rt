@@ -11,6 +11,7 @@ ghost use Rattle.interface.specs.EgressPath.{Egress};
 ghost use Rattle.interface.specs.Pass.{passed};
 ghost use Rattle.interface.specs.Instant.{poll_instant, host_instant};
 ghost use Rattle.interface.specs.Reports.{reports_at};
+ghost use Rattle.interface.specs.BlackHoles.{checked_if, paths_checked};
 ghost use Rattle.interface.specs.OwnWork.{HasBegun, OwnWork, TellsIf};
 ghost use Rattle.interface.specs.QuietStep.{AreUnchanged, IsEarlier, IsEarly, IsQuiet};
 ghost use Rattle.interface.specs.SameHost.{IsSameHost};
@@ -22,6 +23,7 @@ ghost use Rattle.interface.specs.Polls.{Repeats, Polls, HostPolls, HostSends, an
 ghost use Rattle.interface.specs.QuietPoll.{HasNoFrame, IsQuietPoll};
 
 use crate::arrival::ingress;
+use crate::black_holes::check_paths;
 use crate::due_instant::{earlier, poll_instant};
 use crate::host::Interface;
 use crate::round::either;
@@ -118,7 +120,7 @@ impl Interface {
         ensures step { HostSends D.moves timestamp (state device.old self.old (slots sockets.old)) (answer_of result)
             (state device.new self.new (slots sockets.new)) }
         ensures unchanged { result ≡ PollResult.None → AreUnchanged (slots sockets.old) (slots sockets.new) }
-        ensures host { IsSameHost (at_instant timestamp self.old.inner) self.new.inner }
+        ensures host { IsSameHost (paths_checked (at_instant timestamp self.old.inner) (slots sockets.old)) self.new.inner }
         ensures kind { is_fixed sockets.new ≡ is_fixed sockets.old }
         ensures capabilities { D.described device.new ≡ D.described device.old }
     {
@@ -173,13 +175,27 @@ impl Interface {
     fn begin<D: Device>(&mut self, timestamp: Instant, device: &mut D, slots: &Slots<Socket>)
         requires { IsMoment timestamp }
         ensures work { OwnWork D.moves timestamp (state device.old self.old slots.now) (state device.new self.new slots.now) }
+        ensures host { at_instant timestamp self.new.inner ≡ paths_checked (at_instant timestamp self.old.inner) slots.now }
         ensures silent { self.old.reports ≡ None → self.new.reports ≡ None }
-        ensures quiet { IsEarlier timestamp (reports_at self.old.reports) → (device.new ≡ device.old) × HasBegun timestamp self.old self.new }
-        ensures inner { at_instant timestamp self.new.inner ≡ at_instant timestamp self.old.inner }
+        ensures quiet { (asked : InnerValue) → self.old.inner ≡ at_instant self.old.inner.instant asked
+            → IsEarly asked self.old.left slots.now timestamp → IsEarlier timestamp (reports_at self.old.reports)
+            → (device.new ≡ device.old) × HasBegun timestamp self.old self.new }
         ensures settings { HasSettingsOf self.old.inner self.new.inner }
         ensures capabilities { D.described device.new ≡ D.described device.old }
     {
         self.tell_reports(timestamp, device);
+        self.check_paths(timestamp, slots);
+    }
+
+    /// With host requirements, takes in what the timers of connections tell of their paths.
+    fn check_paths(&mut self, timestamp: Instant, slots: &Slots<Socket>)
+        requires { IsMoment timestamp }
+        ensures { self.new ≡ checked_if self.old.inner.host_requirements timestamp self.old slots.now }
+    {
+        if self.inner.host_requirements() {
+            self.inner.set_now(timestamp);
+            check_paths(&mut self.inner, slots);
+        }
     }
 
     /// Tells of multicast groups what is due.
@@ -189,7 +205,6 @@ impl Interface {
             → TellsIf D.moves timestamp self.old.reports (state device.old self.old slots) (state device.new self.new slots) }
         ensures silent { self.old.reports ≡ None → self.new.reports ≡ None }
         ensures quiet { IsEarlier timestamp (reports_at self.old.reports) → (device.new ≡ device.old) × HasBegun timestamp self.old self.new }
-        ensures inner { at_instant timestamp self.new.inner ≡ at_instant timestamp self.old.inner }
         ensures settings { HasSettingsOf self.old.inner self.new.inner }
         ensures capabilities { D.described device.new ≡ D.described device.old }
     {

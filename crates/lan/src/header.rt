@@ -100,7 +100,8 @@ impl Header {
 
     // A host of this interface and these sockets, at a device that wasn't used.
     fn host(&self, alloc: Global, interface: Interface, sockets: SocketSet<Socket>) -> Host
-        requires { interface.reports ≡ None }
+        requires silent { interface.reports ≡ None }
+        requires alone { interface.inner.host_requirements ≡ false }
         ensures { result ≡ record { host = interface; slots = slots sockets; link = unused_end (device_of self.now.medium self.now.mtu) } }
     {
         Host {

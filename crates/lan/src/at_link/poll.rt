@@ -47,12 +47,14 @@ fn poll_ready(
 ) -> bool
     requires instant { IsMoment instant }
     requires silent { interface.old.reports ≡ None }
+    requires alone { interface.old.inner.host_requirements ≡ false }
     requires count { budget * (length (slots sockets.old) + 2) ≤ port.old.ready }
     requires size { link_room interface.old.inner.hardware + interface.old.inner.mtu ≤ port.old.size }
     requires least { 576 ≤ interface.old.inner.mtu }
     ensures polls { Polls PortMove instant budget (state port.old interface.old (slots sockets.old)) result
         (state port.new interface.new (slots sockets.new)) }
     ensures silent { interface.new.reports ≡ None }
+    ensures alone { interface.new.inner.host_requirements ≡ false }
     ensures none_denied { interface.old.inner.host_requirements ≡ false → port.new.link.refusals ≡ port.old.link.refusals }
 {
     match interface.poll(instant, port, sockets, budget) {

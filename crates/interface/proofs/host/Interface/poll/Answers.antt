@@ -9,14 +9,14 @@ use Rattle.interface.proofs.host.Interface.poll.Goals as goal
 
 pub returns-then-poll_all-clause-quiet : goal.returns-then-poll_all-clause-quiet
 returns-then-poll_all-clause-quiet g c = λ asked is early reports none.
-    let begun = c.begin.ensures.quiet reports in
+    let begun = c.begin.ensures.quiet asked is early reports in
     quiet_host c.due_as_before.ensures g.D.Device.moves c.args.timestamp asked c.args.self.now.inner.instant c.args.budget
     (state c.args.device.now c.args.self.now (slots c.args.sockets.now)) c.begin.new.device c.begin.new.self
     (state c.poll_all.new.device c.poll_all.new.self (slots c.poll_all.new.sockets)) _ begun.0 begun.1 is early none c.if-poll_all.ensures.steps
 
 pub returns-else-poll_all-clause-quiet : goal.returns-else-poll_all-clause-quiet
 returns-else-poll_all-clause-quiet g c = λ asked is early reports none.
-    let begun = c.begin.ensures.quiet reports in
+    let begun = c.begin.ensures.quiet asked is early reports in
     quiet_host c.due_as_before.ensures g.D.Device.moves c.args.timestamp asked c.args.self.now.inner.instant c.args.budget
     (state c.args.device.now c.args.self.now (slots c.args.sockets.now)) c.begin.new.device c.begin.new.self
     (state c.poll_all.new.device c.poll_all.new.self (slots c.poll_all.new.sockets)) _ begun.0 begun.1 is early none c.if-poll_all.ensures.steps

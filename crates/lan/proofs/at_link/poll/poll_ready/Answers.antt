@@ -1,3 +1,4 @@
+use Rattle.std.proofs.Common.{◌∙◌}
 use Rattle.interface.specs.Polls.{Polls, is_change}
 use Rattle.interface.specs.State.{state}
 use Rattle.iface_egress.specs.Set.{slots}
@@ -10,13 +11,13 @@ pub returns-in-None-clause-polls : goal.returns-in-None-clause-polls
 returns-in-None-clause-polls c =
     polls_silently PortMove c.args.instant c.args.budget
     (state c.args.port.now c.args.interface.now (slots c.args.sockets.now)) (state c.poll.new.device c.poll.new.self (slots c.poll.new.sockets))
-    (is_change c.poll.result) c.requires.silent c.poll.ensures.steps
+    (is_change c.poll.result) c.requires.silent c.requires.alone c.poll.ensures.steps
 
 pub returns-in-SocketStateChanged-clause-polls : goal.returns-in-SocketStateChanged-clause-polls
 returns-in-SocketStateChanged-clause-polls c =
     polls_silently PortMove c.args.instant c.args.budget
     (state c.args.port.now c.args.interface.now (slots c.args.sockets.now)) (state c.poll.new.device c.poll.new.self (slots c.poll.new.sockets))
-    (is_change c.poll.result) c.requires.silent c.poll.ensures.steps
+    (is_change c.poll.result) c.requires.silent c.requires.alone c.poll.ensures.steps
 
 pub returns-in-None-clause-none_denied : goal.returns-in-None-clause-none_denied
 returns-in-None-clause-none_denied c = λ alone.
@@ -26,7 +27,7 @@ returns-in-None-clause-none_denied c = λ alone.
     alone c.requires.least c.requires.size c.requires.count
     (polls_silently PortMove c.args.instant c.args.budget
     (state c.args.port.now c.args.interface.now (slots c.args.sockets.now)) (state c.poll.new.device c.poll.new.self (slots c.poll.new.sockets))
-    (is_change c.poll.result) c.requires.silent c.poll.ensures.steps)
+    (is_change c.poll.result) c.requires.silent c.requires.alone c.poll.ensures.steps)
 
 pub returns-in-SocketStateChanged-clause-none_denied : goal.returns-in-SocketStateChanged-clause-none_denied
 returns-in-SocketStateChanged-clause-none_denied c = λ alone.
@@ -36,4 +37,10 @@ returns-in-SocketStateChanged-clause-none_denied c = λ alone.
     alone c.requires.least c.requires.size c.requires.count
     (polls_silently PortMove c.args.instant c.args.budget
     (state c.args.port.now c.args.interface.now (slots c.args.sockets.now)) (state c.poll.new.device c.poll.new.self (slots c.poll.new.sockets))
-    (is_change c.poll.result) c.requires.silent c.poll.ensures.steps)
+    (is_change c.poll.result) c.requires.silent c.requires.alone c.poll.ensures.steps)
+
+pub returns-in-None-clause-alone : goal.returns-in-None-clause-alone
+returns-in-None-clause-alone c = c.poll.ensures.settings.host_requirements ∙ c.requires.alone
+
+pub returns-in-SocketStateChanged-clause-alone : goal.returns-in-SocketStateChanged-clause-alone
+returns-in-SocketStateChanged-clause-alone c = c.poll.ensures.settings.host_requirements ∙ c.requires.alone
