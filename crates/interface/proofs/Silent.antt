@@ -21,10 +21,6 @@ module _ {D : Type 0} (moves : D → Move → D → Type 0) (t : ℤ) where
   checks_none false s s' alone checks = checks
 
 <<<<<<< HEAD
-  pub checks_nothing : (many : Bool) (s : State D) → ChecksPathsIf moves t many s s
-  checks_nothing true s = refl
-  checks_nothing false s = refl
-
   pub no_work : (s s' : State D) → s.host.reports ≡ None → OwnWork moves t s s' → s' ≡ s
   no_work s s' none work =
       checks_none s.host.inner.host_requirements work.0 s' work.2 ∙ tells_none s.host.reports s work.0 none work.1
