@@ -23,6 +23,7 @@ pub mod Unchanged
 pub mod Runs
 pub mod Kept
 pub mod Keep
+pub mod Tells
 pub mod Silent
 pub mod Worked
 pub mod KeepAlone

@@ -20,15 +20,9 @@ module _ {D : Type 0} (moves : D → Move → D → Type 0) (t : ℤ) where
   checks_none true s s' alone checks = absurd (cc)
   checks_none false s s' alone checks = checks
 
-<<<<<<< HEAD
-  pub no_work : (s s' : State D) → s.host.reports ≡ None → OwnWork moves t s s' → s' ≡ s
-  no_work s s' none work =
-      checks_none s.host.inner.host_requirements work.0 s' work.2 ∙ tells_none s.host.reports s work.0 none work.1
-=======
   pub no_work : (s s' : State D) → s.host.reports ≡ None → s.host.inner.host_requirements ≡ false → OwnWork moves t s s' → s' ≡ s
   no_work s s' none alone work =
       checks_none s.host.inner.host_requirements work.0 s' alone work.2 ∙ tells_none s.host.reports s work.0 none work.1
->>>>>>> 3fce00e5fe5874598793a19e01f845d2aa61d107
 
   -- with them it looks at what is known of paths
   pub paths_work : (s s' : State D) → s.host.reports ≡ None → s.host.inner.host_requirements ≡ true → OwnWork moves t s s' →

@@ -1,5 +1,5 @@
 //! The header of a script, and the world that it asks for.
-ghost use Rattle.std.specs.Prelude.{◌≡◌, ◌⊎◌, ◌++◌, ◌∷◌, [], Some, None, pos, IfOk, OnOk, IfErr};
+ghost use Rattle.std.specs.Prelude.{◌≡◌, ◌⊎◌, ◌++◌, ◌∷◌, [], Some, None, false, pos, IfOk, OnOk, IfErr};
 ghost use Rattle.lan.specs.Worlds.Made.{Makes};
 ghost use Rattle.lan.specs.Worlds.Set.{slots};
 ghost use Rattle.lan.specs.declared.at_link.history.answer.Refused.TheVariants.{Memory};
