@@ -43,10 +43,18 @@ abbrev pub IsBefore : ℤ → Option ℤ → Type 0
 IsBefore t None = Unit {0}
 IsBefore t (Some at) = t <ℤ at
 
+natural_before : (now m : ℕ) → pos now <ℤ pos m → now < m
+natural_before now m before = grind (arith)
+
+negative : (n : ℕ) → pos 0 ≤ℤ negsuc n → ⊥
+negative n from = grind (arith)
+
 not_yet : (t : ℤ) (due : Option ℕ) (rows : List Row) → pos 0 ≤ℤ t → rows_due rows ≡ due → IsBefore t (instant_of due) → next_row (unsigned_abs t) rows ≡ None
 not_yet (pos now) None rows from is before = none_ever now rows is
-not_yet (pos now) (Some at) rows from is before = none_before now at rows is (omega (arith, before))
-not_yet (negsuc n) due rows from is before = absurd (omega (arith, from))
+not_yet (pos now) (Some at) rows from is before =
+    let less : now < min at last_instant = natural_before now (min at last_instant) before in
+    none_before now at rows is (omega (arith, less))
+not_yet (negsuc n) due rows from is before = absurd (negative n from)
 
 -- WHAT IS TOLD
 

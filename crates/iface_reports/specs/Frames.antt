@@ -24,7 +24,7 @@ use Rattle.wire_igmp.specs.Igmp as Igmp
 use Rattle.wire_igmp.specs.declared.repr.IgmpRepr.{IgmpRepr}
 use Rattle.wire_mld.specs.Mld as Mld
 use Rattle.wire_mld.specs.declared.repr.MldRepr.{MldRepr}
-use Rattle.iface_egress.specs.Inner.{InnerValue, group_hardware_addr}
+use Rattle.iface_tables.specs.Inner.{InnerValue, group_hardware_addr}
 use Rattle.iface_reports.specs.Told.{ReportValue, no_v4, no_v6}
 use Rattle.iface_reports.specs.declared.report.Message.{Message}
 use Rattle.iface_reports.specs.declared.report.Message.TheVariants as To

@@ -1,5 +1,5 @@
 -- What a frame says of groups: a query that counts, or another's report of version 1 or 2.
-use Rattle.std.specs.Prelude.{ℕ, zero, suc, ◌+◌, ◌*◌, ◌/◌, ◌%◌, ◌==◌, ◌&&◌, ◌||◌, not, nat_le, nat_lt, Bool, true, false, if◌then◌else◌, List, [], ◌∷◌, length, take, drop, slice_index, slice_range, Option, None, Some}
+use Rattle.std.specs.Prelude.{ℕ, zero, suc, ◌+◌, ◌*◌, ◌/◌, ◌%◌, ◌≤◌, ◌==◌, ◌&&◌, ◌||◌, not, nat_le, nat_lt, Bool, true, false, if◌then◌else◌, List, [], ◌∷◌, length, take, drop, slice_index, slice_range, Option, None, Some}
 use Rattle.std.specs.List.{list_any}
 use Rattle.std.specs.Str.{bytes_eq}
 use Rattle.net_base.specs.Capabilities.{verifies}
@@ -18,9 +18,11 @@ use Rattle.iface_groups.specs.Counts.{counts_v4, counts_v6}
 use Rattle.iface_groups.specs.Query.{igmp_max_micros, mld_max_micros}
 use Rattle.iface_groups.specs.declared.mode.CompatibilityMode.{CompatibilityMode}
 use Rattle.iface_groups.specs.declared.mode.CompatibilityMode.TheVariants as Mode
-use Rattle.iface_egress.specs.Inner.{InnerValue, is_address_of}
+use Rattle.iface_tables.specs.Inner.{InnerValue, is_address_of}
 use Rattle.iface_reports.specs.declared.heard.Heard.{Heard}
 use Rattle.iface_reports.specs.declared.heard.Heard.TheVariants as Came
+use Rattle.iface_reports.specs.declared.mld_in.OptionAhead.{OptionAhead}
+use Rattle.iface_reports.specs.declared.mld_in.OptionAhead.TheVariants as Ahead
 
 abbrev pub is_own : InnerValue → IpAddress → Bool
 is_own i address = list_any (is_address_of address) i.addresses
@@ -105,16 +107,33 @@ heard_v4 i packet =
 
 -- MLD
 
--- Whether one of these options (RFC 8200, section 4.2) is a router alert of value 0 (RFC 2711, section 2.1), up to one that runs past its
--- header. `most` is a bound of how many there are.
+-- a router alert of value 0 (RFC 2711, section 2.1)
+abbrev pub is_alert : (kind len : ℕ) → List ℕ → Bool
+is_alert kind len inside = (kind == 5) && (len == 2) && (be16 inside 0 == 0)
+
+-- what stands first among options (RFC 8200, section 4.2); one that runs past its header ends them
+abbrev pub option_at_front : List ℕ → OptionAhead
+option_at_front [] = Ahead.End
+option_at_front (kind ∷ []) = if kind == 0 then Ahead.Other 1 else Ahead.End
+option_at_front (kind ∷ len ∷ inside) =
+    if kind == 0 then Ahead.Other 1
+    else (if nat_lt (length inside) len then Ahead.End
+    else (if is_alert kind len inside then Ahead.Alert else Ahead.Other (2 + len)))
+
+-- an option ends within so many bytes
+abbrev pub EndsWithin : ℕ → OptionAhead → Type 0
+EndsWithin size (Ahead.Other len) = len ≤ size
+EndsWithin size _ = Unit {0}
+
+-- Whether one of these options is a router alert of value 0. `most` is a bound of how many there are.
 unfoldable pub alerts_among : (most : ℕ) → List ℕ → Bool
 alerts_among zero bytes = false
-alerts_among (suc most) [] = false
-alerts_among (suc most) (kind ∷ []) = false
-alerts_among (suc most) (kind ∷ len ∷ inside) =
-    if kind == 0 then alerts_among most (len ∷ inside)
-    else (if nat_lt (length inside) len then false
-    else ((kind == 5) && (len == 2) && (be16 inside 0 == 0)) || alerts_among most (drop len inside))
+alerts_among (suc most) bytes =
+    elim (option_at_front bytes) as (λ _. Bool) [
+      | Ahead.End ↦ false
+      | Ahead.Alert ↦ true
+      | Ahead.Other len ↦ alerts_among most (drop len bytes)
+    ]
 
 abbrev pub has_alert : List ℕ → Bool
 has_alert bytes = alerts_among (length bytes) bytes
@@ -176,8 +195,8 @@ abbrev pub heard_v6 : InnerValue → List ℕ → Option Heard
 heard_v6 i packet =
     if is_whole_v6 packet
     then mld_heard i (v6_at packet 8) (v6_at packet 24) (slice_index packet 7)
-        (has_alert (slice_range packet 42 (40 + options_len packet)))
-        (slice_range packet (40 + options_len packet) (40 + payload_len_v6 packet))
+    (has_alert (slice_range packet 42 (40 + options_len packet)))
+    (slice_range packet (40 + options_len packet) (40 + payload_len_v6 packet))
     else None
 
 abbrev pub heard_in_packet : InnerValue → List ℕ → Option Heard

@@ -1,9 +1,10 @@
 -- What a host tells of its multicast groups, as a value, and what joins, leaves, its addresses, queries and others' reports make of it.
-use Rattle.std.specs.Prelude.{ℕ, ◌+◌, ◌*◌, ◌%◌, ◌^◌, ◌≤◌, ◌==◌, ◌&&◌, ◌||◌, not, min, Bool, true, false, if◌then◌else◌, ℤ, pos, List, [], ◌∷◌, ◌++◌, length, map, drop, Option, None, Some, unsigned_abs, is_none}
+use Rattle.std.specs.Prelude.{ℕ, ◌+◌, ◌-◌, ◌*◌, ◌%◌, ◌^◌, ◌≤◌, ◌==◌, ◌&&◌, ◌||◌, not, min, Bool, true, false, if◌then◌else◌, ℤ, pos, List, [], ◌∷◌, ◌++◌, length, map, drop, Option, None, Some, unsigned_abs, is_none}
 use Rattle.std.specs.List.{list_any}
 use Rattle.net_base.specs.RandomWords.{next_state, word}
 use Rattle.ip_wire.specs.Address.{solicited_of}
 use Rattle.ip_wire.specs.AddressTests.{is_same_address, is_unspecified, is_loopback_v6, is_link_local, are_of_one_family}
+use Rattle.ip_wire.specs.Cidr.{cidr_address}
 use Rattle.ip_wire.specs.Fields.{be32}
 use Rattle.ip_wire.specs.IpAddress.{IpAddress}
 use Rattle.ip_wire.specs.IpAddress.TheVariants as Ip
@@ -19,7 +20,7 @@ use Rattle.iface_groups.specs.declared.mode.CompatibilityMode.{CompatibilityMode
 use Rattle.iface_groups.specs.declared.mode.CompatibilityMode.TheVariants as Mode
 use Rattle.iface_groups.specs.declared.querier.Querier.{Querier}
 use Rattle.iface_groups.specs.declared.table.Row.{Row}
-use Rattle.iface_egress.specs.Inner.{InnerValue, is_member_of}
+use Rattle.iface_tables.specs.Inner.{InnerValue, is_member_of}
 use Rattle.iface_reports.specs.declared.heard.Heard.{Heard}
 use Rattle.iface_reports.specs.declared.heard.Heard.TheVariants as Came
 
@@ -115,9 +116,12 @@ abbrev pub solicited_node : Ipv6Address → IpAddress
 solicited_node address = Ip.Ipv6 (record { 0 = solicited_of address })
 
 -- the group to which this address's solicitations go is joined (RFC 4861, section 7.2.1)
+abbrev pub joined_for_address : InnerValue → IpAddress → ReportsValue → ReportsValue
+joined_for_address i (Ip.Ipv4 a) r = r
+joined_for_address i (Ip.Ipv6 a) r = if is_loopback_v6 a then r else joined_by i (solicited_node a) r
+
 abbrev pub joined_for : InnerValue → IpCidr → ReportsValue → ReportsValue
-joined_for i (Cidr.Ipv4 b) r = r
-joined_for i (Cidr.Ipv6 b) r = if is_loopback_v6 b.address then r else joined_by i (solicited_node b.address) r
+joined_for i b r = joined_for_address i (cidr_address b) r
 
 abbrev pub joined_for_all : InnerValue → List IpCidr → ReportsValue → ReportsValue
 joined_for_all i [] r = r
@@ -187,7 +191,7 @@ unqueried_unless false family r = record r { rows = unqueried family r.rows }
 abbrev pub in_version : InnerValue → CompatibilityMode → IpAddress → ReportsValue → ReportsValue
 in_version i version family r =
     unqueried_unless (mode_number (mode_in i family r) == mode_number (mode_in i family (with_version i version family r))) family
-        (with_version i version family r)
+    (with_version i version family r)
 
 abbrev pub answered : InnerValue → IpAddress → ℕ → ReportsValue → ReportsValue
 answered i group longest r =

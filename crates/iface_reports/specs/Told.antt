@@ -18,7 +18,7 @@ use Rattle.iface_groups.specs.declared.mode.CompatibilityMode.TheVariants as Mod
 use Rattle.iface_groups.specs.declared.mode.Told.{Told}
 use Rattle.iface_groups.specs.declared.mode.Told.TheVariants as Told_of
 use Rattle.iface_groups.specs.declared.table.Row.{Row}
-use Rattle.iface_egress.specs.Inner.{InnerValue}
+use Rattle.iface_tables.specs.Inner.{InnerValue}
 use Rattle.iface_reports.specs.Reports.{ReportsValue, micros, mode_in}
 use Rattle.iface_reports.specs.declared.report.Message.{Message}
 use Rattle.iface_reports.specs.declared.report.Message.TheVariants as To

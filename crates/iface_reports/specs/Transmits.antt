@@ -1,21 +1,25 @@
 -- Reports that leave a host.
-use Rattle.std.specs.Prelude.{◌≡◌, ◌⊎◌, ℕ, ℤ, Bool, true, false, List, Option, None, Some}
-use Rattle.net_base.specs.Device.{Move, Allowed}
+use Rattle.std.specs.Prelude.{◌≡◌, ◌⊎◌, ℕ, ℤ, Bool, true, false, List, length, Option, None, Some}
+use Rattle.net_base.specs.Device.{Move, Allowed, Emitted, Denied}
 use Rattle.ip_wire.specs.IpAddress.{IpAddress}
-use Rattle.iface_egress.specs.Emits.{Emits}
-use Rattle.iface_egress.specs.Inner.{InnerValue}
+use Rattle.iface_tables.specs.Inner.{InnerValue}
 use Rattle.iface_reports.specs.Reports.{ReportsValue, micros}
 use Rattle.iface_reports.specs.Told.{ReportValue, v4_family, v6_family, first_due, report_at, after_report}
 use Rattle.iface_reports.specs.Frames.{report_frame, report_frame_len}
 
 module _ {D : Type 0} (moves : D → Move → D → Type 0) (i : InnerValue) where
+  -- a frame with these bytes and of this length went, or one of this length was refused
+  abbrev pub Emits : D → List ℕ → ℕ → Bool → D → Type 0
+  Emits old frame len true new = moves old (Emitted frame) new × (length frame ≡ len)
+  Emits old frame len false new = moves old (Denied len) new
+
   -- the device gives leave and takes the report's frame, or not
   abbrev pub GoesIf : D → ReportValue → Bool → D → Type 0
   GoesIf old report true new =
-      (mid : D) × moves old (Allowed i.instant true) mid × Emits moves mid (report_frame i report) (report_frame_len i report) true new
+      (mid : D) × moves old (Allowed i.instant true) mid × Emits mid (report_frame i report) (report_frame_len i report) true new
   GoesIf old report false new =
       moves old (Allowed i.instant false) new
-      ⊎ ((mid : D) × moves old (Allowed i.instant true) mid × Emits moves mid (report_frame i report) (report_frame_len i report) false new)
+      ⊎ ((mid : D) × moves old (Allowed i.instant true) mid × Emits mid (report_frame i report) (report_frame_len i report) false new)
 
   -- What was told where it went; where it didn't, all stays due.
   abbrev pub TellsIf : D → IpAddress → ReportsValue → ℕ → Bool → D → ReportsValue → Type 0

@@ -1,14 +1,13 @@
 //! The frames of reports.
-ghost use Rattle.std.specs.Prelude.{◌≡◌, ◌+◌, ◌≤◌, ◌<◌, ◌^◌, ◌++◌, length};
-ghost use Rattle.ip_wire.specs.EthernetProtocol.{EthernetProtocol};
+ghost use Rattle.std.specs.Prelude.{◌≡◌, ◌+◌, ◌≤◌, ◌++◌, length};
+ghost use Rattle.ip_wire.specs.EthernetProtocol.TheVariants as Ether;
+ghost use Rattle.ip_wire.specs.IpAddress.TheVariants as Ip;
 ghost use Rattle.wire_igmp.specs.Igmp as Igmp;
 ghost use Rattle.wire_mld.specs.Mld as Mld;
-ghost use Rattle.net_base.specs.Capabilities.{computes};
-ghost use Rattle.iface_egress.specs.Inner.{InnerValue, group_hardware_addr};
-ghost use Rattle.iface_reports.specs.Frames.{first_v4, first_link_local, link_header, link_len, open_header, sealed_header, header_v4, header_v6, hop_by_hop, igmp_packet, mld_packet, frame_by, packet_len, report_frame, report_frame_len, Fits};
+ghost use Rattle.iface_tables.specs.Inner.{group_hardware_addr};
+ghost use Rattle.iface_reports.specs.Frames.{first_v4, first_link_local, link_header, link_len, sealed_header, header_v4, igmp_packet, mld_packet, packet_len, report_frame, report_frame_len, Fits};
 
 use crate::report::{Message, Report};
-use iface_egress::Fill;
 use iface_tables::InterfaceInner;
 use ip_wire::network_order::write_u16;
 use ip_wire::{
@@ -16,6 +15,7 @@ use ip_wire::{
     HardwareAddress, IPV6_HEADER_LEN, IpAddress, IpCidr, IpProtocol, Ipv4Address, Ipv6Address,
     Ipv6PacketMut, Ipv6Repr, checksum,
 };
+use socket_context::Context;
 use wire_igmp::{IGMP_ROUTER_ALERT, IgmpPacketMut, IgmpRepr};
 use wire_mld::{MLD_HOP_BY_HOP, MldPacketMut, MldRepr};
 
@@ -25,35 +25,25 @@ const ALERT_HEADER_LEN: usize = 24;
 /// Where an IPv4 header has its checksum.
 const CHECKSUM_AT: usize = 10;
 
-/// A frame of a report from a host.
-#[derive(Drop)]
-pub(crate) struct ReportFrame<'a> {
-    pub inner: &'a InterfaceInner,
-    pub report: &'a Report,
+/// How long the frame of a report is.
+pub(crate) fn frame_len(inner: &InterfaceInner, report: &Report) -> usize
+    requires { length report.now.records ≤ 480 }
+    ensures { result ≡ report_frame_len inner.now report.now }
+{
+    link_len(&inner.hardware_addr()) + packet_len(&report.message, report.records.len())
 }
 
-impl<'a> Fill for ReportFrame<'a> {
-    ghost filled = { λ f. report_frame f.inner.now f.report.now };
-
-    ghost len = { λ f. report_frame_len f.inner.now f.report.now };
-
-    ghost fits = { λ f. Fits f.report.now.message × (length f.report.now.records ≤ 480) };
-
-    fn frame_len(&self) -> usize {
-        let records_len = self.report.records.len();
-        link_len(&self.inner.hardware_addr()) + packet_len(&self.report.message, records_len)
-    }
-
-    fn fill(&self, buffer: &mut [u8]) {
-        let records = self.report.records.as_slice();
-        match &self.report.message {
-            Message::Igmp { dst_addr, repr } => {
-                fill_igmp(self.inner, dst_addr, repr, records, buffer);
-            }
-            Message::Mld { dst_addr, repr } => {
-                fill_mld(self.inner, dst_addr, repr, records, buffer);
-            }
-        }
+/// Writes the frame of a report over the whole buffer.
+pub(crate) fn fill(inner: &InterfaceInner, report: &Report, buffer: &mut [u8])
+    requires room { length buffer.old ≡ report_frame_len inner.now report.now }
+    requires fits { Fits report.now.message }
+    requires small { length report.now.records ≤ 480 }
+    ensures { buffer.new ≡ report_frame inner.now report.now }
+{
+    let records = report.records.as_slice();
+    match &report.message {
+        Message::Igmp { dst_addr, repr } => fill_igmp(inner, dst_addr, repr, records, buffer),
+        Message::Mld { dst_addr, repr } => fill_mld(inner, dst_addr, repr, records, buffer),
     }
 }
 
@@ -97,11 +87,22 @@ fn fill_igmp(
 {
     let hardware_addr = inner.hardware_addr();
     let (front, rest) = buffer.split_at_mut(link_len(&hardware_addr));
-    write_link(&hardware_addr, &IpAddress::Ipv4(*dst_addr), EthernetProtocol::Ipv4, front);
+    write_link(
+        &hardware_addr,
+        &IpAddress::Ipv4(*dst_addr),
+        EthernetProtocol::Ipv4,
+        front,
+    );
     let size = message.header_len() + records.len();
     let (head, body) = rest.split_at_mut(ALERT_HEADER_LEN);
     let src_addr = first_v4(inner.ip_addrs());
-    write_header_v4(inner.checksum_caps().ipv4.tx(), size, &src_addr, dst_addr, head);
+    write_header_v4(
+        inner.checksum_caps().ipv4.tx(),
+        size,
+        &src_addr,
+        dst_addr,
+        head,
+    );
     message.emit(&mut IgmpPacketMut::new_unchecked(body), records);
 }
 
@@ -121,7 +122,12 @@ fn fill_mld(
 {
     let hardware_addr = inner.hardware_addr();
     let (front, rest) = buffer.split_at_mut(link_len(&hardware_addr));
-    write_link(&hardware_addr, &IpAddress::Ipv6(*dst_addr), EthernetProtocol::Ipv6, front);
+    write_link(
+        &hardware_addr,
+        &IpAddress::Ipv6(*dst_addr),
+        EthernetProtocol::Ipv6,
+        front,
+    );
     let src_addr = first_link_local(inner.ip_addrs());
     let (head, rest) = rest.split_at_mut(IPV6_HEADER_LEN);
     let header = Ipv6Repr {
@@ -169,12 +175,12 @@ fn group_hardware_addr(group: &IpAddress) -> EthernetAddress
 {
     match group {
         IpAddress::Ipv4(group) => {
-            let [_, a, b, c] = group.octets();
-            EthernetAddress([1, 0, 0x5e, a % 128, b, c])
+            let [_, a, b, c] = group.0;
+            EthernetAddress([0x01, 0x00, 0x5e, a % 128, b, c])
         }
         IpAddress::Ipv6(group) => {
-            let [.., a, b, c, d] = group.octets();
-            EthernetAddress([0x33, 0x33, a, b, c, d])
+            let tail = &group.0[12..];
+            EthernetAddress([0x33, 0x33, tail[0], tail[1], tail[2], tail[3]])
         }
     }
 }
@@ -217,10 +223,12 @@ fn seal(header: &mut [u8])
 fn first_v4(blocks: &[IpCidr]) -> Ipv4Address
     ensures { result ≡ first_v4 blocks.now }
 {
-    match blocks {
-        [] => Ipv4Address::UNSPECIFIED,
-        [IpCidr::Ipv4(block), ..] => block.address(),
-        [IpCidr::Ipv6(_), rest @ ..] => first_v4(rest),
+    let Some((block, rest)) = blocks.split_first() else {
+        return Ipv4Address::UNSPECIFIED;
+    };
+    match block.address() {
+        IpAddress::Ipv4(address) => address,
+        IpAddress::Ipv6(_) => first_v4(rest),
     }
 }
 
@@ -228,9 +236,11 @@ fn first_v4(blocks: &[IpCidr]) -> Ipv4Address
 fn first_link_local(blocks: &[IpCidr]) -> Ipv6Address
     ensures { result ≡ first_link_local blocks.now }
 {
-    match blocks {
-        [] => Ipv6Address::UNSPECIFIED,
-        [IpCidr::Ipv6(block), ..] if block.address().is_link_local() => block.address(),
-        [_, rest @ ..] => first_link_local(rest),
+    let Some((block, rest)) = blocks.split_first() else {
+        return Ipv6Address::UNSPECIFIED;
+    };
+    match block.address() {
+        IpAddress::Ipv6(address) if address.is_link_local() => address,
+        _ => first_link_local(rest),
     }
 }

@@ -1,16 +1,18 @@
 //! What a frame says of groups.
-ghost use Rattle.std.specs.Prelude.{◌≡◌, ◌≤◌, ◌&&◌, ◌*◌, ◌==◌, nat_le, length, take, slice_index};
+ghost use Rattle.std.specs.Prelude.{◌≡◌, ◌+◌, ◌≤◌, length, take};
+ghost use Rattle.std.specs.Str.{bytes_eq};
 ghost use Rattle.std.specs.List.{list_any};
 ghost use Rattle.std.specs.Option.{ForSome};
 ghost use Rattle.iface_reports.specs.Heard.{is_own, v4_at, is_for, packet_in, is_igmp, is_mld, header_len_v4, is_whole_v4, igmp_version, igmp_query, igmp_report, igmp_said, igmp_heard, heard_v4, heard_in_packet, heard_in};
 ghost use Rattle.iface_reports.specs.Reports.{IsShort};
-ghost use Rattle.iface_egress.specs.Inner.{is_address_of};
+ghost use Rattle.iface_tables.specs.Inner.{is_address_of};
 
 use crate::mld_in::heard_v6;
 use iface_groups::{CompatibilityMode, counts_v4, igmp_max_micros};
 use iface_tables::InterfaceInner;
 use ip_wire::network_order::read_u16;
 use ip_wire::{EthernetAddress, HardwareAddress, IpAddress, IpCidr, Ipv4Address, checksum};
+use socket_context::Context;
 use socket_context::addresses::is_same_address;
 
 const ETHERNET_HEADER_LEN: usize = 14;
@@ -33,7 +35,9 @@ pub enum Heard {
         max_micros: u64,
     },
     /// Another host's report, of version 1 or 2.
-    Report { group: IpAddress },
+    Report {
+        group: IpAddress,
+    },
 }
 
 /// What a frame says.
@@ -69,8 +73,17 @@ fn is_for(local: &EthernetAddress, frame: &[u8]) -> bool
         return false;
     }
     let ethertype = read_u16(frame, 12);
-    (frame[0] % 2 == 1 || frame[..6] == local.0)
+    (frame[0] % 2 == 1 || is_to(local, frame))
         && (ethertype == ETHERTYPE_IPV4 || ethertype == ETHERTYPE_IPV6)
+}
+
+/// Whether a frame goes to this hardware address.
+fn is_to(local: &EthernetAddress, frame: &[u8]) -> bool
+    requires { 6 ≤ length frame.now }
+    ensures { result ≡ bytes_eq (take 6 frame.now) local.now.0 }
+{
+    let (to, _rest) = frame.split_at(6);
+    to == local.0.as_slice()
 }
 
 /// What a packet says.
@@ -238,7 +251,13 @@ fn igmp_query(
     let group = v4_at(message, 4);
     let is_own_source = is_own(inner, &IpAddress::Ipv4(*source));
     let is_own_destination = is_own(inner, &IpAddress::Ipv4(*destination));
-    if !counts_v4(source, destination, &group, is_own_source, is_own_destination) {
+    if !counts_v4(
+        source,
+        destination,
+        &group,
+        is_own_source,
+        is_own_destination,
+    ) {
         return None;
     }
     Some(Heard::Query {

@@ -1,7 +1,7 @@
 //! What a packet of IPv6 says of groups.
-ghost use Rattle.std.specs.Prelude.{◌≡◌, ◌≤◌, ◌+◌, ◌<◌, ◌^◌, length, slice_index};
+ghost use Rattle.std.specs.Prelude.{◌≡◌, ◌≤◌, ◌+◌, ◌<◌, ◌^◌, length};
 ghost use Rattle.std.specs.Option.{ForSome};
-ghost use Rattle.iface_reports.specs.Heard.{v6_at, has_alert, alerts_among, payload_len_v6, options_len, is_whole_v6, is_summed, mld_version, mld_query, mld_report, mld_said, mld_heard, heard_v6};
+ghost use Rattle.iface_reports.specs.Heard.{v6_at, has_alert, alerts_among, option_at_front, is_alert, EndsWithin, payload_len_v6, options_len, is_whole_v6, is_summed, mld_version, mld_query, mld_report, mld_said, mld_heard, heard_v6};
 ghost use Rattle.iface_reports.specs.Reports.{IsShort};
 
 use crate::heard::{HOLDS, Heard, is_own};
@@ -9,9 +9,21 @@ use iface_groups::{CompatibilityMode, counts_v6, mld_max_micros};
 use iface_tables::InterfaceInner;
 use ip_wire::network_order::read_u16;
 use ip_wire::{IpAddress, IpProtocol, Ipv6Address, checksum};
+use socket_context::Context;
 
 /// The option that says that each router on the way looks at the packet.
 const ROUTER_ALERT: u8 = 5;
+
+/// What stands first among options.
+#[derive(Clone, Copy, Debug, PartialEq, Eq)]
+pub(crate) enum OptionAhead {
+    /// No option is left, or one that runs past its header.
+    End,
+    /// A router alert of value 0.
+    Alert,
+    /// Another option, of so many bytes.
+    Other(usize),
+}
 
 /// What a message comes with: its packet's addresses and hop limit, and whether that has a router alert.
 #[derive(Clone, Copy, Debug)]
@@ -46,26 +58,45 @@ fn alerts_among(most: usize, options: &[u8]) -> bool
     if most == 0 {
         return false;
     }
-    let [kind, following @ ..] = options else {
-        return false;
-    };
-    if following.is_empty() {
-        return false;
+    match option_at_front(options) {
+        OptionAhead::End => false,
+        OptionAhead::Alert => true,
+        OptionAhead::Other(len) => {
+            let (_option, rest) = options.split_at(len);
+            alerts_among(most - 1, rest)
+        }
     }
+}
+
+/// What stands first among options.
+fn option_at_front(options: &[u8]) -> OptionAhead
+    ensures value { result ≡ option_at_front options.now }
+    ensures within { EndsWithin (length options.now) result }
+{
+    let [kind, following @ ..] = options else {
+        return OptionAhead::End;
+    };
     if *kind == 0 {
-        return alerts_among(most - 1, following);
+        return OptionAhead::Other(1);
     }
     let [len, inside @ ..] = following else {
-        return false;
+        return OptionAhead::End;
     };
     if inside.len() < *len as usize {
-        return false;
+        return OptionAhead::End;
     }
-    if *kind == ROUTER_ALERT && *len == 2 && read_u16(inside, 0) == 0 {
-        return true;
+    if is_alert(*kind, *len, inside) {
+        return OptionAhead::Alert;
     }
-    let (_option, rest) = inside.split_at(*len as usize);
-    alerts_among(most - 1, rest)
+    OptionAhead::Other(2 + *len as usize)
+}
+
+/// Whether an option is a router alert of value 0.
+fn is_alert(kind: u8, len: u8, inside: &[u8]) -> bool
+    requires { len ≤ length inside.now }
+    ensures { result ≡ is_alert kind len inside.now }
+{
+    kind == ROUTER_ALERT && len == 2 && read_u16(inside, 0) == 0
 }
 
 /// How long the hop-by-hop header is.

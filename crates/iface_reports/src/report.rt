@@ -1,9 +1,8 @@
 //! Which report is due.
-ghost use Rattle.std.specs.Prelude.{◌≡◌, ◌≤◌, ◌<◌, ◌*◌, [], length};
-ghost use Rattle.iface_groups.specs.Member.{next_told};
-ghost use Rattle.iface_groups.specs.declared.mode.CompatibilityMode.TheVariants as Mode;
-ghost use Rattle.iface_groups.specs.declared.mode.Told.{Told};
-ghost use Rattle.iface_reports.specs.Told.{ReportValue, record_of, record_in, records_in, is_leave, report_version, single_v4, single_v6, single, joint, report_by};
+ghost use Rattle.std.specs.Prelude.{◌≡◌, ◌≤◌, ◌+◌, ◌*◌, ◌++◌, length};
+ghost use Rattle.arrayvec.specs.ArrayVec.{array_vec_len};
+ghost use Rattle.iface_reports.specs.Frames.{Fits};
+ghost use Rattle.iface_reports.specs.Told.{ReportValue, record_in, records_in, is_leave, report_version, single_v4, single_v6, single, joint, report_by};
 
 use crate::rows::is_due_in;
 use arrayvec::ArrayVec;
@@ -34,8 +33,14 @@ const RECORDS_ROOM: usize = GROUP_ROOM * RECORD_LEN_V6;
 /// A message of a report, and where it goes.
 #[derive(Clone, Copy, Debug)]
 pub enum Message {
-    Igmp { dst_addr: Ipv4Address, repr: IgmpRepr },
-    Mld { dst_addr: Ipv6Address, repr: MldRepr },
+    Igmp {
+        dst_addr: Ipv4Address,
+        repr: IgmpRepr,
+    },
+    Mld {
+        dst_addr: Ipv6Address,
+        repr: MldRepr,
+    },
 }
 
 /// A report that is due.
@@ -184,12 +189,7 @@ fn push_records(
 }
 
 /// Appends the record of a row, if that is of the family and due.
-fn push_record(
-    family: &IpAddress,
-    now: u64,
-    row: &Row,
-    records: &mut ArrayVec<u8, RECORDS_ROOM>,
-)
+fn push_record(family: &IpAddress, now: u64, row: &Row, records: &mut ArrayVec<u8, RECORDS_ROOM>)
     requires { array_vec_len records.old + 20 ≤ 480 }
     ensures items { records.new.items ≡ records.old.items ++ record_in family.now now row.now }
     ensures len { array_vec_len records.new ≤ array_vec_len records.old + 20 }

@@ -215,16 +215,22 @@ impl Reporter {
         self.join_for_all(inner, rest);
     }
 
-    /// Joins the group of this address, if it is one of IPv6 and not `::1`.
+    /// Joins the group of this block's address, if it is one of IPv6 and not `::1`.
     fn join_for(&mut self, inner: &InterfaceInner, block: &IpCidr)
         ensures { self.new ≡ joined_for inner.now block.now self.old }
     {
-        if let IpCidr::Ipv6(block) = block {
-            if !block.address().is_loopback() {
-                let group = solicited_node(&block.address());
-                let _ = self.join(inner, &group);
-            }
+        match block.address() {
+            IpAddress::Ipv4(_) => {}
+            IpAddress::Ipv6(address) if address.is_loopback() => {}
+            IpAddress::Ipv6(address) => self.join_node(inner, &address),
         }
+    }
+
+    /// Joins the group to which solicitations for this address go, if there is room.
+    fn join_node(&mut self, inner: &InterfaceInner, address: &Ipv6Address)
+        ensures { self.new ≡ joined_by inner.now (solicited_node address.now) self.old }
+    {
+        let _refused = self.join(inner, &solicited_node(address));
     }
 
     /// Tells the groups of IPv6 once more where the host has a link-local address and had none.
@@ -331,10 +337,8 @@ fn mode_number(mode: CompatibilityMode) -> u8
 fn solicited_node(address: &Ipv6Address) -> IpAddress
     ensures { result ≡ solicited_node address.now }
 {
-    let [.., a, b, c] = address.octets();
-    IpAddress::Ipv6(Ipv6Address([
-        0xff, 2, 0, 0, 0, 0, 0, 0, 0, 0, 0, 1, 0xff, a, b, c,
-    ]))
+    let [.., a, b, c] = address.0;
+    IpAddress::Ipv6(Ipv6Address([0xff, 2, 0, 0, 0, 0, 0, 0, 0, 0, 0, 1, 0xff, a, b, c]))
 }
 
 /// Whether one of these addresses is link-local.
@@ -347,8 +351,8 @@ fn has_link_local(blocks: &[IpCidr]) -> bool
 fn is_link_local(block: &IpCidr) -> bool
     ensures { result ≡ is_link_local_cidr block.now }
 {
-    match block {
-        IpCidr::Ipv4(_) => false,
-        IpCidr::Ipv6(block) => block.address().is_link_local(),
+    match block.address() {
+        IpAddress::Ipv4(_) => false,
+        IpAddress::Ipv6(address) => address.is_link_local(),
     }
 }

@@ -1,13 +1,12 @@
 //! Reports that are due leave.
 ghost use Rattle.std.specs.Prelude.{◌≡◌, ◌<◌, length};
-ghost use Rattle.iface_reports.specs.Transmits.{GoesIf, TellsIf, Tells, Transmits};
+ghost use Rattle.iface_reports.specs.Transmits.{GoesIf, Tells, Transmits};
 ghost use Rattle.iface_reports.specs.Told.{v4_family, v6_family, report_at};
 
-use crate::frame::ReportFrame;
-use crate::report::{Report, report_by};
+use crate::frame::{fill, frame_len};
+use crate::report::report_by;
 use crate::reporter::{Reporter, micros};
 use crate::rows::first_due;
-use iface_egress::send;
 use iface_tables::InterfaceInner;
 use ip_wire::{IpAddress, Ipv4Address, Ipv6Address};
 use net_base::Device;
@@ -73,13 +72,9 @@ impl Reporter {
         let Some(token) = device.transmit(inner.now()) else {
             return false;
         };
-        send(
-            device,
-            token,
-            &ReportFrame {
-                inner,
-                report: &report,
-            },
-        )
+        let len = frame_len(inner, &report);
+        device
+            .send(token, len, |buffer: &mut [u8]| fill(inner, &report, buffer))
+            .is_ok()
     }
 }
