@@ -21,7 +21,7 @@ same_some : {A : Type 0} (x y : A) → Some x ≡ Some y → x ≡ y
 same_some x y is = cc
 
 -- the first of a list that is below a length: it is, and it's no shorter than all of them are
-AtLeast : ℕ → List ℕ → Type 0
+abbrev AtLeast : ℕ → List ℕ → Type 0
 AtLeast least [] = Unit {0}
 AtLeast least (x ∷ xs) = (least ≤ x) × AtLeast least xs
 
