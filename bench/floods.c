@@ -10,11 +10,11 @@
 
 #define OK(call) do { uint32_t c_ = (call); if (c_ != ZV_OK) { fprintf(stderr, "line %d: %s: %u\n", __LINE__, #call, c_); exit(2); } } while (0)
 
-enum { KINDS_AT_A_TIME = 4096, BATCH = 64, LONGEST = 1514 };
+enum { FRAMES = 4096, BATCH = 64, LONGEST = 1514 };
 static const uint8_t host_hardware[6] = {2, 0, 0, 0, 0, 2}, peer_hardware[6] = {2, 0, 0, 0, 0, 10}, all[6] = {255, 255, 255, 255, 255, 255};
 static const uint8_t host_v4[4] = {10, 77, 0, 2}, peer_v4[4] = {10, 77, 0, 10};
 static const uint8_t host_v6[16] = {0xfd, [15] = 2}, peer_v6[16] = {0xfd, [15] = 10};
-static struct { uint8_t bytes[LONGEST]; size_t length; } frames[KINDS_AT_A_TIME];
+static struct { uint8_t bytes[LONGEST]; size_t length; } frames[FRAMES];
 static zv_host host;
 static int64_t now = 1000000;
 static uint32_t word = 1;
@@ -190,7 +190,7 @@ static size_t v6_from_beside(uint8_t *f) {
 }
 
 static const struct { const char *name; size_t (*made)(uint8_t *); } kinds[] = {
-    {"echo requests, each answered", pings},
+    {"echo requests; each is answered", pings},
     {"frames of a type that nobody reads", other_type},
     {"frames to another station", other_station},
     {"packets to another host", other_host},
@@ -198,22 +198,22 @@ static const struct { const char *name; size_t (*made)(uint8_t *); } kinds[] = {
     {"a wrong sum of a segment", bad_segment_sum},
     {"SYNs to a port that nobody listens on", syns_to_nobody},
     {"acknowledgements to it", acks_to_nobody},
-    {"SYNs to a listener, from behind a router that nobody is", syns_from_nobody},
-    {"SYNs to a listener, from addresses beside that nobody has", syns_from_beside},
+    {"SYNs to a listener from behind a router that nobody is", syns_from_nobody},
+    {"SYNs to a listener from addresses beside that nobody has", syns_from_beside},
     {"datagrams to a port that nobody reads", datagrams_to_nobody},
     {"the same from addresses beside that nobody has", datagrams_from_beside},
-    {"the same of 1,472 bytes", long_datagrams},
+    {"the same of 1472 bytes", long_datagrams},
     {"datagrams to a socket whose queue is full", queue_filled},
     {"datagrams to all", broadcasts},
     {"packets from the own address", from_own_address},
     {"first fragments whose rest never comes", first_fragments},
     {"later fragments alone", later_fragments},
-    {"ARP requests for the host, from new addresses", arp_for_us},
+    {"ARP requests for the host from new addresses", arp_for_us},
     {"ARP requests for others", arp_for_others},
     {"errors that quote what was never sent", blind_errors},
-    {"solicitations of IPv6, from new addresses", solicitations},
+    {"solicitations of IPv6 from new addresses", solicitations},
     {"ten option headers of IPv6 before a datagram", option_headers},
-    {"datagrams of IPv6, from addresses beside that nobody has", v6_from_beside},
+    {"datagrams of IPv6 from addresses beside that nobody has", v6_from_beside},
 };
 
 static double seconds(void) {
@@ -269,13 +269,13 @@ static int answers_others(void) {
 static void flood(const char *name, size_t (*made)(uint8_t *), uint32_t total) {
     make_host();
     if (!answers_others()) { fprintf(stderr, "no echo before: %s\n", name); exit(2); }
-    for (int i = 0; i < KINDS_AT_A_TIME; i++) frames[i].length = made(frames[i].bytes);
+    for (int i = 0; i < FRAMES; i++) frames[i].length = made(frames[i].bytes);
     size_t sent = 0;
     uint8_t changed;
     double worst = 0, start = seconds();
     for (uint32_t done = 0; done < total; done += BATCH) {
         double before = seconds();
-        for (uint32_t i = done; i < done + BATCH; i++) (void)!zv_frame_in(&host, frames[i % KINDS_AT_A_TIME].bytes, frames[i % KINDS_AT_A_TIME].length);
+        for (uint32_t i = done; i < done + BATCH; i++) (void)!zv_frame_in(&host, frames[i % FRAMES].bytes, frames[i % FRAMES].length);
         OK(zv_poll(&host, now, BATCH, &changed));
         sent += emptied(NULL);
         double took = seconds() - before;
@@ -283,14 +283,14 @@ static void flood(const char *name, size_t (*made)(uint8_t *), uint32_t total) {
         now += BATCH * 10;
     }
     double took = seconds() - start;
-    printf("| %s | %.0f | %.2f | %.0f | %s |\n", name, total / took / 1000, (double)sent / total, worst * 1e6, answers_others() ? "yes" : "no");
+    printf("%s,%.0f,%.2f,%.0f,%s\n", name, total / took / 1000, (double)sent / total, worst * 1e6, answers_others() ? "yes" : "no");
     fflush(stdout);
     OK(zv_host_free(&host));
 }
 
 int main(int count, char **words) {
     uint32_t total = count > 1 ? (uint32_t)strtoul(words[1], NULL, 10) : 400000;
-    printf("| flood | thousands of frames a second | frames sent for each | longest poll of %d frames, \xc2\xb5s | an echo is answered after it |\n|---|---|---|---|---|\n", BATCH);
+    printf("flood,thousands of frames a second,frames sent for each,longest poll of %d in microseconds,an echo is answered after it\n", BATCH);
     for (size_t i = 0; i < sizeof kinds / sizeof *kinds; i++) flood(kinds[i].name, kinds[i].made, total);
     return 0;
 }

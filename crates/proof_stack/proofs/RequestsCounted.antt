@@ -19,7 +19,7 @@ use Rattle.proof_stack.specs.Requests.{AreInSecond, Follows, NeighborEvent, Aske
 
 -- SEARCHES THAT ARE YOUNG: their last request is to be answered at an instant or later
 
-young : ℤ → List Search → ℕ
+abbrev young : ℤ → List Search → ℕ
 young e [] = 0
 young e (s ∷ ss) = if int_lt s.answer_by e then young e ss else suc (young e ss)
 
@@ -108,14 +108,14 @@ is_new start t since = grind (arith, ints)
 
 module _ (c : CacheValue) (address : IpAddress) (start t : ℤ) (since : start ≤ℤ t) (before : t <ℤ (start +ℤ pos silent_time)) (some : 1 ≤ c.search_room)
     (few : length c.searches ≤ c.search_room) where
-  e : ℤ
+  abbrev e : ℤ
   e = start +ℤ pos silent_time
 
-  ss : List Search
+  abbrev ss : List Search
   ss = c.searches
 
   -- one more search is young, and there are no more than there is room for
-  AddsOne : List Search → Type 0
+  abbrev AddsOne : List Search → Type 0
   AddsOne after = (young e after ≡ suc (young e ss)) × (length after ≤ c.search_room)
 
   added : int_lt t (own_silence None c) ≡ false → AddsOne (searched_at c.search_room None None ss address t)
@@ -158,7 +158,7 @@ module _ (c : CacheValue) (address : IpAddress) (start t : ℤ) (since : start �
 
 -- AN ANSWER ends one search at most
 
-EndsOne : ℤ → List Search → List Search → Type 0
+abbrev EndsOne : ℤ → List Search → List Search → Type 0
 EndsOne e ss after = (young e ss ≤ suc (young e after)) × (length after ≤ length ss)
 
 ends : (e : ℤ) (ss : List Search) (index : Option ℕ) → EndsOne e ss (ended_at index ss)
