@@ -6,7 +6,7 @@
  *   host       A zv_host that is all zero before its first call. Only these calls write it. It may be moved, not copied. One call at a
  *              time: not from two threads at once, and not from a signal handler.
  *   pointers   Not null, not even where a length of 0 goes with them; valid for the whole call, writable where they aren't const, and
- *              not overlapping one another. Nothing is kept after a call but by zv_tcp_peek, which lends.
+ *              not overlapping one another. Nothing is kept after a call; zv_tcp_peek, zv_tcp_reserve and zv_frame_peek_out lend.
  *   numbers    Any. There is no number, moment or socket that a call may not be given: it answers a code.
  *   answer     ZV_OK, or why not. After any other code nothing has changed, and nothing is written behind the pointers, but where a call
  *              says so.
@@ -14,7 +14,7 @@
  *   sockets    A number: a place in the host, and 2^32 times how many sockets that place had before. Once a socket is removed every call
  *              answers ZV_NO_SOCKET to its number, also while another socket is in its place; the number comes back after 2^32 others.
  *   memory     Taken by malloc when a host or a socket is made, and for frames: once frames have been as many and as long as they
- *              become, no more. It is given back by zv_socket_remove and zv_host_free.
+ *              become, or behind zv_frames_reserve, no more. It is given back by zv_socket_remove and zv_host_free.
  */
 #ifndef ZEMPLOVIR_H
 #define ZEMPLOVIR_H
@@ -224,6 +224,17 @@ uint32_t zv_frame_out(zv_host *host, uint8_t *frame, size_t length, size_t *coun
 /* How many bytes the first frame has that is to go. ZV_EMPTY. */
 uint32_t zv_frame_out_length(zv_host *host, size_t *count);
 
+/* Lends the first frame that is to go, where it stands: it may be read only, and stays there through polls and calls, until it is skipped or
+ * copied out. Not for longer than the host. ZV_EMPTY. */
+uint32_t zv_frame_peek_out(zv_host *host, const uint8_t **frame, size_t *count);
+
+/* The first frame that is to go went: it is dropped, and counted as zv_frame_out counts it. ZV_EMPTY. */
+uint32_t zv_frame_skip_out(zv_host *host);
+
+/* Takes memory at once for as many frames each way as may wait (the settings' `frames`), of so many bytes each: once for a host, behind
+ * zv_host_new, and no frame of that length asks malloc any more. ZV_MEMORY: what was taken by then stays for frames. */
+uint32_t zv_frames_reserve(zv_host *host, size_t length);
+
 /* Writes what a frame is as a line of text for a log: `now` in seconds, whether it came (sent is 0) or was sent (1), and a header behind the
  * other, as "[  1.000000s] <- Ethernet 02-.. > 02-.., ARP request ..\n". It says how many bytes it wrote, and puts no 0 behind them; of a line
  * that is longer than `size` the front is written. The host stays as it is. ZV_MEMORY. */
@@ -331,6 +342,18 @@ uint32_t zv_tcp_peek(zv_host *host, size_t socket, const uint8_t **bytes, size_t
 /* Gives up the first waiting bytes, at most `wanted` and as many as lie behind one another, and says how many.
  * ZV_FINISHED, ZV_INVALID_STATE. */
 uint32_t zv_tcp_done(zv_host *host, size_t socket, size_t wanted, size_t *count);
+
+/* Gives up exactly so many of the bytes that zv_tcp_peek lends; of more than those, none. ZV_TOO_LONG, ZV_FINISHED, ZV_INVALID_STATE. */
+uint32_t zv_tcp_skip(zv_host *host, size_t socket, size_t count);
+
+/* Lends room for bytes that are to go, behind those that are queued, as many as lie behind one another: they stand where `bytes` points to,
+ * and may be written, until the next zv_poll or the next call with this socket. None is queued by it. Where there is no room, `bytes` isn't
+ * written. ZV_INVALID_STATE (the connection isn't open yet, or its way out is closed). */
+uint32_t zv_tcp_reserve(zv_host *host, size_t socket, uint8_t **bytes, size_t *count);
+
+/* Queues the first so many bytes of the room, as they were written there since zv_tcp_reserve, which goes right before on this socket; of more
+ * than were lent, none. ZV_TOO_LONG, ZV_INVALID_STATE. */
+uint32_t zv_tcp_commit(zv_host *host, size_t socket, size_t count);
 
 /* Closes the way out: what is queued still goes, and then the end of the stream. The remote may still send. A socket that listens, or whose
  * connection isn't answered yet, is closed at once. */
@@ -446,8 +469,9 @@ uint32_t zv_icmp_bind_tcp(zv_host *host, size_t socket, const zv_address *addres
 /* Sets the hop limit of what is sent, 0 for the usual 64. */
 uint32_t zv_icmp_set_hop_limit(zv_host *host, size_t socket, uint8_t limit);
 
-/* Queues a message, from its type on; the socket needn't be bound. Its checksum is written when it is sent. What is no message of ICMP for
- * the remote's family is dropped later, in silence. ZV_BAD_ARGUMENT, ZV_UNADDRESSABLE (the remote is unspecified), ZV_FULL. */
+/* Queues a message, from its type on; the socket needn't be bound. Its checksum is written when it is sent. One that is longer than a frame
+ * takes goes in fragments, if it has at most 4,076 bytes over IPv4 and 4,056 over IPv6; a longer one is refused. What is no message of ICMP
+ * for the remote's family is dropped later, in silence. ZV_TOO_LONG, ZV_BAD_ARGUMENT, ZV_UNADDRESSABLE (the remote is unspecified), ZV_FULL. */
 uint32_t zv_icmp_send(zv_host *host, size_t socket, const uint8_t *bytes, size_t length, const zv_address *remote);
 
 /* Copies the first message to the buffer, and says its length and where it came from. One that is longer than the buffer is gone
@@ -460,8 +484,9 @@ uint32_t zv_icmp_recv(zv_host *host, size_t socket, uint8_t *bytes, size_t lengt
  * of so many bytes together, each way, and says its place. ZV_BAD_ARGUMENT (family), ZV_MEMORY. */
 uint32_t zv_raw_new(zv_host *host, uint8_t family, uint16_t protocol, size_t packets, size_t bytes, size_t *socket);
 
-/* Queues a packet with its IP header, which is written anew when it is sent, with its checksum and without options. What is no packet of the
- * socket's family and protocol is dropped later, in silence. ZV_FULL. */
+/* Queues a packet with its IP header, which is written anew when it is sent, with its checksum and without options. One that is then longer
+ * than a frame takes, and than 4,096 bytes, is refused. What is no packet of the socket's family and protocol is dropped later, in silence.
+ * ZV_TOO_LONG, ZV_FULL. */
 uint32_t zv_raw_send(zv_host *host, size_t socket, const uint8_t *bytes, size_t length);
 
 /* Copies the first packet to the buffer, its IP header first, and says its length. One that is longer than the buffer is gone
@@ -472,9 +497,16 @@ uint32_t zv_raw_recv(zv_host *host, size_t socket, uint8_t *bytes, size_t length
  * to be done between a client and its socket, by the other calls. Call each after a poll, and poll again; poll at the latest when
  * zv_poll_at, zv_dhcp_poll_at or zv_dns_poll_at says. Each call but zv_dhcp_new and zv_dns_new may answer ZV_NO_CLIENT. */
 
+/* What happened to a lease. */
+enum {
+    ZV_LEASE_NONE = 0, /* nothing */
+    ZV_LEASE_NEW = 1,  /* there is one, perhaps with other addresses than before */
+    ZV_LEASE_LOST = 2  /* there is none: an address that was used is to go */
+};
+
 /* What a client of DHCP tells. */
 typedef struct zv_lease {
-    uint8_t event;       /* 0: nothing happened. 1: there is a lease of what follows. 2: there is none, an address that was used is to go */
+    uint8_t event;       /* ZV_LEASE_NONE, ZV_LEASE_NEW, which has what follows, or ZV_LEASE_LOST */
     uint8_t prefix;      /* how many bits the address's network has */
     zv_address address;
     zv_address router;   /* family 0 for none, here and below */
@@ -594,6 +626,8 @@ ZV_MUST_LOOK(zv_host_set_hardware);
 ZV_MUST_LOOK(zv_host_set_reassembly_slots);
 ZV_MUST_LOOK(zv_frame_out);
 ZV_MUST_LOOK(zv_frame_out_length);
+ZV_MUST_LOOK(zv_frame_peek_out);
+ZV_MUST_LOOK(zv_frames_reserve);
 ZV_MUST_LOOK(zv_trace_line);
 ZV_MUST_LOOK(zv_poll);
 ZV_MUST_LOOK(zv_poll_at);
@@ -608,6 +642,9 @@ ZV_MUST_LOOK(zv_tcp_connect);
 ZV_MUST_LOOK(zv_tcp_send);
 ZV_MUST_LOOK(zv_tcp_recv);
 ZV_MUST_LOOK(zv_tcp_peek);
+ZV_MUST_LOOK(zv_tcp_skip);
+ZV_MUST_LOOK(zv_tcp_reserve);
+ZV_MUST_LOOK(zv_tcp_commit);
 ZV_MUST_LOOK(zv_tcp_state);
 ZV_MUST_LOOK(zv_tcp_end_reason);
 ZV_MUST_LOOK(zv_tcp_peer);

@@ -97,12 +97,12 @@ static void take_lease(void)
 {
     static zv_lease had;
     const zv_address all = {4, {0}};
-    if (lease.event != 0 && had.address.family != 0) {
+    if (lease.event != ZV_LEASE_NONE && had.address.family != 0) {
         zv_address_remove(&host, &had.address);
         zv_route_remove(&host, &all, 0);
         had.address.family = 0;
     }
-    if (lease.event != 1)
+    if (lease.event != ZV_LEASE_NEW)
         return;
     must(zv_address_add(&host, &lease.address, lease.prefix), "address");
     if (lease.router.family != 0)
