@@ -4,7 +4,8 @@
  *
  * What every call shares
  *   host       A zv_host that is all zero before its first call. Only these calls write it. It may be moved, not copied. One call at a
- *              time: not from two threads at once, and not from a signal handler.
+ *              time: not from two threads at once, and not from a signal handler. A call of a const host leaves it as it was, and is no
+ *              exception: it isn't for two threads at once either.
  *   pointers   Not null, not even where a length of 0 goes with them; valid for the whole call, writable where they aren't const, and
  *              not overlapping one another. Nothing is kept after a call; zv_tcp_peek, zv_tcp_reserve and zv_frame_peek_out lend.
  *   numbers    Any. There is no number, moment or socket that a call may not be given: it answers a code.
@@ -222,11 +223,11 @@ uint32_t zv_frame_in(zv_host *host, const uint8_t *frame, size_t length);
 uint32_t zv_frame_out(zv_host *host, uint8_t *frame, size_t length, size_t *count);
 
 /* How many bytes the first frame has that is to go. ZV_EMPTY. */
-uint32_t zv_frame_out_length(zv_host *host, size_t *count);
+uint32_t zv_frame_out_length(const zv_host *host, size_t *count);
 
 /* Lends the first frame that is to go, where it stands: it may be read only, and stays there through polls and calls, until it is skipped or
  * copied out. Not for longer than the host. ZV_EMPTY. */
-uint32_t zv_frame_peek_out(zv_host *host, const uint8_t **frame, size_t *count);
+uint32_t zv_frame_peek_out(const zv_host *host, const uint8_t **frame, size_t *count);
 
 /* The first frame that is to go went: it is dropped, and counted as zv_frame_out counts it. ZV_EMPTY. */
 uint32_t zv_frame_skip_out(zv_host *host);
@@ -238,7 +239,7 @@ uint32_t zv_frames_reserve(zv_host *host, size_t length);
 /* Writes what a frame is as a line of text for a log: `now` in seconds, whether it came (sent is 0) or was sent (1), and a header behind the
  * other, as "[  1.000000s] <- Ethernet 02-.. > 02-.., ARP request ..\n". It says how many bytes it wrote, and puts no 0 behind them; of a line
  * that is longer than `size` the front is written. The host stays as it is. ZV_MEMORY. */
-uint32_t zv_trace_line(zv_host *host, int64_t now, uint8_t sent, const uint8_t *frame, size_t length, uint8_t *text, size_t size, size_t *count);
+uint32_t zv_trace_line(const zv_host *host, int64_t now, uint8_t sent, const uint8_t *frame, size_t length, uint8_t *text, size_t size, size_t *count);
 
 /* Takes in at most `budget` of the frames that came, and goes over the sockets at most `budget` times for what they have to send. While as
  * many frames are to go as may, none comes and none goes: fetch them, and poll again. Then each listener sees how far the sockets of its
@@ -250,7 +251,7 @@ uint32_t zv_poll(zv_host *host, int64_t now, uint16_t budget, uint8_t *changed);
 uint32_t zv_poll_at(zv_host *host, int64_t now, int64_t *at);
 
 /* What the host has counted since it was made. */
-uint32_t zv_counters(zv_host *host, zv_counts *counters);
+uint32_t zv_counters(const zv_host *host, zv_counts *counters);
 
 /* Gives the memory of a socket of any kind back. Its number is no other's. A connection ends without a word to the remote:
  * close or abort it, and poll, before. One that a listener has stays. ZV_NO_SOCKET, ZV_IN_BACKLOG. */
@@ -259,7 +260,7 @@ uint32_t zv_socket_remove(zv_host *host, size_t socket);
 /* A pointer of the program's own at a socket of any kind, to find what belongs to the socket. Nothing is read behind it. A new socket has a null
  * pointer. ZV_NO_SOCKET. */
 uint32_t zv_socket_set_user(zv_host *host, size_t socket, void *user);
-uint32_t zv_socket_user(zv_host *host, size_t socket, void **user);
+uint32_t zv_socket_user(const zv_host *host, size_t socket, void **user);
 
 /* UDP. Each call with a socket may answer ZV_NO_SOCKET and ZV_WRONG_KIND. */
 
@@ -335,9 +336,10 @@ uint32_t zv_tcp_send(zv_host *host, size_t socket, const uint8_t *bytes, size_t 
  * open yet, or ended by a reset or a timeout). */
 uint32_t zv_tcp_recv(zv_host *host, size_t socket, uint8_t *bytes, size_t length, size_t *count);
 
-/* Lends the first waiting bytes, as many as lie behind one another: they stand where `bytes` points to until the next call with this
- * host, and may be read only. Where none wait, `bytes` isn't written. ZV_FINISHED, ZV_INVALID_STATE. */
-uint32_t zv_tcp_peek(zv_host *host, size_t socket, const uint8_t **bytes, size_t *count);
+/* Lends the first waiting bytes, as many as lie behind one another: they may be read only, and stand where `bytes` points to, also through
+ * polls, until bytes of this socket are read or given up, it is opened again, by a call or by its listener, or removed. Where none wait,
+ * `bytes` isn't written. ZV_FINISHED, ZV_INVALID_STATE. */
+uint32_t zv_tcp_peek(const zv_host *host, size_t socket, const uint8_t **bytes, size_t *count);
 
 /* Gives up the first waiting bytes, at most `wanted` and as many as lie behind one another, and says how many.
  * ZV_FINISHED, ZV_INVALID_STATE. */
@@ -351,8 +353,8 @@ uint32_t zv_tcp_skip(zv_host *host, size_t socket, size_t count);
  * written. ZV_INVALID_STATE (the connection isn't open yet, or its way out is closed). */
 uint32_t zv_tcp_reserve(zv_host *host, size_t socket, uint8_t **bytes, size_t *count);
 
-/* Queues the first so many bytes of the room, as they were written there since zv_tcp_reserve, which goes right before on this socket; of more
- * than were lent, none. ZV_TOO_LONG, ZV_INVALID_STATE. */
+/* Queues the first so many bytes of the room, as they were written there since zv_tcp_reserve; of more than were lent, none. Behind a poll or
+ * another call with this socket other bytes may stand there: reserve again. ZV_TOO_LONG, ZV_INVALID_STATE. */
 uint32_t zv_tcp_commit(zv_host *host, size_t socket, size_t count);
 
 /* Closes the way out: what is queued still goes, and then the end of the stream. The remote may still send. A socket that listens, or whose
@@ -364,19 +366,19 @@ uint32_t zv_tcp_close(zv_host *host, size_t socket);
 uint32_t zv_tcp_abort(zv_host *host, size_t socket);
 
 /* The state of the connection. */
-uint32_t zv_tcp_state(zv_host *host, size_t socket, uint8_t *state);
+uint32_t zv_tcp_state(const zv_host *host, size_t socket, uint8_t *state);
 
 /* Why the last connection ended, once the state is ZV_CLOSED: ZV_END_NONE before. */
-uint32_t zv_tcp_end_reason(zv_host *host, size_t socket, uint8_t *reason);
+uint32_t zv_tcp_end_reason(const zv_host *host, size_t socket, uint8_t *reason);
 
 /* The own endpoint of the connection and the remote's. ZV_INVALID_STATE (there is no connection). */
-uint32_t zv_tcp_peer(zv_host *host, size_t socket, zv_endpoint *local, zv_endpoint *remote);
+uint32_t zv_tcp_peer(const zv_host *host, size_t socket, zv_endpoint *local, zv_endpoint *remote);
 
 /* How many bytes wait to be read, and how many are queued that aren't acknowledged. */
-uint32_t zv_tcp_queues(zv_host *host, size_t socket, size_t *received, size_t *queued);
+uint32_t zv_tcp_queues(const zv_host *host, size_t socket, size_t *received, size_t *queued);
 
 /* How many bytes more can be queued: zv_tcp_send takes at most so many. */
-uint32_t zv_tcp_room(zv_host *host, size_t socket, size_t *room);
+uint32_t zv_tcp_room(const zv_host *host, size_t socket, size_t *room);
 
 /* SETTINGS of TCP. They stay as they are when the socket is opened again. */
 
@@ -538,7 +540,7 @@ uint32_t zv_dhcp_sent(zv_host *host, uint8_t sent);
 uint32_t zv_dhcp_poll(zv_host *host, int64_t now, zv_lease *lease);
 
 /* When the client has something to send: 0 for now, INT64_MAX for never. */
-uint32_t zv_dhcp_poll_at(zv_host *host, int64_t *at);
+uint32_t zv_dhcp_poll_at(const zv_host *host, int64_t *at);
 
 /* Begins a client of DNS in place of one that there was. It asks these servers in turn, up to one of family 0. ZV_BAD_ARGUMENT. */
 uint32_t zv_dns_new(zv_host *host, const zv_address *first, const zv_address *second, const zv_address *third);
@@ -563,7 +565,7 @@ uint32_t zv_dns_sent(zv_host *host, uint8_t sent);
 uint32_t zv_dns_result(zv_host *host, zv_addresses *addresses);
 
 /* When the client has something to send, INT64_MAX for never. */
-uint32_t zv_dns_poll_at(zv_host *host, int64_t *at);
+uint32_t zv_dns_poll_at(const zv_host *host, int64_t *at);
 
 /* Carries datagrams between the client of DHCP and a UDP socket that is bound to port 68 of all addresses, and says what happened. */
 static inline uint32_t zv_dhcp_turn(zv_host *host, size_t socket, int64_t now, zv_lease *lease)

@@ -51,10 +51,12 @@ fn lend_room(socket: &mut tcp::Socket, at: &mut *mut u8) -> Result<usize, Code>
 {
     match socket.send(|free| place_of(free)) {
         Ok(place) => {
-            if place.len != 0 {
-                *at = place.at.cast_mut();
+            let Place { at: first, len } = place;
+            let first = first.cast_mut();
+            if len != 0 {
+                *at = first;
             }
-            Ok(place.len)
+            Ok(len)
         }
         Err(error) => Err(of_stream_send(error)),
     }
