@@ -46,15 +46,15 @@ anchored_len r = elim (anchored-cases r) [
 
 pub committed : (v : TcpValue) (bytes rest : List ℕ) → takes_writes v.tcb.state ≡ true → (anchored v.queued).free ≡ bytes ++ rest
     → length bytes ≤ room_of v → commit_after (length bytes) v ≡ send_after v bytes
-committed v bytes rest open is fits =
+committed v bytes rest takes is fits =
     let r = anchored v.queued in let n = length bytes in
     let below : nat_le n (room_of v) ≡ true = is_below n (room_of v) fits in
     let room : n ≤ length v.queued.free = omega (arith, ap length is, length-append bytes rest, anchored_len v.queued) in
     let all : take (min n (length v.queued.free)) bytes ≡ bytes = ap (λ k. take k bytes) (min-eq_left room) ∙ take_all n bytes (omega arith) in
     let same : extended r n ≡ enqueued r bytes =
-        ap (λ ws. ring (r.queue ++ ws) (drop n r.free) r.start) (ap (take n) is ∙ take-append_seam bytes rest) in
-    ap (λ b. if b && nat_le n (room_of v) then sent_more v (extended r n) else reserve_after v) open
+    ap (λ ws. ring (r.queue ++ ws) (drop n r.free) r.start) (ap (take n) is ∙ take-append_seam bytes rest) in
+    ap (λ b. if b && nat_le n (room_of v) then sent_more v (extended r n) else reserve_after v) takes
     ∙ ap (λ b. if b then sent_more v (extended r n) else reserve_after v) below
     ∙ ap (sent_more v) same
     ∙ sym (ap (λ ws. sent_more v (enqueued r ws)) all)
-    ∙ sym (ap (λ b. if b then sent_more v (enqueued r (take (min n (length v.queued.free)) bytes)) else unoffered v) open)
+    ∙ sym (ap (λ b. if b then sent_more v (enqueued r (take (min n (length v.queued.free)) bytes)) else unoffered v) takes)

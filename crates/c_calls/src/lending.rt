@@ -45,6 +45,7 @@ pub fn reserve(sockets: &mut Slots, number: usize, at: &mut *mut u8) -> Result<u
     }
 }
 
+#[tactic(auto, using(crate::proofs::Commits::none_more, crate::proofs::Commits::same_room))]
 fn lend_room(socket: &mut tcp::Socket, at: &mut *mut u8) -> Result<usize, Code>
     ensures answer { result ≡ reserve_answer socket.old }
     ensures after { socket.new ≡ reserve_after socket.old }
@@ -73,6 +74,7 @@ pub fn commit(sockets: &mut Slots, number: usize, count: usize) -> Result<(), Co
     }
 }
 
+#[tactic(auto, using(crate::proofs::Commits::none_more, crate::proofs::Commits::same_room))]
 fn queue_lent(socket: &mut tcp::Socket, count: usize) -> Result<(), Code>
     ensures answer { result ≡ commit_answer count socket.old }
     ensures after { socket.new ≡ commit_after count socket.old }
