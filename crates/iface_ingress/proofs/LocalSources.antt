@@ -31,8 +31,7 @@ use Rattle.ip_wire.specs.TcpHeader.{TcpHeader}
 use Rattle.sockets.specs.TcpSegments.{rst_reply}
 use Rattle.socket_context.specs.Packet.{PacketValue, PayloadValue, ControlV4, ControlV6}
 use Rattle.iface_tables.specs.Best.{at_index}
-use Rattle.iface_tables.specs.Groups.{is_joined, is_of}
-use Rattle.iface_tables.specs.declared.groups.Group.{Group}
+use Rattle.iface_tables.specs.Groups.{GroupsValue, is_joined, is_of}
 use Rattle.iface_tables.specs.Inner.{InnerValue, is_address_of, is_local, is_for_us, is_member_of, is_local_broadcast, is_all_systems, is_all_nodes, is_loopback_in}
 use Rattle.iface_tables.specs.Inner.{solicits, solicits_cidr, is_local_solicited_node, is_probed}
 use Rattle.iface_tables.specs.Source.{source_v6, first_v4, is_v4, v4_address}
@@ -101,8 +100,8 @@ and_not false b is = refl
 and_not true b is = is
 
 -- what was joined is a group
-not_joined : (groups : List Group) (a : IpAddress) → is_multicast a ≡ false → is_joined groups a ≡ false
-not_joined groups a one = and_not (list_any (is_of a) groups) (is_multicast a) one
+not_joined : (groups : GroupsValue) (a : IpAddress) → is_multicast a ≡ false → is_joined groups a ≡ false
+not_joined groups a one = and_not (list_any (is_of a) groups.entries) (is_multicast a) one
 
 -- a group of the host's is a group
 no_member : (i : InnerValue) (a : IpAddress) → is_multicast a ≡ false → is_member_of i a ≡ false

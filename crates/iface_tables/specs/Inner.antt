@@ -23,13 +23,12 @@ use Rattle.socket_context.specs.Context.{ContextValue}
 use Rattle.socket_context.specs.Packet.{PacketValue}
 use Rattle.iface_tables.specs.ErrorLimit.{may_answer, answered_at}
 pub use Rattle.iface_tables.specs.Groups.{is_all_systems, is_all_nodes}
-use Rattle.iface_tables.specs.Groups.{is_joined}
+use Rattle.iface_tables.specs.Groups.{GroupsValue, is_joined}
 use Rattle.iface_tables.specs.Neighbor.{CacheValue, last_request, own_silence, lookup, is_found, filled, renewed, requested, silent_time, entry_lifetime}
 use Rattle.iface_tables.specs.Parking.{ParkingValue, parked_as, with_parked}
 use Rattle.iface_tables.specs.PathMtu.{mtu_towards, end_towards, lowered}
 use Rattle.iface_tables.specs.Route.{best_route, router_of}
 use Rattle.iface_tables.specs.Source.{source_for}
-use Rattle.iface_tables.specs.declared.groups.Group.{Group}
 use Rattle.iface_tables.specs.declared.link.LinkAddress.{LinkAddress}
 use Rattle.iface_tables.specs.declared.link.LinkAddress.TheVariants as Link
 use Rattle.iface_tables.specs.declared.neighbor.Answer.{Answer}
@@ -41,7 +40,7 @@ use Rattle.iface_tables.specs.declared.route.Route.{Route}
 -- The instant of the call that runs, or of the last one; the state of the random words; the hardware address, `Ip` on a medium
 -- that has none; the longest IP packet of a frame; the checksums that the stack handles itself; the key of 16 bytes by which first
 -- numbers of connections are told, if there is one; the local addresses, and whether every address is one; the multicast groups that were
--- joined; the routes, how many there can be, and the neighbours;
+-- joined, and how many may be; the routes, how many there can be, and the neighbours;
 -- the identification of the next IPv4 datagram; the instant up to which errors that went are counted; what was told of paths;
 -- whether nothing ran yet; whether it does what RFC 1122 and the standards after it ask of a host on a network of many, where smoltcp
 -- does otherwise; and then the packets that wait for their next hops.
@@ -54,7 +53,7 @@ pub record InnerValue : Type 0 where
   pub isn_key : Option (List ℕ)
   pub addresses : List IpCidr
   pub any_ip : Bool
-  pub groups : List Group
+  pub groups : GroupsValue
   pub routes : List Route
   pub route_room : ℕ
   pub neighbors : CacheValue

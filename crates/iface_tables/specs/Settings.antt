@@ -13,7 +13,7 @@ use Rattle.ip_wire.specs.HardwareAddress.{HardwareAddress}
 use Rattle.ip_wire.specs.HardwareAddress.TheVariants as Hardware
 use Rattle.ip_wire.specs.IpAddress.{IpAddress}
 use Rattle.ip_wire.specs.IpCidr.{IpCidr}
-use Rattle.iface_tables.specs.Groups.{join_refusal, joined, leave_refusal, left}
+use Rattle.iface_tables.specs.Groups.{group_room, no_groups, join_refusal, joined, leave_refusal, left}
 use Rattle.iface_tables.specs.Inner.{InnerValue}
 use Rattle.iface_tables.specs.Neighbor.{CacheValue, flushed}
 use Rattle.iface_tables.specs.Neighbor as Neighbors
@@ -41,11 +41,13 @@ default_config hardware =
       neighbor_cache_count = table_room;
       max_route_count = table_room;
       host_requirements = false;
+      multicast_reports = false;
+      max_group_count = group_room;
     }
 
--- the same on a network of many
+-- the same on a network of many, whose switches are told of the groups
 abbrev pub network_config : HardwareAddress → Config
-network_config hardware = record (default_config hardware) { neighbor_cache_count = 256; host_requirements = true }
+network_config hardware = record (default_config hardware) { neighbor_cache_count = 256; host_requirements = true; multicast_reports = true }
 
 abbrev pub is_of_medium : HardwareAddress → Medium → Bool
 is_of_medium Hardware.Ip Medium.Ethernet = false
@@ -93,7 +95,7 @@ made config device instant = record {
   isn_key = config.isn_key;
   addresses = [];
   any_ip = false;
-  groups = [];
+  groups = no_groups config.max_group_count;
   routes = [];
   route_room = config.max_route_count;
   neighbors = neighbors_for config.host_requirements (Neighbors.initial (Neighbors.cache_room config.neighbor_cache_count));

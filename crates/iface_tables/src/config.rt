@@ -7,6 +7,7 @@ ghost use Rattle.iface_tables.specs.Settings.{default_config, network_config, is
 ghost use Rattle.iface_tables.specs.Neighbor as Neighbors;
 ghost use Rattle.iface_tables.specs.Parking.{empty_parking, parking_size, room_for_many};
 
+use crate::groups::GROUP_ROOM;
 use crate::neighbor::Cache;
 use crate::parking::{PARKING_SIZE, Parking};
 use ip_wire::{HardwareAddress, IPV4_MIN_MTU};
@@ -39,10 +40,15 @@ pub struct Config {
     pub max_route_count: usize,
     /// Whether the host does what RFC 1122 and the standards after it ask of a host on a network of many, where smoltcp does otherwise.
     pub host_requirements: bool,
+    /// Whether routers and switches are told which multicast groups are listened to (RFC 3376, RFC 3810).
+    pub multicast_reports: bool,
+    /// How many multicast groups are joined at a time, at most `GROUP_ROOM`.
+    pub max_group_count: usize,
 }
 
 impl Config {
-    /// This hardware address, random words of the seed 0, no key, tables of four neighbours and four routes, and smoltcp's ways.
+    /// This hardware address, random words of the seed 0, no key, tables of four neighbours and four routes, smoltcp's ways, no reports of
+    /// multicast groups, and as many groups as there is room for.
     pub fn new(hardware_addr: HardwareAddress) -> Config
         ensures { result ≡ default_config hardware_addr }
     {
@@ -53,16 +59,19 @@ impl Config {
             neighbor_cache_count: TABLE_ROOM,
             max_route_count: TABLE_ROOM,
             host_requirements: false,
+            multicast_reports: false,
+            max_group_count: GROUP_ROOM,
         }
     }
 
-    /// The same, but for a network of many: with host requirements, and a table of 256 neighbours.
+    /// The same, but for a network of many: with host requirements, a table of 256 neighbours, and reports of multicast groups.
     pub fn with_host_requirements(hardware_addr: HardwareAddress) -> Config
         ensures { result ≡ network_config hardware_addr }
     {
         Config {
             neighbor_cache_count: NETWORK_NEIGHBORS,
             host_requirements: true,
+            multicast_reports: true,
             ..Config::new(hardware_addr)
         }
     }

@@ -1,10 +1,10 @@
 //! The multicast groups that a host listens to because its user joined them (RFC 1112, section 7.1).
-ghost use Rattle.std.specs.Prelude.{◌≡◌, ◌<◌, [], length, IfOk, IfErr};
+ghost use Rattle.std.specs.Prelude.{◌≡◌, ◌<◌, length, IfOk, IfErr};
 ghost use Rattle.std.specs.List.{list_any};
 ghost use Rattle.std.specs.Option.{ForSome};
 ghost use Rattle.std.specs.Prelude.{position};
 ghost use Rattle.iface_tables.specs.Settings.{unless};
-ghost use Rattle.iface_tables.specs.Groups.{group_room, is_all_systems, is_all_nodes, is_heard_by_all, is_of, is_joined, join_refusal, joined, leave_refusal, left};
+ghost use Rattle.iface_tables.specs.Groups.{group_room, no_groups, is_all_systems, is_all_nodes, is_heard_by_all, is_of, is_joined, join_refusal, joined, leave_refusal, left};
 
 use arrayvec::ArrayVec;
 use ip_wire::{IPV4_MULTICAST_ALL_SYSTEMS, IPV6_LINK_LOCAL_ALL_NODES, IpAddress, Ipv4Address};
@@ -49,24 +49,26 @@ impl Default for Group {
 #[derive(Debug, Drop)]
 pub struct Groups {
     entries: ArrayVec<Group, GROUP_ROOM>,
+    /// How many may be joined, if there is room for them.
+    most: usize,
 }
 
 impl Model for Groups {
-    ghost use Rattle.std.specs.Prelude.{List};
-    ghost use Rattle.iface_tables.specs.declared.groups.Group.{Group};
+    ghost use Rattle.iface_tables.specs.Groups.{GroupsValue};
 
-    ghost Value = { List Group };
+    ghost Value = { GroupsValue };
 
-    ghost view = { λ g. g.entries.items };
+    ghost view = { λ g. record { entries = g.entries.items; most = g.most } };
 }
 
 impl Groups {
-    /// No group was joined.
-    pub fn new() -> Groups
-        ensures { result ≡ [] }
+    /// No group was joined, and so many may be.
+    pub fn new(most: usize) -> Groups
+        ensures { result ≡ no_groups most }
     {
         Groups {
             entries: ArrayVec::new(),
+            most,
         }
     }
 
@@ -78,7 +80,7 @@ impl Groups {
     }
 
     fn names(&self, addr: &IpAddress) -> bool
-        ensures { result ≡ list_any (is_of addr.now) self.now }
+        ensures { result ≡ list_any (is_of addr.now) self.now.entries }
     {
         self.entries
             .as_slice()
@@ -98,7 +100,7 @@ impl Groups {
         if is_heard_by_all(&addr) || self.names(&addr) {
             return Ok(());
         }
-        if self.entries.is_full() {
+        if self.entries.is_full() || self.most <= self.entries.len() {
             return Err(MulticastError::GroupTableFull);
         }
         self.entries.push(Group { addr });

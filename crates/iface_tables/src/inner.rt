@@ -139,7 +139,7 @@ impl InterfaceInner {
             isn_key: config.isn_key,
             ip_addrs: ArrayVec::new(),
             any_ip: false,
-            groups: Groups::new(),
+            groups: Groups::new(config.max_group_count),
             routes,
             neighbor_cache,
             ipv4_id: if word == 0 { 1 } else { word },

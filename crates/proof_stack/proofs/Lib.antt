@@ -59,3 +59,4 @@ pub mod EventDays
 pub mod EventNow
 pub mod MovedOn
 pub mod AtEdges
+mod Duplicates

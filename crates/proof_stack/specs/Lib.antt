@@ -1,3 +1,4 @@
+pub mod Duplicates
 pub mod PeerHost
 pub mod Progress
 pub mod Worlds

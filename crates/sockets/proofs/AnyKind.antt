@@ -1,5 +1,6 @@
 -- The laws of a socket of any kind, from those of each kind.
-use Rattle.std.proofs.Common.{◌≡◌, ℕ, false, ℤ, List, Option, Some, None, is_some, if◌then◌else◌, IsSome, ◌↔◌, sym, ap, ◌∙◌}
+use Rattle.std.proofs.Common.{◌≡◌, ℕ, Bool, true, false, not, ◌&&◌, ℤ, List, Option, Some, None, is_some, if◌then◌else◌, IsSome, ◌↔◌, refl, sym, ap, ◌∙◌, subst}
+use Rattle.std.specs.Prelude.{nat_le}
 use Rattle.base_buffer.specs.Packets.{first}
 use Rattle.socket_context.specs.Context.{ContextValue}
 use Rattle.socket_context.specs.Offers.{IsBefore}
@@ -14,7 +15,13 @@ use Rattle.socket_datagram.specs.Offers.{HasPacket, OffersFirst, OffersBy, answe
 use Rattle.socket_datagram.specs.SocketValue as Datagrams
 use Rattle.socket_datagram.specs.SocketValue.{SocketValue}
 use Rattle.socket_datagram.proofs.OfferLaws as datagrams
+use Rattle.tcp_block.specs.Due.{poll_open, poll_with}
+use Rattle.tcp_block.specs.FourTuple.{FourTuple}
+use Rattle.tcp_block.specs.Moments.{is_due}
+use Rattle.tcp_block.specs.States.{is_closed}
 use Rattle.tcp_block.specs.Value.{TcpValue}
+use Rattle.tcp_block.proofs.Waits.{is_quiet}
+use Rattle.tcp_socket.specs.Socket.{times_out_after}
 use Rattle.socket_datagram.proofs.DhcpClient.OneMessage.{one_offered}
 use Rattle.socket_datagram.proofs.DhcpClient.Turns as Dhcps
 use Rattle.socket_datagram.specs.DhcpClient.Value.{DhcpValue}
@@ -157,3 +164,23 @@ module _ (raw : Settles Raws.RawValue (Datagrams.settled false) Raws.Offers) (ic
 
   pub settles : (cx : ContextValue) (s s' : Socket) (answer : Answer.Offer) → Offers cx (settled false s) answer s' ↔ Offers cx s answer s'
   settles cx s s' answer = (unclosed cx s s' answer, closed cx s s' answer)
+
+-- A TIMER THAT RUNS OUT MAKES A CONNECTION WANT TO BE POLLED
+
+and_last : (p c n d : Bool) → (p ≡ true → c ≡ false → d ≡ false) → (((p && not c) && n) && d) ≡ false
+and_last false c n d last = refl
+and_last true true n d last = refl
+and_last true false false d last = refl
+and_last true false true d last = last refl refl
+
+pub untimed : (count : ℕ) (cx : ContextValue) (v : TcpValue) → IsBefore cx.instant (poll_of cx (Kind.Tcp v)) → times_out_after count cx.instant v.tcb ≡ false
+untimed count cx v before =
+    and_last (is_some v.tcb.names.pair) (is_closed v.tcb.state) (nat_le count v.tcb.sender.timeouts) (is_due cx.instant v.tcb.timers.retransmit_at)
+    (λ paired live. by v.tcb.names.pair refl paired live) where
+      by : (o : Option FourTuple) → v.tcb.names.pair ≡ o → is_some v.tcb.names.pair ≡ true → is_closed v.tcb.state ≡ false →
+          is_due cx.instant v.tcb.timers.retransmit_at ≡ false
+      by None is paired live = absurd (let none = sym (ap is_some is) ∙ paired in cc)
+      by (Some pair) is paired live =
+          (is_quiet cx v pair
+          (subst (λ (closed : Bool). IsBefore cx.instant (if closed then (if v.tcb.sender.reset_due then At.Now else At.Ingress) else poll_open cx.ip_mtu v pair)) live
+          (subst (λ (o : Option FourTuple). IsBefore cx.instant (poll_with o cx.ip_mtu v)) is before))).retransmission

@@ -14,6 +14,7 @@ ghost use Rattle.socket_context.specs.declared.poll_at.PollAt.TheVariants as At;
 ghost use Rattle.sockets.specs.Idle.{is_idle, IsOfPorts};
 ghost use Rattle.tcp_block.specs.States.{is_listening};
 ghost use Rattle.tcp_block.specs.Value.{TcpValue};
+ghost use Rattle.tcp_socket.specs.Socket.{times_out_after};
 ghost use Rattle.sockets.specs.Keys.{key_of, of_clients, of_icmp, of_listeners, of_port, of_ports, of_raw};
 ghost use Rattle.socket_datagram.specs.Offers.{HasPacket, changed_by};
 ghost use Rattle.sockets.specs.Socket.{Offers, offered_by, settled, poll_of, IsSameButForSlots, IsOfDatagrams};
@@ -38,6 +39,13 @@ pub fn silence()
         → IsBefore cx.instant (poll_of cx s)
         → Offers cx s answer s'
         → (answer ≡ Offer.Silent false) × (s' ≡ settled false s) }
+{}
+
+/// Law: before a connection wants to be polled its retransmission timer doesn't run out.
+#[tactic(auto, using(crate::proofs::AnyKind::untimed))]
+pub fn no_timer_runs_out_before()
+    ensures { (count : ℕ) (cx : ContextValue) (v : TcpValue) → IsBefore cx.instant (poll_of cx (Kind.Tcp v))
+        → times_out_after count cx.instant v.tcb ≡ false }
 {}
 
 /// Law: an idle socket that is asked for a packet, at whatever instant, has none and stays as it is; nothing but an arrival makes it want

@@ -7,5 +7,6 @@ pub mod Idle
 pub mod Resets
 pub mod Drawing
 pub mod Holes
+pub mod SendMss
 pub mod Undone
 pub mod Una

@@ -7,10 +7,13 @@ use Rattle.ip_wire.specs.TcpHeader.{TcpHeader}
 use Rattle.tcp_state.specs.Context.{ContextValue}
 use Rattle.tcp_block.specs.declared.tcb.Tcb.{Tcb}
 use Rattle.tcp_block.specs.declared.tcb.Peer.{Peer}
+use Rattle.tcp_state.specs.declared.endpoints.AddressPair.{AddressPair}
+use Rattle.tcp_state.specs.declared.endpoints.AddressPair.TheVariants as Pair
+use Rattle.tcp_state.specs.declared.endpoints.FourTuple.{FourTuple}
 use Rattle.tcp_state.specs.declared.state.State.TheVariants as In
 use Rattle.tcp_block.specs.Acknowledged.{una_moved, or_number}
 use Rattle.tcp_block.specs.TcbRules.{initial_sender, no_number}
-use Rattle.tcp_state.specs.Controls.{is_syn, is_rst, or_mss, or_recent}
+use Rattle.tcp_state.specs.Controls.{is_syn, is_rst, or_recent}
 use Rattle.tcp_state.specs.Endpoints.{pair_in}
 use Rattle.tcp_state.specs.Isn.{isn, draws_number}
 use Rattle.tcp_state.specs.Offsets.{advanced_by}
@@ -21,14 +24,28 @@ use Rattle.tcp_block.specs.Timeout.{timeout_restarted}
 use Rattle.tcp_block.specs.Timestamps.{believed, tsecr_taken}
 use Rattle.tcp_block.specs.Value.{TcpValue, Arrived, with_tcb, dropped, answered_with, ended, queued_in}
 
+-- the largest payload that a remote takes which names none: what a packet that each host takes leaves (RFC 9293, 3.7.1, MUST-15)
+abbrev pub mss_over : AddressPair → ℕ
+mss_over (Pair.Ipv4 local remote) = 536
+mss_over (Pair.Ipv6 local remote) = 1220
+
+abbrev pub default_mss : Option FourTuple → ℕ
+default_mss None = 536
+default_mss (Some pair) = mss_over pair.addresses
+
+-- the largest payload that goes to a remote
+abbrev pub send_mss : Option FourTuple → Option ℕ → ℕ
+send_mss pair None = default_mss pair
+send_mss pair (Some mss) = mss
+
 -- what the remote's SYN says of it; its window field isn't shifted (RFC 7323, 2.2)
-abbrev pub peer_of : TcpHeader → Peer
-peer_of header = record {
+abbrev pub peer_of : Option FourTuple → TcpHeader → Peer
+peer_of pair header = record {
   window = header.window_len;
   largest_window = header.window_len;
   snd_wl1 = header.seq_number;
   snd_wl2 = or_number no_number header.ack_number;
-  mss = or_mss header.options.max_seg_size;
+  mss = send_mss pair header.options.max_seg_size;
   scale = header.options.window_scale;
   sack = header.options.sack_permitted;
   timestamps = is_some header.options.timestamp;
@@ -39,20 +56,23 @@ peer_of header = record {
 abbrev pub took_syn : Tcb → TcpHeader → Tcb
 took_syn b header = record b {
   receiver = record b.receiver { next = advanced_by header.seq_number 1; took_syn = true; last_ack = advanced_by header.seq_number 1 };
-  peer = peer_of header;
-  reno = with_mss b.reno (or_mss header.options.max_seg_size);
+  peer = peer_of b.names.pair header;
+  reno = with_mss b.reno (send_mss b.names.pair header.options.max_seg_size);
 }
 
 -- a SYN without ACK
 abbrev pub is_first_syn : TcpHeader → Bool
 is_first_syn header = is_syn header.control && not (is_some header.ack_number)
 
--- LISTEN takes a SYN: the connection has names, and its own initial sequence number is this
+-- the connection has names
+abbrev pub paired : Tcb → IpRepr → TcpHeader → Tcb
+paired b ip header = record b { names = record b.names { pair = Some (pair_in ip header) } }
+
+-- LISTEN takes a SYN: its own initial sequence number is this
 abbrev pub answering : Tcb → IpRepr → TcpHeader → ℕ → Tcb
 answering b ip header number =
-    record (took_syn b header) {
+    record (took_syn (paired b ip header) header) {
       state = In.SynReceived;
-      names = record b.names { pair = Some (pair_in ip header) };
       sender = initial_sender (record { 0 = number }) true;
     }
 

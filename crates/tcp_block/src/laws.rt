@@ -1,14 +1,19 @@
 //! Laws of the rules.
 
 ghost use Rattle.std.specs.Prelude.{◌≡◌, ◌+◌, ◌^◌, ◌≤◌, ℕ, true, false};
+ghost use Rattle.ip_wire.specs.Ipv4Address.{Ipv4Address};
+ghost use Rattle.ip_wire.specs.Ipv6Address.{Ipv6Address};
 ghost use Rattle.ip_wire.specs.SeqNumber.{SeqNumber};
 ghost use Rattle.tcp_state.specs.Context.{ContextValue};
 ghost use Rattle.tcp_state.specs.Offers.{IsBefore, offered_as};
 ghost use Rattle.tcp_state.specs.Offer.TheVariants as Answer;
 ghost use Rattle.tcp_ranges.specs.Numbers.{wire, nearest};
+ghost use Rattle.tcp_state.specs.Endpoints.{ip_header_len};
+ghost use Rattle.tcp_state.specs.declared.endpoints.AddressPair.TheVariants as Pair;
 ghost use Rattle.tcp_state.specs.declared.endpoints.FourTuple.{FourTuple};
 ghost use Rattle.tcp_block.specs.Due.{poll_open, poll_of};
 ghost use Rattle.tcp_block.specs.Offers.{offer_of};
+ghost use Rattle.tcp_block.specs.Opening.{mss_over};
 ghost use Rattle.tcp_state.specs.Offsets.{distance_after, distance_before};
 ghost use Rattle.tcp_block.specs.Quiet.{IsQuiet};
 ghost use Rattle.tcp_block.specs.Settled.{settled};
@@ -45,4 +50,11 @@ pub fn no_rule_applies_before_the_due_instant()
 pub fn offsets_are_positions()
     ensures positions { (r : ℕ) (reference number : SeqNumber) → 2 ^ 31 ≤ r → reference.0 ≡ wire r
         → nearest r number.0 + distance_before reference number ≡ r + distance_after reference number }
+{}
+
+/// A remote that names no segment size takes what its headers leave of a packet that each host takes: of 576 bytes over IPv4 and of 1,280 over
+/// IPv6 (RFC 9293, 3.7.1).
+pub fn no_default_segment_is_longer_than_each_host_takes()
+    ensures v4 { (local remote : Ipv4Address) → mss_over (Pair.Ipv4 local remote) + (ip_header_len (Pair.Ipv4 local remote) + 20) ≡ 576 }
+    ensures v6 { (local remote : Ipv6Address) → mss_over (Pair.Ipv6 local remote) + (ip_header_len (Pair.Ipv6 local remote) + 20) ≡ 1280 }
 {}

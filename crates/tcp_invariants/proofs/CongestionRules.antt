@@ -10,7 +10,6 @@ use Rattle.ip_wire.specs.TcpHeader.{TcpHeader}
 use Rattle.net_base.specs.Ring.{Ring, anchored, enqueued}
 use Rattle.tcp_block.specs.Context.{ContextValue}
 use Rattle.tcp_block.specs.BaseOffers.{Offered}
-use Rattle.tcp_state.specs.Controls.{or_mss}
 use Rattle.tcp_state.specs.Moments.{is_due, is_over, timeout_from}
 use Rattle.tcp_state.specs.Reno as reno
 use Rattle.tcp_state.specs.Reno.{RenoValue}
@@ -29,7 +28,7 @@ use Rattle.tcp_block.specs.TcbRules.{one_if, initial_window}
 use Rattle.tcp_block.specs.Calls.{listening, connected_by, four_tuple_for, sent_more}
 use Rattle.tcp_block.specs.Checks.{falls_back}
 use Rattle.tcp_block.specs.Offers.{offer_of}
-use Rattle.tcp_block.specs.Opening.{took_syn}
+use Rattle.tcp_block.specs.Opening.{send_mss, took_syn}
 use Rattle.tcp_block.specs.LossRecovery.{is_lost_again, loss_probed, probes_tail}
 use Rattle.tcp_block.specs.Retries.{asked, one_more}
 use Rattle.tcp_block.specs.Rules.{backed_off_now}
@@ -323,7 +322,7 @@ module _ (cx : ContextValue) (ip : IpRepr) (header : TcpHeader) (bytes : List �
         let quiet = no_timeout u h (is_syn_unacked u p (ap (λ (s : State). is_opening s || is_answering s) at)) in
         record {
           window = λ e.
-              clash (sym e ∙ quiet_acked (reno.with_mss u.tcb.reno (or_mss header.options.max_seg_size))
+              clash (sym e ∙ quiet_acked (reno.with_mss u.tcb.reno (send_mss u.tcb.names.pair header.options.max_seg_size))
               (took_syn u.tcb header).peer.sack u.tcb.sender.syn_unacked u.tcb.sender.syn_lost 1
               0 u.tcb.sender.recover cx.instant (srtt_after (tsecr_taken (took_syn u.tcb header) header 1 cx.instant) 1 cx.instant)
               (is_used (took_syn u.tcb header)) quiet);

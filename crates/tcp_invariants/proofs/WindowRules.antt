@@ -8,7 +8,6 @@ use Rattle.ip_wire.specs.TcpHeader.{TcpHeader}
 use Rattle.net_base.specs.Ring.{Ring, anchored, enqueued}
 use Rattle.tcp_block.specs.Context.{ContextValue}
 use Rattle.tcp_block.specs.BaseOffers.{Offered}
-use Rattle.tcp_state.specs.Controls.{or_mss}
 use Rattle.tcp_state.specs.Moments.{is_due, is_over, timeout_from}
 use Rattle.tcp_state.specs.Reno as reno
 use Rattle.tcp_state.specs.Reno.{RenoValue}
@@ -33,7 +32,7 @@ use Rattle.tcp_block.specs.Isn.{number_for}
 use Rattle.tcp_block.specs.LossRecovery.{all_noted, heard_more, is_lost_again, loss_lowered, loss_probed, probe_armed, probe_from, probes_losses, probes_tail}
 use Rattle.tcp_block.specs.LossRecovery.{ranges_noted, with_board, loss_deadline, loss_probe_deadline}
 use Rattle.tcp_block.specs.Offers.{offer_of}
-use Rattle.tcp_block.specs.Opening.{took_syn}
+use Rattle.tcp_block.specs.Opening.{paired, send_mss, took_syn}
 use Rattle.tcp_block.specs.Retries.{asked, one_more}
 use Rattle.tcp_block.specs.Rules.{backed_off_now}
 use Rattle.tcp_block.specs.Settled.{end_of, nxt_moved, probed, recorded, resent, sent_as, sent_off, syn_was_sent, timer_started, was_sent}
@@ -384,14 +383,14 @@ module _ (cx : ContextValue) (ip : IpRepr) (header : TcpHeader) (bytes : List �
 
   -- the remote's SYN names the size of a segment
   named_fair : (b : Tcb) (syn : Bool) → syn ≡ true → FairIn b → begins b.state ≡ true
-      → Fair (not syn) (runs_cubic b.settings.congestion_control) (or_mss header.options.max_seg_size) (took_syn b header).reno
+      → Fair (not syn) (runs_cubic b.settings.congestion_control) (send_mss b.names.pair header.options.max_seg_size) (took_syn b header).reno
   named_fair b syn unacked w early =
       let start = w.initial early in
       record {
         least = λ e. clash (sym e ∙ ap not unacked);
-        most = below b.reno.cwnd (or_mss header.options.max_seg_size) start.0;
-        two = two b.reno.ssthresh (or_mss header.options.max_seg_size) start.1.0;
-        snd_max = snd_max b.reno.ssthresh (or_mss header.options.max_seg_size) start.1.0;
+        most = below b.reno.cwnd (send_mss b.names.pair header.options.max_seg_size) start.0;
+        two = two b.reno.ssthresh (send_mss b.names.pair header.options.max_seg_size) start.1.0;
+        snd_max = snd_max b.reno.ssthresh (send_mss b.names.pair header.options.max_seg_size) start.1.0;
         runs = w.reno.runs;
       }
     where
@@ -411,14 +410,14 @@ module _ (cx : ContextValue) (ip : IpRepr) (header : TcpHeader) (bytes : List �
   fair_opening u p w = record {
     opens = λ at _.
         let early = ap begins at in
-        later _ refl (named_fair u.tcb true refl w early) (no_undo u.tcb.loss.undo true u.tcb.settings.congestion_control _ (w.initial early).1.1.0);
+        later _ refl (named_fair (paired u.tcb ip header) true refl w early) (no_undo u.tcb.loss.undo true u.tcb.settings.congestion_control _ (w.initial early).1.1.0);
     refuses = w;
     ends = λ _. later _ refl w.reno w.undo;
     connects = λ at _.
         let early = ap begins at in
         let b = tsecr_taken (took_syn u.tcb header) header 1 cx.instant in
         let named = named_fair u.tcb u.tcb.sender.syn_unacked (unacked_yet u p at) w early in
-        let kept = no_undo u.tcb.loss.undo u.tcb.sender.syn_unacked u.tcb.settings.congestion_control (or_mss header.options.max_seg_size)
+        let kept = no_undo u.tcb.loss.undo u.tcb.sender.syn_unacked u.tcb.settings.congestion_control (send_mss u.tcb.names.pair header.options.max_seg_size)
         (w.initial early).1.1.0 in
         let it = acked_tcb b 1 0 cx.instant named kept in
         record { reno = it.reno; undo = it.undo; initial = λ e. clash (sym e) };

@@ -187,6 +187,9 @@ pub offer_of_pair_initial :
 offer_of_pair_initial p side instant o r d asked offered =
     offer_initial p side instant o r d (le_of (at p.sides side).instant instant (comes_later (at p.sides side).instant instant asked)) offered
 
+itself : (a : ℤ) → a ≤ℤ a
+itself a = grind arith
+
 -- what answers a segment goes at the last instant
 pub answer_initial :
     (p : PairValue) (side : Side) (ip : IpRepr) (header : TcpHeader) (bytes : List ℕ) (reply : Reply) → IsReached p
@@ -202,9 +205,6 @@ answer_initial p side ip header bytes reply r d answer =
   where
     now : ℤ
     now = (at p.sides (other side)).instant
-
-    itself : (a : ℤ) → a ≤ℤ a
-    itself a = grind arith
 
     w : Way d.since (at p.sides (other side)) (at p.sides side) (at (pasts p.history) (other side)).opening
     w =

@@ -11,7 +11,8 @@ use Rattle.tcp_refinement.specs.Context.{ContextValue}
 use Rattle.tcp_refinement.specs.Offers.{Offered}
 use Rattle.tcp_state.specs.Cubic as cubic
 use Rattle.tcp_state.specs.Cubic.{CubicValue}
-use Rattle.tcp_block.specs.Opening.{took_syn}
+use Rattle.tcp_block.proofs.SendMss.{some_default}
+use Rattle.tcp_block.specs.Opening.{paired, send_mss, took_syn}
 use Rattle.tcp_block.specs.Reno as reno
 use Rattle.tcp_block.specs.Reno.{RenoValue}
 use Rattle.tcp_block.specs.Undo.{undo_begun, undo_marked, undo_sent, window_kept}
@@ -19,9 +20,9 @@ use Rattle.tcp_block.specs.declared.tcb.CongestionControl.{CongestionControl}
 use Rattle.tcp_block.specs.declared.tcb.Loss.{Loss}
 use Rattle.tcp_block.specs.declared.tcb.Undo.{Undo}
 use Rattle.tcp_block.proofs.Undone.{undone_cases}
-use Rattle.tcp_invariants.specs.Controls.{is_syn, is_zero, or_mss}
+use Rattle.tcp_invariants.specs.Controls.{is_syn, is_zero}
 use Rattle.tcp_invariants.specs.FourTuple.{FourTuple}
-use Rattle.tcp_invariants.specs.Endpoints.{header_for}
+use Rattle.tcp_invariants.specs.Endpoints.{header_for, pair_in}
 use Rattle.tcp_invariants.specs.Events.{Event, after}
 use Rattle.tcp_invariants.specs.Events.Event.{Comes, Asked, Listens, Connects, Sends, Reads, Closes, Aborts, Sets}
 use Rattle.tcp_invariants.specs.Events.Setting.{Timeout, KeepAlive, AckDelay, Nagle, HopLimit, Timestamps, Paused, Retries, Congestion, MinRto, FineTimer}
@@ -385,34 +386,34 @@ module _ (cx : ContextValue) (ip : IpRepr) (header : TcpHeader) (bytes : List �
   and_first false b e = e
 
   -- a SYN that names no segment size of 0
-  mss_some : is_void_syn header ≡ false → is_syn header.control ≡ true → 1 ≤ or_mss header.options.max_seg_size
-  mss_some full syn = by header.options.max_seg_size (sym (ap (λ (t : Bool). t && is_zero header.options.max_seg_size) syn) ∙ full) where
+  mss_some : (pair : Option FourTuple) → is_void_syn header ≡ false → is_syn header.control ≡ true → 1 ≤ send_mss pair header.options.max_seg_size
+  mss_some pair full syn = by header.options.max_seg_size (sym (ap (λ (t : Bool). t && is_zero header.options.max_seg_size) syn) ∙ full) where
     some : (n : ℕ) → (n == 0) ≡ false → 1 ≤ n
     some zero e = clash e
     some (suc n) e = omega arith
 
-    by : (mss : Option ℕ) → is_zero mss ≡ false → 1 ≤ or_mss mss
-    by None e = omega arith
+    by : (mss : Option ℕ) → is_zero mss ≡ false → 1 ≤ send_mss pair mss
+    by None e = some_default pair
     by (Some n) e = some n e
 
-  took_wide : (b : Tcb) → 1 ≤ or_mss header.options.max_seg_size → Wide b → Wide (took_syn b header)
-  took_wide b some w = record { reno = wide_mss b.reno (or_mss header.options.max_seg_size) some w.reno; undo = w.undo; peer = some }
+  took_wide : (b : Tcb) → 1 ≤ send_mss b.names.pair header.options.max_seg_size → Wide b → Wide (took_syn b header)
+  took_wide b some w = record { reno = wide_mss b.reno (send_mss b.names.pair header.options.max_seg_size) some w.reno; undo = w.undo; peer = some }
 
   wide_opening : (u : TcpValue) → is_void_syn header ≡ false → Wide u.tcb → Opening cx ip header bytes WideAfter u
   wide_opening u full w = record {
     opens = λ _ first.
-        let taken = took_wide u.tcb (mss_some full (and_first (is_syn header.control) (not (is_some header.ack_number)) first)) w in
+        let taken = took_wide (paired u.tcb ip header) (mss_some (Some (pair_in ip header)) full (and_first (is_syn header.control) (not (is_some header.ack_number)) first)) w in
         record { reno = taken.reno; undo = taken.undo; peer = taken.peer };
     refuses = w;
     ends = λ _. w;
     connects = λ _ syn.
-        let taken = took_wide u.tcb (mss_some full syn) w in
+        let taken = took_wide u.tcb (mss_some u.tcb.names.pair full syn) w in
         let it =
         acked_wide (tsecr_taken (took_syn u.tcb header) header 1 cx.instant) 1 0 cx.instant
         (record { reno = taken.reno; undo = taken.undo; peer = taken.peer }) in
         record { reno = it.reno; undo = it.undo; peer = it.peer };
     crosses = λ _ syn.
-        let taken = took_wide u.tcb (mss_some full syn) w in record { reno = taken.reno; undo = taken.undo; peer = taken.peer };
+        let taken = took_wide u.tcb (mss_some u.tcb.names.pair full syn) w in record { reno = taken.reno; undo = taken.undo; peer = taken.peer };
   }
 
   wide_arrival : (v : TcpValue) → Wide v.tcb → WideAfter (arrives cx v ip header bytes)

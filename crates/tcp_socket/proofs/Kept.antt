@@ -7,8 +7,11 @@ use Rattle.ip_wire.specs.IpRepr.{IpRepr}
 use Rattle.ip_wire.specs.TcpHeader.{TcpHeader}
 use Rattle.tcp_block.specs.Acknowledged.{una_moved, in_state, ended_if, tcb_acknowledged, state_after_ack, names_window, windowed, window_set, ranges_taken}
 use Rattle.tcp_block.specs.Acknowledged.{counted}
-use Rattle.tcp_block.specs.Controls.{is_syn, is_zero, or_mss}
-use Rattle.tcp_block.specs.Opening.{is_first_syn, answering, connected, crossed, syn_answered}
+use Rattle.tcp_block.specs.Controls.{is_syn, is_zero}
+use Rattle.tcp_block.specs.Endpoints.{pair_in}
+use Rattle.tcp_block.specs.FourTuple.{FourTuple}
+use Rattle.tcp_block.proofs.SendMss.{some_default}
+use Rattle.tcp_block.specs.Opening.{send_mss, is_first_syn, answering, connected, crossed, syn_answered}
 use Rattle.tcp_block.specs.States.{is_closed}
 use Rattle.tcp_block.specs.Payload.{with_fin, fin_taken, takes_fin}
 use Rattle.tcp_block.specs.Timestamps.{believed}
@@ -70,11 +73,11 @@ pub sized_syn : (syn zero_mss : Bool) → (syn && zero_mss) ≡ false → syn �
 sized_syn true zero_mss sized is = sized
 sized_syn false zero_mss sized is = absurd (cc)
 
-pub sized_mss : (mss : Option ℕ) → is_zero mss ≡ false → 1 ≤ or_mss mss
-sized_mss None is = omega arith
-sized_mss (Some n) is = grind (arith, nat_tests, is)
+pub sized_mss : (pair : Option FourTuple) (mss : Option ℕ) → is_zero mss ≡ false → 1 ≤ send_mss pair mss
+sized_mss pair None is = some_default pair
+sized_mss pair (Some n) is = grind (arith, nat_tests, is)
 
-answered_mss : (t : Bool) (b : Tcb) (header : TcpHeader) (now : ℤ) → 1 ≤ or_mss header.options.max_seg_size →
+answered_mss : (t : Bool) (b : Tcb) (header : TcpHeader) (now : ℤ) → 1 ≤ send_mss b.names.pair header.options.max_seg_size →
     1 ≤ (if t then connected b header now else crossed b header).peer.mss
 answered_mss true b header now some = some
 answered_mss false b header now some = some
@@ -86,12 +89,12 @@ first_syn header is = both (is_syn header.control) (is_some header.ack_number) i
   both true some is = refl
   both false some is = absurd (cc)
 
-pub kept_opening : (b : Tcb) (ip : IpRepr) (header : TcpHeader) (number : ℕ) (now : ℤ) → IsMoment now → 1 ≤ or_mss header.options.max_seg_size
+pub kept_opening : (b : Tcb) (ip : IpRepr) (header : TcpHeader) (number : ℕ) (now : ℤ) → IsMoment now → 1 ≤ send_mss (Some (pair_in ip header)) header.options.max_seg_size
     → IsTcb (timeout_restarted (believed (answering b ip header number) now) now 0)
 kept_opening b ip header number now instant some = kept_timeout (believed (answering b ip header number) now) now 0 instant some
 
 -- SYN-SENT takes a SYN
-pub kept_answer : (b : Tcb) (header : TcpHeader) (now : ℤ) (queued : ℕ) → IsMoment now → 1 ≤ or_mss header.options.max_seg_size
+pub kept_answer : (b : Tcb) (header : TcpHeader) (now : ℤ) (queued : ℕ) → IsMoment now → 1 ≤ send_mss b.names.pair header.options.max_seg_size
     → IsTcb (timeout_restarted (syn_answered b header now) now queued)
 kept_answer b header now queued instant some =
     kept_timeout (syn_answered b header now) now queued instant (answered_mss (is_some header.ack_number) b header now some)

@@ -1,13 +1,14 @@
 -- What holds of each socket, and what its getters give.
-use Rattle.std.specs.Prelude.{ℕ, ◌≤◌, nat_le, nat_lt, ◌==◌, ◌&&◌, Bool, length, true, false, Option, Some, None, IfSome, Result, Ok, Err}
+use Rattle.std.specs.Prelude.{ℕ, ℤ, ◌≤◌, nat_le, nat_lt, ◌==◌, not, ◌&&◌, Bool, length, true, false, Option, Some, None, is_some, IfSome, Result, Ok, Err}
 use Rattle.net_base.specs.Ring.{Ring}
 use Rattle.net_base.specs.Time.{IsMoment}
 use Rattle.ip_wire.specs.AddressTests.{is_same_address}
 use Rattle.ip_wire.specs.IpEndpoint.{IpEndpoint}
 use Rattle.ip_wire.specs.SeqNumber.{SeqNumber}
 use Rattle.tcp_block.specs.Endpoints.{local_of, remote_of}
+use Rattle.tcp_block.specs.Moments.{is_due}
 use Rattle.tcp_block.specs.Offsets.{distance_before, distance_after}
-use Rattle.tcp_block.specs.States.{takes_writes}
+use Rattle.tcp_block.specs.States.{is_closed, takes_writes}
 use Rattle.tcp_block.specs.Unsettled.{EndsNear}
 use Rattle.tcp_block.specs.Value.{TcpValue}
 use Rattle.tcp_socket.specs.Receive.{FitsBuffer}
@@ -54,6 +55,11 @@ is_unacked_at b number = (distance_before b.sender.una number == 0) && nat_lt (d
 -- such a segment of a connection between these endpoints
 abbrev pub has_sent : Tcb → (local remote : IpEndpoint) → SeqNumber → Bool
 has_sent b local remote number = is_pair b.names.pair local remote && is_unacked_at b number
+
+-- the retransmission timer of a connection has run out by an instant, after it did so many times with nothing acknowledged since
+abbrev pub times_out_after : ℕ → ℤ → Tcb → Bool
+times_out_after count now b =
+    ((is_some b.names.pair && not (is_closed b.state)) && nat_le count b.sender.timeouts) && is_due now b.timers.retransmit_at
 
 -- whether the user may send, as an answer
 abbrev pub if_open : Bool → Result (Unit {0}) SendError

@@ -5,13 +5,15 @@ ghost use Rattle.tcp_block.specs.Probing.{probe_deadline};
 ghost use Rattle.tcp_block.specs.States.{takes_writes, is_listening};
 ghost use Rattle.tcp_block.specs.Settings.{is_open, is_active, can_send, can_recv, may_recv};
 ghost use Rattle.tcp_block.specs.Value.{room_of, queued_in};
-ghost use Rattle.tcp_socket.specs.Socket.{local_in, remote_in, is_pair, is_unacked_at, has_sent};
+ghost use Rattle.tcp_socket.specs.Socket.{local_in, remote_in, is_pair, is_unacked_at, has_sent, times_out_after};
 
 use crate::Socket;
 use ip_wire::{IpEndpoint, IpListenEndpoint, SeqNumber};
 use net_base::{Duration, Instant};
 use socket_context::addresses::is_same_address;
-use tcp_block::{CongestionControl, FourTuple, State, Tcb, distance_after, distance_before};
+use tcp_block::{
+    CongestionControl, FourTuple, State, Tcb, distance_after, distance_before, is_due,
+};
 
 impl Socket {
     /// The state of the connection.
@@ -126,6 +128,23 @@ impl Socket {
         ensures { result ≡ self.now.tcb.timers.retransmit_at }
     {
         self.tcb.timers.retransmit_at
+    }
+
+    /// Whether the retransmission timer of a connection has run out by now, after it did so many times with nothing acknowledged since.
+    pub fn times_out_after(&self, count: u8, now: Instant) -> bool
+        ensures { result ≡ times_out_after count now self.now.tcb }
+    {
+        self.tcb.names.pair.is_some()
+            && !self.tcb.state.is_closed()
+            && count <= self.tcb.sender.timeouts
+            && is_due(now, self.tcb.timers.retransmit_at)
+    }
+
+    /// How many sequence numbers are in flight.
+    pub fn flight_size(&self) -> u32
+        ensures { result ≡ self.now.tcb.sender.flight_size }
+    {
+        self.tcb.sender.flight_size
     }
 
     /// The instant at which what is queued goes though a closed or small window holds it back, if one does and

@@ -24,8 +24,11 @@ const RETRIES: u8 = 16;
 /// The least retransmission timeout, if no other is set, in microseconds.
 const MIN_RTO: u64 = 1_000_000;
 
-/// The largest payload that a remote takes that names none.
+/// The largest payload that a remote takes over IPv4 that names none.
 pub const DEFAULT_MSS: u16 = 536;
+
+/// And over IPv6.
+pub const DEFAULT_MSS_V6: u16 = 1220;
 
 impl Names {
     /// No names.

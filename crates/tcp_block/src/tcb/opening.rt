@@ -2,13 +2,13 @@
 ghost use Rattle.std.specs.Prelude.{◌≡◌, ◌≤◌, ◌^◌, ◌==◌, ◌&&◌, not, false};
 ghost use Rattle.net_base.specs.Time.{IsMoment};
 ghost use Rattle.tcp_state.specs.Controls.{is_syn, is_fin, is_rst, or_mss, is_zero, or_recent};
-ghost use Rattle.tcp_block.specs.Opening.{peer_of, took_syn, is_first_syn, answering, acks_syn, connected, crossed, syn_answered};
+ghost use Rattle.tcp_block.specs.Opening.{default_mss, send_mss, paired, peer_of, took_syn, is_first_syn, answering, acks_syn, connected, crossed, syn_answered};
 ghost use Rattle.tcp_block.specs.Arrival.{is_void_syn};
 ghost use Rattle.tcp_block.specs.Segments.{has_length};
 
 use super::acknowledged::or_number;
-use super::initial::DEFAULT_MSS;
-use crate::{FourTuple, Peer, Sender, State, Tcb};
+use super::initial::{DEFAULT_MSS, DEFAULT_MSS_V6};
+use crate::{AddressPair, FourTuple, Peer, Sender, State, Tcb};
 use ip_wire::{IpRepr, SeqNumber, TcpControl, TcpHeader, TcpTimestampRepr};
 use net_base::Instant;
 use tcp_state::controls::{is_fin, is_rst, is_syn};
@@ -54,6 +54,29 @@ pub fn or_mss(mss: Option<u16>) -> u16
     }
 }
 
+/// The largest payload that a remote takes which names none.
+fn default_mss(pair: Option<FourTuple>) -> u16
+    ensures { result ≡ default_mss pair }
+{
+    match pair {
+        None => DEFAULT_MSS,
+        Some(pair) => match pair.addresses {
+            AddressPair::Ipv4 { .. } => DEFAULT_MSS,
+            AddressPair::Ipv6 { .. } => DEFAULT_MSS_V6,
+        },
+    }
+}
+
+/// The largest payload that goes to a remote.
+fn send_mss(pair: Option<FourTuple>, mss: Option<u16>) -> u16
+    ensures { result ≡ send_mss pair mss }
+{
+    match mss {
+        None => default_mss(pair),
+        Some(mss) => mss,
+    }
+}
+
 /// The timestamp that came last.
 pub fn or_recent(tsval: Option<TcpTimestampRepr>, recent: u32) -> u32
     ensures { result ≡ or_recent tsval recent }
@@ -66,15 +89,15 @@ pub fn or_recent(tsval: Option<TcpTimestampRepr>, recent: u32) -> u32
 
 impl Peer {
     /// What the remote's SYN says of it.
-    fn of_syn(header: &TcpHeader) -> Peer
-        ensures { result ≡ peer_of header.now }
+    fn of_syn(pair: Option<FourTuple>, header: &TcpHeader) -> Peer
+        ensures { result ≡ peer_of pair header.now }
     {
         Peer {
             window: header.window_len as u32,
             largest_window: header.window_len as u32,
             snd_wl1: header.seq_number,
             snd_wl2: or_number(SeqNumber(0), header.ack_number),
-            mss: or_mss(header.options.max_seg_size),
+            mss: send_mss(pair, header.options.max_seg_size),
             scale: header.options.window_scale,
             sack: header.options.sack_permitted,
             timestamps: header.options.timestamp.is_some(),
@@ -92,7 +115,7 @@ impl Tcb {
         self.receiver.next = advanced_by(header.seq_number, 1);
         self.receiver.took_syn = true;
         self.receiver.last_ack = self.receiver.next;
-        self.peer = Peer::of_syn(header);
+        self.peer = Peer::of_syn(self.names.pair, header);
         self.reno.set_mss(self.peer.mss);
     }
 
@@ -101,9 +124,9 @@ impl Tcb {
         requires { is_zero header.now.options.max_seg_size ≡ false }
         ensures { self.new ≡ answering self.old ip_repr.now header.now number }
     {
+        self.names.pair = Some(FourTuple::of_segment(ip_repr, header));
         self.on_syn(header);
         self.state = State::SynReceived;
-        self.names.pair = Some(FourTuple::of_segment(ip_repr, header));
         self.sender = Sender::new(SeqNumber(number), true);
     }
 

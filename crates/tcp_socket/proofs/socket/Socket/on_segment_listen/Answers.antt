@@ -1,4 +1,4 @@
-use Rattle.std.proofs.Common.{◌≡◌, ◌∙◌, ℕ, ℤ, Bool, true, false, None, if◌then◌else◌, refl, ap, sym}
+use Rattle.std.proofs.Common.{◌≡◌, ◌∙◌, ℕ, ℤ, Bool, true, false, Some, None, if◌then◌else◌, refl, ap, sym}
 use Rattle.tcp_block.specs.Endpoints.{pair_in}
 use Rattle.tcp_block.specs.Isn.{isn, draws_number}
 use Rattle.tcp_block.specs.Controls.{is_syn, is_zero}
@@ -23,7 +23,7 @@ invariant_of-self g c =
         c.refresh_recent.ensures,
         c.answer_syn.ensures,
       ) (kept_opening c.self.inside.tcb i.ip_repr.now i.header.now c.isn-number.result c.now-now.result c.now-now.ensures.instant
-          (sized_mss i.header.now.options.max_seg_size sized));
+          (sized_mss (Some (pair_in i.ip_repr.now i.header.now)) i.header.now.options.max_seg_size sized));
       unsettled = none_open c.self.inside.offered c.restart_timeout.new.self none;
     }
 

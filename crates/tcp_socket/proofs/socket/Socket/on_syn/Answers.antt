@@ -13,7 +13,7 @@ invariant_of-self c =
       tcb = rw (
         c.restart_timeout.ensures,
         c.on_segment_syn_sent.ensures,
-      ) (kept_answer c.self.inside.tcb header c.args.now c.len.result c.requires.instant (sized_mss header.options.max_seg_size c.requires.sized));
+      ) (kept_answer c.self.inside.tcb header c.args.now c.len.result c.requires.instant (sized_mss c.self.inside.tcb.names.pair header.options.max_seg_size c.requires.sized));
       unsettled = none_open c.self.inside.offered c.restart_timeout.new.self none;
     }
 
