@@ -371,26 +371,6 @@ static void set_up(void)
 
 /* SOCKETS */
 
-/* A port that another socket has, at any address or at the same. */
-static void taken_ports(void)
-{
-    size_t other, third;
-    WANT(zv_udp_new(&one, 1, 64, &other), ZV_OK);
-    WANT(zv_udp_new(&one, 1, 64, &third), ZV_OK);
-    WANT(zv_udp_bind(&one, other, &any, 5000), ZV_ADDRESS_IN_USE);
-    WANT(zv_udp_bind(&one, other, &first, 5000), ZV_ADDRESS_IN_USE);
-    WANT(zv_udp_bind(&one, NOWHERE, &any, 5000), ZV_NO_SOCKET);
-    WANT(zv_udp_bind(&one, other, &first, 5002), ZV_OK);
-    WANT(zv_udp_bind(&one, third, &first, 5002), ZV_ADDRESS_IN_USE);
-    WANT(zv_udp_bind(&one, third, &any, 5002), ZV_ADDRESS_IN_USE);
-    WANT(zv_udp_bind(&one, third, &second, 5002), ZV_OK);
-    WANT(zv_udp_close(&one, other), ZV_OK);
-    WANT(zv_udp_bind(&one, other, &second, 5002), ZV_ADDRESS_IN_USE);
-    WANT(zv_socket_remove(&one, third), ZV_OK);
-    WANT(zv_udp_bind(&one, other, &second, 5002), ZV_OK);
-    WANT(zv_socket_remove(&one, other), ZV_OK);
-}
-
 static void datagrams(size_t udp, size_t far)
 {
     const zv_endpoint remote = at(second, 7), unspecified = at(nobody, 7), unported = at(second, 0), unnamed = at(any, 7);
@@ -400,7 +380,6 @@ static void datagrams(size_t udp, size_t far)
     WANT(zv_udp_send(&one, udp, bytes, 9, &remote, &any), ZV_UNADDRESSABLE);
     WANT(zv_udp_bind(&one, udp, &any, 5000), ZV_OK);
     WANT(zv_udp_bind(&one, udp, &any, 5001), ZV_INVALID_STATE);
-    taken_ports();
     WANT(zv_udp_bind(&two, far, &second, 7), ZV_OK);
     WANT(zv_udp_send(&one, udp, bytes, 9, &remote, &unknown), ZV_BAD_ARGUMENT);
     WANT(zv_udp_send(&one, udp, bytes, 9, &unnamed, &any), ZV_BAD_ARGUMENT);
@@ -455,31 +434,6 @@ static void unopened(size_t tcp)
     WANT(zv_tcp_connect(&one, tcp, &remote, &six, 4000), ZV_UNADDRESSABLE);
 }
 
-/* The four numbers that another socket has, and ports that the host chooses. */
-static void taken_connections(const zv_endpoint *remote)
-{
-    size_t other, third;
-    uint16_t port;
-    WANT(zv_tcp_new(&one, 64, 64, &other), ZV_OK);
-    WANT(zv_tcp_new(&one, 64, 64, &third), ZV_OK);
-    WANT(zv_tcp_connect(&one, other, remote, &any, 4000), ZV_ADDRESS_IN_USE);
-    WANT(zv_tcp_connect(&one, other, remote, &first, 4000), ZV_ADDRESS_IN_USE);
-    WANT(zv_tcp_state(&one, other, &out.byte), ZV_OK);
-    HOLDS(out.byte == ZV_CLOSED);
-    WANT(zv_tcp_connect(&one, other, remote, &any, 0), ZV_OK);
-    WANT(zv_tcp_peer(&one, other, &out.local, &out.remote), ZV_OK);
-    port = out.local.port;
-    HOLDS(port >= 49152);
-    WANT(zv_tcp_connect(&one, third, remote, &any, port), ZV_ADDRESS_IN_USE);
-    WANT(zv_tcp_connect(&one, third, remote, &any, 0), ZV_OK);
-    WANT(zv_tcp_peer(&one, third, &out.local, &out.remote), ZV_OK);
-    HOLDS(out.local.port == (port == 65535 ? 49152 : port + 1));
-    WANT(zv_tcp_abort(&one, other), ZV_OK);
-    WANT(zv_tcp_abort(&one, third), ZV_OK);
-    WANT(zv_socket_remove(&one, other), ZV_OK);
-    WANT(zv_socket_remove(&one, third), ZV_OK);
-}
-
 static void streams(size_t tcp, size_t far)
 {
     const zv_endpoint remote = at(second, 80);
@@ -490,7 +444,6 @@ static void streams(size_t tcp, size_t far)
     WANT(zv_tcp_connect(&one, tcp, &remote, &any, 4001), ZV_INVALID_STATE);
     WANT(zv_tcp_listen(&one, tcp, &any, 80), ZV_INVALID_STATE);
     WANT(zv_tcp_send(&one, tcp, bytes, 9, &out.count), ZV_INVALID_STATE);
-    taken_connections(&remote);
     turns();
     WANT(zv_tcp_room(&one, tcp, &out.count), ZV_OK);
     HOLDS(out.count == 2048);
@@ -756,6 +709,59 @@ static void old_numbers(void)
 
 /* FRAMES */
 
+/* A port that another socket has, at any address or at the same. */
+static void taken_ports(void)
+{
+    size_t has, other, third;
+    WANT(zv_udp_new(&one, 1, 64, &has), ZV_OK);
+    WANT(zv_udp_new(&one, 1, 64, &other), ZV_OK);
+    WANT(zv_udp_new(&one, 1, 64, &third), ZV_OK);
+    WANT(zv_udp_bind(&one, has, &any, 5100), ZV_OK);
+    WANT(zv_udp_bind(&one, other, &any, 5100), ZV_ADDRESS_IN_USE);
+    WANT(zv_udp_bind(&one, other, &first, 5100), ZV_ADDRESS_IN_USE);
+    WANT(zv_udp_bind(&one, NOWHERE, &any, 5100), ZV_NO_SOCKET);
+    WANT(zv_udp_bind(&one, other, &first, 5101), ZV_OK);
+    WANT(zv_udp_bind(&one, third, &first, 5101), ZV_ADDRESS_IN_USE);
+    WANT(zv_udp_bind(&one, third, &any, 5101), ZV_ADDRESS_IN_USE);
+    WANT(zv_udp_bind(&one, third, &second, 5101), ZV_OK);
+    WANT(zv_udp_close(&one, other), ZV_OK);
+    WANT(zv_udp_bind(&one, other, &second, 5101), ZV_ADDRESS_IN_USE);
+    WANT(zv_socket_remove(&one, third), ZV_OK);
+    WANT(zv_udp_bind(&one, other, &second, 5101), ZV_OK);
+    WANT(zv_socket_remove(&one, other), ZV_OK);
+    WANT(zv_socket_remove(&one, has), ZV_OK);
+}
+
+/* The four numbers that another socket has, and ports that the host chooses. */
+static void taken_connections(void)
+{
+    const zv_endpoint remote = at(second, 81);
+    size_t has, other, third;
+    uint16_t port;
+    WANT(zv_tcp_new(&one, 64, 64, &has), ZV_OK);
+    WANT(zv_tcp_connect(&one, has, &remote, &any, 4100), ZV_OK);
+    WANT(zv_tcp_new(&one, 64, 64, &other), ZV_OK);
+    WANT(zv_tcp_new(&one, 64, 64, &third), ZV_OK);
+    WANT(zv_tcp_connect(&one, other, &remote, &any, 4100), ZV_ADDRESS_IN_USE);
+    WANT(zv_tcp_connect(&one, other, &remote, &first, 4100), ZV_ADDRESS_IN_USE);
+    WANT(zv_tcp_state(&one, other, &out.byte), ZV_OK);
+    HOLDS(out.byte == ZV_CLOSED);
+    WANT(zv_tcp_connect(&one, other, &remote, &any, 0), ZV_OK);
+    WANT(zv_tcp_peer(&one, other, &out.local, &out.remote), ZV_OK);
+    port = out.local.port;
+    HOLDS(port >= 49152);
+    WANT(zv_tcp_connect(&one, third, &remote, &any, port), ZV_ADDRESS_IN_USE);
+    WANT(zv_tcp_connect(&one, third, &remote, &any, 0), ZV_OK);
+    WANT(zv_tcp_peer(&one, third, &out.local, &out.remote), ZV_OK);
+    HOLDS(out.local.port == (port == 65535 ? 49152 : port + 1));
+    WANT(zv_tcp_abort(&one, other), ZV_OK);
+    WANT(zv_tcp_abort(&one, third), ZV_OK);
+    WANT(zv_socket_remove(&one, other), ZV_OK);
+    WANT(zv_socket_remove(&one, third), ZV_OK);
+    WANT(zv_tcp_abort(&one, has), ZV_OK);
+    WANT(zv_socket_remove(&one, has), ZV_OK);
+}
+
 static void frames(void)
 {
     const zv_endpoint remote = at(second, 7);
@@ -873,6 +879,8 @@ int main(void)
     set_up();
     sockets();
     old_numbers();
+    taken_ports();
+    taken_connections();
     frames();
     leases();
     names();
