@@ -7,4 +7,4 @@ pub mod Placed
 pub mod Making
 pub mod Placing
 pub mod Connecting
-pub mod Ports
+pub mod FreePorts

@@ -1,7 +1,6 @@
 -- What is in use at a host, and what isn't: the port of a UDP socket, the four numbers of a connection, the own ports of TCP.
-use Rattle.std.specs.Prelude.{ℕ, zero, suc, ◌+◌, ◌/◌, ◌%◌, ◌==◌, ◌&&◌, ◌||◌, not, nat_lt, if◌then◌else◌, ℤ, Bool, true, false, List, [], ◌∷◌, length, take, drop, Option, None, Some, Result, Ok, Err}
+use Rattle.std.specs.Prelude.{ℕ, zero, suc, ◌+◌, ◌/◌, ◌%◌, ◌==◌, ◌&&◌, ◌||◌, not, nat_lt, if◌then◌else◌, ℤ, Bool, true, false, List, [], ◌∷◌, ◌++◌, length, take, drop, Option, None, Some, Result, Ok, Err}
 use Rattle.std.specs.List.{list_any}
-use Rattle.std.specs.Int.{w32, w64, from_be_bytes}
 use Rattle.ip_wire.specs.AddressTests.{is_same_address, is_unspecified}
 use Rattle.ip_wire.specs.IpAddress.{IpAddress}
 use Rattle.ip_wire.specs.IpAddress.TheVariants as Ip
@@ -111,19 +110,24 @@ abbrev pub free_port : SlotsValue → ℕ → ℕ → ℕ → Option ℕ
 free_port s n port zero = None
 free_port s n port (suc tries) = if is_port_used s n port then free_port s n (next_port port) tries else Some port
 
-abbrev pub words_of : IpEndpoint → IpAddress → List ℕ
-words_of e (Ip.Ipv4 a) = from_be_bytes w32 a.0 ∷ e.port ∷ []
-words_of e (Ip.Ipv6 a) = from_be_bytes w64 (take 8 a.0) ∷ from_be_bytes w64 (drop 8 a.0) ∷ e.port ∷ []
+-- its bytes and its port, each a word
+abbrev pub words_of : IpAddress → ℕ → List ℕ
+words_of (Ip.Ipv4 a) port = a.0 ++ port ∷ []
+words_of (Ip.Ipv6 a) port = a.0 ++ port ∷ []
 
 abbrev pub hash_by : Option (List ℕ) → IpEndpoint → ℕ
 hash_by None remote = 0
-hash_by (Some key) remote = hash_of_words key (words_of remote remote.addr)
+hash_by (Some key) remote = hash_of_words key (words_of remote.addr remote.port)
 
 abbrev pub first_port : Option (List ℕ) → ℤ → IpEndpoint → ℕ
 first_port key now remote = 49_152 + (ticks_of now + hash_by key remote % 16_384) % 16_384
 
+-- how many they are
+unfoldable pub port_count : ℕ
+port_count = 16_384
+
 abbrev pub port_from : InnerValue → SlotsValue → ℕ → IpEndpoint → Option ℕ
-port_from i s n remote = free_port s n (first_port (context_of i).isn_key (context_of i).instant remote) 16_384
+port_from i s n remote = free_port s n (first_port (context_of i).isn_key (context_of i).instant remote) port_count
 
 -- the named port, or one that is free where none is named
 abbrev pub port_by : Bool → InnerValue → SlotsValue → ℕ → IpEndpoint → ℕ → Option ℕ

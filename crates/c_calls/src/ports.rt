@@ -1,11 +1,11 @@
 //! Which ports and connections are in use, and a port that is free.
-ghost use Rattle.std.specs.Prelude.{◌≡◌, ◌∷◌, [], take, drop, Some};
+ghost use Rattle.std.specs.Prelude.{◌≡◌, ◌∷◌, [], ◌++◌, Some};
+ghost use Rattle.std.specs.List.{list_any};
 ghost use Rattle.net_base.specs.Time.{IsMoment};
 ghost use Rattle.c_calls.specs.Ports.{overlaps, has_port, is_end, has_ends, uses_port, in_slot, some_other, is_bound_elsewhere, is_port_used, next_port, free_port};
 ghost use Rattle.c_calls.specs.Ports.{words_of, hash_by, first_port, port_from, port_for, port_in, is_no_route, own_address, refusal_from, refusal_of};
 ghost use Rattle.interface.specs.Inner.{context_of, link_address};
 ghost use Rattle.tcp_state.specs.SipHash.{hash_of_words};
-ghost use Rattle.std.specs.Int.{w32, w64, from_be_bytes};
 
 use crate::code::Code;
 use crate::slots::{Slots, slot_of};
@@ -20,7 +20,9 @@ use tcp_state::sip_hash;
 
 /// The first of the ports that a connection may have that names none, the last, and how many they are.
 const FIRST: u16 = 49_152;
+
 const LAST: u16 = 65_535;
+
 const PORTS: u64 = 16_384;
 
 /// Whether a datagram could be for both.
@@ -117,23 +119,32 @@ fn uses_port_in(slot: &SocketStorage<Socket>, port: u16) -> bool
     }
 }
 
+fn any_bound(slots: &[SocketStorage<Socket>], endpoint: &IpListenEndpoint) -> bool
+    ensures { result ≡ list_any (in_slot (has_port endpoint.now)) slots.now }
+{
+    slots.iter().any(|slot| is_bound_in(slot, endpoint))
+}
+
 /// Whether another slot's socket is bound so.
-fn other_bound(
-    slots: &[SocketStorage<Socket>],
-    at: usize,
-    endpoint: &IpListenEndpoint,
-) -> bool
+#[tactic(auto, using(crate::proofs::FreePorts::other_two, crate::proofs::FreePorts::other_first, crate::proofs::FreePorts::other_none))]
+fn other_bound(slots: &[SocketStorage<Socket>], at: usize, endpoint: &IpListenEndpoint) -> bool
     ensures { result ≡ some_other (has_port endpoint.now) at slots.now }
 {
     if at < slots.len() {
-        slots[..at].iter().any(|slot| is_bound_in(slot, endpoint))
-            || slots[at + 1..].iter().any(|slot| is_bound_in(slot, endpoint))
+        any_bound(&slots[..at], endpoint) || any_bound(&slots[at + 1..], endpoint)
     } else {
-        slots.iter().any(|slot| is_bound_in(slot, endpoint))
+        any_bound(slots, endpoint)
     }
 }
 
+fn any_ends(slots: &[SocketStorage<Socket>], own: &IpEndpoint, remote: &IpEndpoint) -> bool
+    ensures { result ≡ list_any (in_slot (has_ends own.now remote.now)) slots.now }
+{
+    slots.iter().any(|slot| has_ends_in(slot, own, remote))
+}
+
 /// Whether another slot's socket has such a connection.
+#[tactic(auto, using(crate::proofs::FreePorts::other_two, crate::proofs::FreePorts::other_first, crate::proofs::FreePorts::other_none))]
 fn other_ends(
     slots: &[SocketStorage<Socket>],
     at: usize,
@@ -143,22 +154,27 @@ fn other_ends(
     ensures { result ≡ some_other (has_ends own.now remote.now) at slots.now }
 {
     if at < slots.len() {
-        slots[..at].iter().any(|slot| has_ends_in(slot, own, remote))
-            || slots[at + 1..].iter().any(|slot| has_ends_in(slot, own, remote))
+        any_ends(&slots[..at], own, remote) || any_ends(&slots[at + 1..], own, remote)
     } else {
-        slots.iter().any(|slot| has_ends_in(slot, own, remote))
+        any_ends(slots, own, remote)
     }
 }
 
+fn any_uses(slots: &[SocketStorage<Socket>], port: u16) -> bool
+    ensures { result ≡ list_any (in_slot (uses_port port)) slots.now }
+{
+    slots.iter().any(|slot| uses_port_in(slot, port))
+}
+
 /// Whether another slot's socket uses the port.
+#[tactic(auto, using(crate::proofs::FreePorts::other_two, crate::proofs::FreePorts::other_first, crate::proofs::FreePorts::other_none))]
 fn other_uses(slots: &[SocketStorage<Socket>], at: usize, port: u16) -> bool
     ensures { result ≡ some_other (uses_port port) at slots.now }
 {
     if at < slots.len() {
-        slots[..at].iter().any(|slot| uses_port_in(slot, port))
-            || slots[at + 1..].iter().any(|slot| uses_port_in(slot, port))
+        any_uses(&slots[..at], port) || any_uses(&slots[at + 1..], port)
     } else {
-        slots.iter().any(|slot| uses_port_in(slot, port))
+        any_uses(slots, port)
     }
 }
 
@@ -187,6 +203,7 @@ fn next_port(port: u16) -> u16
 }
 
 /// The first port from this one on that no other socket uses, of so many.
+#[tactic(auto, using(crate::proofs::FreePorts::passed_over, crate::proofs::FreePorts::found_free))]
 fn free_port(sockets: &Slots, number: usize, port: u16, tries: u64) -> Option<u16>
     ensures { result ≡ free_port sockets.now number port tries }
 {
@@ -203,33 +220,56 @@ fn free_port(sockets: &Slots, number: usize, port: u16, tries: u64) -> Option<u1
 }
 
 fn hash_v4(key: [u8; 16], addr: &Ipv4Address, port: u16) -> u64
-    ensures { result ≡ hash_of_words key (from_be_bytes w32 addr.now.0 ∷ port ∷ []) }
+    ensures { result ≡ hash_of_words key (addr.now.0 ++ port ∷ []) }
 {
-    sip_hash(key, &[u32::from_be_bytes(addr.0) as u64, port as u64])
+    let [a, b, c, d] = addr.0;
+    sip_hash(key, &[a as u64, b as u64, c as u64, d as u64, port as u64])
 }
 
 fn hash_v6(key: [u8; 16], addr: &Ipv6Address, port: u16) -> u64
-    ensures { result ≡ hash_of_words key (from_be_bytes w64 (take 8 addr.now.0) ∷ from_be_bytes w64 (drop 8 addr.now.0) ∷ port ∷ []) }
+    ensures { result ≡ hash_of_words key (addr.now.0 ++ port ∷ []) }
 {
     let [a, b, c, d, e, f, g, h, i, j, k, l, m, n, o, p] = addr.0;
     sip_hash(
         key,
         &[
-            u64::from_be_bytes([a, b, c, d, e, f, g, h]),
-            u64::from_be_bytes([i, j, k, l, m, n, o, p]),
+            a as u64,
+            b as u64,
+            c as u64,
+            d as u64,
+            e as u64,
+            f as u64,
+            g as u64,
+            h as u64,
+            i as u64,
+            j as u64,
+            k as u64,
+            l as u64,
+            m as u64,
+            n as u64,
+            o as u64,
+            p as u64,
             port as u64,
         ],
     )
+}
+
+fn hash_of(key: [u8; 16], remote: &IpEndpoint) -> u64
+    ensures { result ≡ hash_of_words key (words_of remote.now.addr remote.now.port) }
+{
+    match &remote.addr {
+        IpAddress::Ipv4(addr) => hash_v4(key, addr, remote.port),
+        IpAddress::Ipv6(addr) => hash_v6(key, addr, remote.port),
+    }
 }
 
 /// The hash of a remote by the host's key, if it has one.
 fn hash_by(key: Option<[u8; 16]>, remote: &IpEndpoint) -> u64
     ensures { result ≡ hash_by key remote.now }
 {
-    match (key, &remote.addr) {
-        (None, _) => 0,
-        (Some(key), IpAddress::Ipv4(addr)) => hash_v4(key, addr, remote.port),
-        (Some(key), IpAddress::Ipv6(addr)) => hash_v6(key, addr, remote.port),
+    match key {
+        None => 0,
+        Some(key) => hash_of(key, remote),
     }
 }
 

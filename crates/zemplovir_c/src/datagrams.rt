@@ -74,12 +74,7 @@ pub extern "C" fn zv_udp_bind(
     bind(alloc, handle, socket, listens_at(address, port))
 }
 
-fn bind(
-    alloc: Global,
-    handle: &mut Handle,
-    socket: usize,
-    endpoint: IpListenEndpoint,
-) -> u32
+fn bind(alloc: Global, handle: &mut Handle, socket: usize, endpoint: IpListenEndpoint) -> u32
     ensures answer { result ≡ answer_by handle.old.inside (λ host. bind_answer host socket endpoint) }
     ensures after { handle.new.inside ≡ after_by handle.old.inside (λ host. bind_after host socket endpoint) }
 {
