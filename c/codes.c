@@ -10,7 +10,7 @@
 #include <string.h>
 
 static int wrong;
-static uint8_t seen[ZV_QUERY_UNANSWERED + 1];
+static uint8_t seen[ZV_NO_ROUTE + 1];
 
 static void wants(uint32_t got, uint32_t wanted, const char *call, int line)
 {
@@ -69,6 +69,7 @@ static zv_address ipv6(uint8_t last)
 
 static const zv_address any = {0, {0}}, unknown = {5, {0}}, nobody = {4, {0}};
 static const zv_address first = {4, {192, 168, 1, 1}}, second = {4, {192, 168, 1, 2}};
+static const zv_address far_away = {4, {203, 0, 113, 9}};
 static const zv_hardware station = {{2, 0, 0, 0, 0, 1}};
 
 static zv_endpoint at(zv_address address, uint16_t port)
@@ -416,6 +417,7 @@ static void datagrams(size_t udp, size_t far)
 static void unopened(size_t tcp)
 {
     const zv_endpoint remote = at(second, 80), unspecified = at(nobody, 80), unported = at(second, 0), unnamed = at(any, 80);
+    const zv_endpoint beyond = at(far_away, 80);
     const zv_address six = ipv6(1);
     fill();
     WANT(zv_tcp_send(&one, tcp, bytes, 9, &out.count), ZV_INVALID_STATE);
@@ -431,7 +433,12 @@ static void unopened(size_t tcp)
     WANT(zv_tcp_listen(&one, tcp, &any, 0), ZV_UNADDRESSABLE);
     WANT(zv_tcp_connect(&one, tcp, &remote, &unknown, 4000), ZV_BAD_ARGUMENT);
     WANT(zv_tcp_connect(&one, tcp, &unnamed, &any, 4000), ZV_BAD_ARGUMENT);
-    WANT(zv_tcp_connect(&one, tcp, &remote, &any, 0), ZV_UNADDRESSABLE);
+    WANT(zv_tcp_connect(&one, tcp, &unported, &any, 0), ZV_UNADDRESSABLE);
+    WANT(zv_tcp_connect(&one, tcp, &unspecified, &any, 0), ZV_UNADDRESSABLE);
+    WANT(zv_tcp_connect(&one, tcp, &beyond, &any, 4000), ZV_NO_ROUTE);
+    WANT(zv_tcp_connect(&one, tcp, &beyond, &any, 0), ZV_NO_ROUTE);
+    WANT(zv_tcp_state(&one, tcp, &out.byte), ZV_OK);
+    HOLDS(out.byte == ZV_CLOSED);
     WANT(zv_tcp_connect(&one, tcp, &unported, &any, 4000), ZV_UNADDRESSABLE);
     WANT(zv_tcp_connect(&one, tcp, &unspecified, &any, 4000), ZV_UNADDRESSABLE);
     WANT(zv_tcp_connect(&one, tcp, &remote, &six, 4000), ZV_UNADDRESSABLE);
@@ -769,6 +776,59 @@ static void old_numbers(void)
 
 /* FRAMES */
 
+/* A port that another socket has, at any address or at the same. */
+static void taken_ports(void)
+{
+    size_t has, other, third;
+    WANT(zv_udp_new(&one, 1, 64, &has), ZV_OK);
+    WANT(zv_udp_new(&one, 1, 64, &other), ZV_OK);
+    WANT(zv_udp_new(&one, 1, 64, &third), ZV_OK);
+    WANT(zv_udp_bind(&one, has, &any, 5100), ZV_OK);
+    WANT(zv_udp_bind(&one, other, &any, 5100), ZV_ADDRESS_IN_USE);
+    WANT(zv_udp_bind(&one, other, &first, 5100), ZV_ADDRESS_IN_USE);
+    WANT(zv_udp_bind(&one, NOWHERE, &any, 5100), ZV_NO_SOCKET);
+    WANT(zv_udp_bind(&one, other, &first, 5101), ZV_OK);
+    WANT(zv_udp_bind(&one, third, &first, 5101), ZV_ADDRESS_IN_USE);
+    WANT(zv_udp_bind(&one, third, &any, 5101), ZV_ADDRESS_IN_USE);
+    WANT(zv_udp_bind(&one, third, &second, 5101), ZV_OK);
+    WANT(zv_udp_close(&one, other), ZV_OK);
+    WANT(zv_udp_bind(&one, other, &second, 5101), ZV_ADDRESS_IN_USE);
+    WANT(zv_socket_remove(&one, third), ZV_OK);
+    WANT(zv_udp_bind(&one, other, &second, 5101), ZV_OK);
+    WANT(zv_socket_remove(&one, other), ZV_OK);
+    WANT(zv_socket_remove(&one, has), ZV_OK);
+}
+
+/* The four numbers that another socket has, and ports that the host chooses. */
+static void taken_connections(void)
+{
+    const zv_endpoint remote = at(second, 81);
+    size_t has, other, third;
+    uint16_t port;
+    WANT(zv_tcp_new(&one, 64, 64, &has), ZV_OK);
+    WANT(zv_tcp_connect(&one, has, &remote, &any, 4100), ZV_OK);
+    WANT(zv_tcp_new(&one, 64, 64, &other), ZV_OK);
+    WANT(zv_tcp_new(&one, 64, 64, &third), ZV_OK);
+    WANT(zv_tcp_connect(&one, other, &remote, &any, 4100), ZV_ADDRESS_IN_USE);
+    WANT(zv_tcp_connect(&one, other, &remote, &first, 4100), ZV_ADDRESS_IN_USE);
+    WANT(zv_tcp_state(&one, other, &out.byte), ZV_OK);
+    HOLDS(out.byte == ZV_CLOSED);
+    WANT(zv_tcp_connect(&one, other, &remote, &any, 0), ZV_OK);
+    WANT(zv_tcp_peer(&one, other, &out.local, &out.remote), ZV_OK);
+    port = out.local.port;
+    HOLDS(port >= 49152);
+    WANT(zv_tcp_connect(&one, third, &remote, &any, port), ZV_ADDRESS_IN_USE);
+    WANT(zv_tcp_connect(&one, third, &remote, &any, 0), ZV_OK);
+    WANT(zv_tcp_peer(&one, third, &out.local, &out.remote), ZV_OK);
+    HOLDS(out.local.port == (port == 65535 ? 49152 : port + 1));
+    WANT(zv_tcp_abort(&one, other), ZV_OK);
+    WANT(zv_tcp_abort(&one, third), ZV_OK);
+    WANT(zv_socket_remove(&one, other), ZV_OK);
+    WANT(zv_socket_remove(&one, third), ZV_OK);
+    WANT(zv_tcp_abort(&one, has), ZV_OK);
+    WANT(zv_socket_remove(&one, has), ZV_OK);
+}
+
 /* One of 142 bytes is to go. */
 static void peeked(void)
 {
@@ -913,6 +973,8 @@ int main(void)
     set_up();
     sockets();
     old_numbers();
+    taken_ports();
+    taken_connections();
     frames();
     leases();
     names();

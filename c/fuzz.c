@@ -114,7 +114,7 @@ static void fail(const char *why, uint64_t number)
 
 static void check(uint32_t code)
 {
-    if (code > ZV_QUERY_UNANSWERED)
+    if (code > ZV_NO_ROUTE)
         fail("no such code", code);
 }
 

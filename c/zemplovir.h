@@ -70,7 +70,9 @@ enum {
     ZV_NAME_TOO_LONG = 25, /* the name has more than 255 bytes as it is sent, so more than 253 as a text */
     ZV_INVALID_NAME = 26,  /* a label of the name has no bytes, or more than 63, or the name is no text in UTF-8 */
     ZV_QUERY_FAILED = 27,  /* the name has no address, or nothing was asked */
-    ZV_QUERY_UNANSWERED = 28 /* no server answered: each refused, failed, cut its answer short, or was silent */
+    ZV_QUERY_UNANSWERED = 28, /* no server answered: each refused, failed, cut its answer short, or was silent */
+    ZV_ADDRESS_IN_USE = 29,  /* another socket has the port, or the connection */
+    ZV_NO_ROUTE = 30         /* no route leads to the remote */
 };
 
 /* The code in words. */
@@ -106,6 +108,8 @@ static inline const char *zv_strerror(uint32_t code)
     case ZV_INVALID_NAME: return "invalid name";
     case ZV_QUERY_FAILED: return "no address was found";
     case ZV_QUERY_UNANSWERED: return "no server answered";
+    case ZV_ADDRESS_IN_USE: return "address in use";
+    case ZV_NO_ROUTE: return "no route leads there";
     default: return "unknown code";
     }
 }
@@ -269,7 +273,7 @@ uint32_t zv_socket_user(const zv_host *host, size_t socket, void **user);
 uint32_t zv_udp_new(zv_host *host, size_t packets, size_t bytes, size_t *socket);
 
 /* Binds the socket to a port, of one own address or, with zv_any, of all. ZV_BAD_ARGUMENT, ZV_UNADDRESSABLE (port 0), ZV_INVALID_STATE
- * (it is bound). */
+ * (it is bound), ZV_ADDRESS_IN_USE (another socket is bound to the port, so that a datagram could be for both). */
 uint32_t zv_udp_bind(zv_host *host, size_t socket, const zv_address *address, uint16_t port);
 
 /* Queues a datagram, which a poll sends. It goes from the own address `local`; with zv_any from the one that the socket is bound to, or
@@ -324,9 +328,10 @@ uint32_t zv_tcp_new(zv_host *host, size_t received, size_t queued, size_t *socke
 uint32_t zv_tcp_listen(zv_host *host, size_t socket, const zv_address *address, uint16_t port);
 
 /* Opens a connection from a port, of an own address or, with zv_any, of the one that the host chooses. It is open once zv_tcp_state says
- * ZV_ESTABLISHED, and has failed where that says ZV_CLOSED: zv_tcp_end_reason says why. No port is chosen by the host: name one from 49152
- * on, another each time. ZV_BAD_ARGUMENT, ZV_UNADDRESSABLE (a port is 0, the remote's address unspecified, or no own address of its family),
- * ZV_INVALID_STATE (the socket is open). */
+ * ZV_ESTABLISHED, and has failed where that says ZV_CLOSED: zv_tcp_end_reason says why. For port 0 the host chooses one from 49152 on that no
+ * other socket uses: by its key, the remote and the clock (RFC 6056). ZV_BAD_ARGUMENT, ZV_UNADDRESSABLE (the remote's port is 0 or its address
+ * unspecified, or no own address is of its family), ZV_INVALID_STATE (the socket is open), ZV_ADDRESS_IN_USE (another socket has a connection
+ * between the same ports and addresses), ZV_NO_ROUTE. */
 uint32_t zv_tcp_connect(zv_host *host, size_t socket, const zv_endpoint *remote, const zv_address *address, uint16_t port);
 
 /* Queues as many of the bytes as there is room for, perhaps none, and says how many. ZV_INVALID_STATE (the connection isn't open yet, or its

@@ -144,11 +144,12 @@ static int bind_datagrams(struct run_file *it)
         it->local.port = run_port(SOCK_DGRAM);
     if (zv_udp_new(&run_host, KEPT_DATAGRAMS, 4 * LONGEST_DATAGRAM, &it->socket) != ZV_OK)
         return errno = ENOMEM, -1;
-    if (zv_udp_bind(&run_host, it->socket, &it->local.address, it->local.port) == ZV_OK)
+    const uint32_t code = zv_udp_bind(&run_host, it->socket, &it->local.address, it->local.port);
+    if (code == ZV_OK)
         return 0;
     zv_socket_remove(&run_host, it->socket);
     it->socket = NONE;
-    return errno = EADDRNOTAVAIL, -1;
+    return errno = code == ZV_ADDRESS_IN_USE ? EADDRINUSE : EADDRNOTAVAIL, -1;
 }
 
 int run_connect(struct run_file *it, const zv_endpoint *remote)
@@ -169,7 +170,7 @@ int run_connect(struct run_file *it, const zv_endpoint *remote)
     run_set_no_delay(it);
     const uint32_t code = zv_tcp_connect(&run_host, it->socket, remote, &it->local.address, it->local.port);
     if (code != ZV_OK)
-        return errno = code == ZV_UNADDRESSABLE ? ENETUNREACH : EINVAL, -1;
+        return errno = code == ZV_UNADDRESSABLE || code == ZV_NO_ROUTE ? ENETUNREACH : code == ZV_ADDRESS_IN_USE ? EADDRINUSE : EINVAL, -1;
     it->is_connecting = 1;
     fill(it, 1);
     run_turn();

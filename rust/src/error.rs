@@ -61,6 +61,8 @@ errors! {
     26 InvalidName "invalid name"
     27 QueryFailed "no address was found"
     28 QueryUnanswered "no server answered"
+    29 AddressInUse "address in use"
+    30 NoRoute "no route leads there"
 }
 
 impl core::error::Error for Error {}

@@ -114,12 +114,12 @@ impl Socket<'_> {
         done(unsafe { ffi::zv_tcp_listen(&mut self.interface.host, self.handle.0, &optional(local), port) })
     }
 
-    /// Opens a connection from this port.
+    /// Opens a connection from this port, or for 0 from a free one that the host chooses.
     pub fn connect(&mut self, remote: SocketAddr, local_port: u16) -> Result<()> {
         self.connect_from(remote, None, local_port)
     }
 
-    /// Opens a connection from a port, of this own address or of one that is chosen.
+    /// Opens a connection from a port, or for 0 from a free one, of this own address or of one that is chosen.
     pub fn connect_from(&mut self, remote: SocketAddr, local: Option<IpAddr>, local_port: u16) -> Result<()> {
         done(unsafe {
             ffi::zv_tcp_connect(

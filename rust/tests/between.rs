@@ -116,6 +116,18 @@ fn an_attempt_tells_why_it_failed() {
 }
 
 #[test]
+fn a_connection_that_is_taken_is_refused_and_port_0_is_a_free_one() {
+    let mut pair = Pair::new(false);
+    let (one, other) = (pair.first.add_tcp(64, 64).unwrap(), pair.first.add_tcp(64, 64).unwrap());
+    let remote = SocketAddr::new(SECOND, 7);
+    pair.first.tcp(one).connect(remote, 4000).unwrap();
+    assert_eq!(pair.first.tcp(other).connect(remote, 4000), Err(Error::AddressInUse));
+    assert_eq!(pair.first.tcp(other).endpoints(), Err(Error::InvalidState));
+    pair.first.tcp(other).connect(remote, 0).unwrap();
+    assert!(pair.first.tcp(other).endpoints().unwrap().0.port() >= 49152);
+}
+
+#[test]
 fn a_frame_that_does_not_fit_stays() {
     let mut pair = Pair::new(false);
     let one = pair.first.add_udp(4, 4096).unwrap();

@@ -8,3 +8,4 @@ pub mod Placed
 pub mod Making
 pub mod Placing
 pub mod Connecting
+pub mod FreePorts

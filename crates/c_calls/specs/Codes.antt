@@ -55,6 +55,8 @@ number_of Is.NameTooLong = 25
 number_of Is.InvalidName = 26
 number_of Is.QueryFailed = 27
 number_of Is.QueryUnanswered = 28
+number_of Is.AddressInUse = 29
+number_of Is.NoRoute = 30
 
 -- an answer whose error is named by its code
 abbrev pub coded : {A E : Type 0} → (E → Code) → Result A E → Result A Code

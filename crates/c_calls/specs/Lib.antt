@@ -15,6 +15,7 @@ pub mod Clients
 pub mod Leases
 pub mod Names
 pub mod Host
+pub mod Ports
 pub mod Calls
 pub mod Tables
 pub mod Lending

@@ -66,6 +66,10 @@ pub enum Code {
     QueryFailed,
     /// No server answered the query: each refused, failed, cut its answer short, or was silent.
     QueryUnanswered,
+    /// Another socket has the port, or the connection.
+    AddressInUse,
+    /// No route leads to the remote.
+    NoRoute,
 }
 
 impl Code {
@@ -102,6 +106,8 @@ impl Code {
             Code::InvalidName => 26,
             Code::QueryFailed => 27,
             Code::QueryUnanswered => 28,
+            Code::AddressInUse => 29,
+            Code::NoRoute => 30,
         }
     }
 }

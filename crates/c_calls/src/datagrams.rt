@@ -8,11 +8,13 @@ ghost use Rattle.socket_datagram.specs.SocketValue.{recv_answer, recv_after, rec
 ghost use Rattle.c_calls.specs.Codes.{coded, of_send, of_recv};
 ghost use Rattle.c_calls.specs.Datagrams.{act_answer, act_after, headers_len, room_in, datagram_room, sent_answer, sent_after, queued_answer, queued_after};
 ghost use Rattle.c_calls.specs.Added.{MakesSocket, new_udp};
+ghost use Rattle.c_calls.specs.Ports.{bind_answer, bind_after};
 
 use crate::code::{Code, of_bind, of_recv, of_send};
 use crate::host::Host;
-use crate::kinds::lent;
+use crate::kinds::{lent, seen};
 use crate::made::{limit_of, queues};
+use crate::ports::is_bound_elsewhere;
 use crate::slots::Slots;
 use ip_wire::{IpAddress, IpListenEndpoint};
 use sockets::Context;
@@ -150,6 +152,20 @@ impl Host {
         ensures after { self.new ≡ record self.old { slots = after_at as_udp Kind.Udp (act_after act) self.old.slots number } }
     {
         perform(self.sockets(), number, act)
+    }
+
+    /// Binds a socket to a port, of one own address or of all. A port of which another socket has it is refused.
+    pub fn udp_bind(&mut self, number: usize, endpoint: IpListenEndpoint) -> Result<(), Code>
+        ensures answer { result ≡ bind_answer self.old number endpoint }
+        ensures after { self.new ≡ bind_after self.old number endpoint }
+    {
+        if is_bound_elsewhere(self.seen_sockets(), number, &endpoint) {
+            return match seen::<udp::Socket>(self.seen_sockets(), number) {
+                Ok(_) => Err(Code::AddressInUse),
+                Err(code) => Err(code),
+            };
+        }
+        self.udp_act(number, Act::Bind(endpoint))
     }
 
     /// How many bytes a datagram to this address has at most.

@@ -24,6 +24,7 @@ mod made;
 pub mod names;
 pub mod packets;
 mod parts;
+mod ports;
 mod slots;
 pub mod streams;
 mod tables;

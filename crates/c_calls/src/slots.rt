@@ -15,7 +15,9 @@ ghost use Rattle.c_calls.specs.BorrowEnds.{LendsSocket};
 
 use crate::code::Code;
 use crate::link::FrameLink;
-use interface::{AddError, Interface, PollResult, SocketHandle, SocketSet, SocketsByKind};
+use interface::{
+    AddError, Interface, PollResult, SocketHandle, SocketSet, SocketStorage, SocketsByKind,
+};
 use net_base::{Instant, ManagedSlice};
 use sockets::{AnySocket, Socket};
 use std::alloc::Global;
@@ -197,6 +199,13 @@ impl Slots {
         ensures { result ≡ number_of self.now.tags slot }
     {
         number_of(self.tags.as_slice(), slot)
+    }
+
+    /// The slots.
+    pub(crate) fn as_slice(&self) -> &[SocketStorage<Socket>]
+        ensures { result.now ≡ self.now.sockets }
+    {
+        self.set.slots.as_slice()
     }
 
     /// Whether the number is that of no socket.

@@ -11,12 +11,14 @@ ghost use Rattle.c_calls.specs.Streams.{act_answer, act_after, read_after, read_
 ghost use Rattle.interface.specs.Inner.{context_of, drawn};
 ghost use Rattle.interface.specs.Made.{with_inner};
 ghost use Rattle.c_calls.specs.Added.{MakesStream};
+ghost use Rattle.c_calls.specs.Ports.{opens_answer, opened, opens_answer_by, opened_by, refusal_of};
 
 use crate::code::{Code, of_connect, of_listen, of_stream_recv, of_stream_send};
 use crate::host::Host;
-use crate::kinds::lent;
+use crate::kinds::{lent, seen};
 use crate::looks;
 use crate::made::{limit_of, rings};
+use crate::ports::{port_for, refusal_of};
 use crate::slots::Slots;
 use ip_wire::{IpEndpoint, IpListenEndpoint, TcpTimestampGenerator};
 use net_base::Duration;
@@ -228,8 +230,54 @@ impl Host {
         perform(self.sockets(), number, act)
     }
 
-    /// Opens a connection to a remote, from a port of one own address or of the one that the host chooses.
+    /// Opens a connection to a remote, from a port of one own address or of the one that the host chooses; from a free port where it is 0.
     pub fn tcp_connect(
+        &mut self,
+        number: usize,
+        remote: IpEndpoint,
+        local: IpListenEndpoint,
+    ) -> Result<(), Code>
+        ensures answer { result ≡ opens_answer self.old number remote local }
+        ensures after { self.new ≡ opened self.old number remote local }
+    {
+        let found = port_for(
+            self.seen_interface().context(),
+            self.seen_sockets(),
+            number,
+            &remote,
+            local.port,
+        );
+        match found {
+            Some(port) => self.open_from(number, remote, IpListenEndpoint { port, ..local }),
+            None => self.refuse(number, Code::AddressInUse),
+        }
+    }
+
+    /// The same from a port.
+    fn open_from(
+        &mut self,
+        number: usize,
+        remote: IpEndpoint,
+        local: IpListenEndpoint,
+    ) -> Result<(), Code>
+        ensures answer { result ≡ opens_answer_by (refusal_of self.old.host.inner self.old.slots number remote local) self.old number remote local }
+        ensures after { self.new ≡ opened_by (refusal_of self.old.host.inner self.old.slots number remote local) self.old number remote local }
+    {
+        let refusal = refusal_of(
+            self.seen_interface().context(),
+            self.seen_sockets(),
+            number,
+            &remote,
+            &local,
+        );
+        match refusal {
+            Some(code) => self.refuse(number, code),
+            None => self.connect_from(number, remote, local),
+        }
+    }
+
+    /// The same where neither the route nor another socket forbids it.
+    fn connect_from(
         &mut self,
         number: usize,
         remote: IpEndpoint,
@@ -250,6 +298,16 @@ impl Host {
             remote,
             local,
         )
+    }
+
+    /// Refuses a call of a socket, if there is one of this number.
+    fn refuse(&self, number: usize, code: Code) -> Result<(), Code>
+        ensures { result ≡ answer_at as_tcp (λ v. Err code) self.now.slots number }
+    {
+        match seen::<tcp::Socket>(self.seen_sockets(), number) {
+            Ok(_) => Err(code),
+            Err(code) => Err(code),
+        }
     }
 
     /// Queues as many of the bytes as there is room for, and answers how many.

@@ -8,6 +8,7 @@ ghost use Rattle.c_calls.specs.Slots.{answer_at, after_at, written_at};
 ghost use Rattle.c_calls.specs.Datagrams.{act_answer, act_after, sent_answer, sent_after};
 ghost use Rattle.c_calls.specs.declared.datagrams.Act.TheVariants as To;
 ghost use Rattle.c_calls.specs.Added.{MakesSocket, new_udp};
+ghost use Rattle.c_calls.specs.Ports.{bind_answer, bind_after};
 ghost use Rattle.zemplovir_c.specs.Answers.{answer_by, after_by, given_by, written_by, mapped, checked_answer, checked, Gives};
 ghost use Rattle.zemplovir_c.specs.Values.{optional_in, endpoint_in, listens_at, metadata, endpoint_out, address_or_none};
 
@@ -18,7 +19,7 @@ use crate::types::{
     Address, Endpoint, listens_at, optional, required_endpoint, said_endpoint, said_or_none,
 };
 use c_calls::datagrams::Act;
-use ip_wire::{IpAddress, IpEndpoint};
+use ip_wire::{IpAddress, IpEndpoint, IpListenEndpoint};
 use net_base::PacketMeta;
 use sockets::udp::UdpMetadata;
 use std::alloc::Global;
@@ -62,18 +63,27 @@ pub extern "C" fn zv_udp_bind(
     port: u16,
 ) -> u32
     ensures answer { result ≡
-        checked_answer (optional_in address.now)
-        (λ at. answer_by handle.old.inside (λ host. answer_at as_udp (act_answer (To.Bind (listens_at at port))) host.slots socket)) }
+        checked_answer (optional_in address.now) (λ at. answer_by handle.old.inside (λ host. bind_answer host socket (listens_at at port))) }
     ensures after { handle.new.inside ≡
-        checked (optional_in address.now)
-        (λ at. after_by handle.old.inside
-        (λ host. record host { slots = after_at as_udp Kind.Udp (act_after (To.Bind (listens_at at port))) host.slots socket })) handle.old.inside }
+        checked (optional_in address.now) (λ at. after_by handle.old.inside (λ host. bind_after host socket (listens_at at port))) handle.old.inside }
 {
     let address = match optional(address) {
         Ok(address) => address,
         Err(code) => return code.number(),
     };
-    udp_act(alloc, handle, socket, Act::Bind(listens_at(address, port)))
+    bind(alloc, handle, socket, listens_at(address, port))
+}
+
+fn bind(alloc: Global, handle: &mut Handle, socket: usize, endpoint: IpListenEndpoint) -> u32
+    ensures answer { result ≡ answer_by handle.old.inside (λ host. bind_answer host socket endpoint) }
+    ensures after { handle.new.inside ≡ after_by handle.old.inside (λ host. bind_after host socket endpoint) }
+{
+    let Some(mut host) = handle.take(alloc) else {
+        return NO_HOST;
+    };
+    let answer = host.udp_bind(socket, endpoint);
+    handle.put(host);
+    done(answer)
 }
 
 /// Queues a datagram, which goes from the named own address, or from one that the socket or the host chooses where the family is

@@ -10,6 +10,7 @@ ghost use Rattle.c_calls.specs.Slots.{answer_at, found_at, after_at, written_at,
 ghost use Rattle.c_calls.specs.Streams.{act_answer, act_after, read_after, read_written, done_answer, done_after, peeked, state_in, ends_in, queues_in, room_in};
 ghost use Rattle.c_calls.specs.declared.streams.Act.TheVariants as To;
 ghost use Rattle.c_calls.specs.Added.{MakesStream};
+ghost use Rattle.c_calls.specs.Ports.{opens_answer, opened};
 ghost use Rattle.zemplovir_c.specs.Answers.{answer_by, after_by, given_by, written_by, mapped, checked_answer, checked, Gives, As};
 ghost use Rattle.zemplovir_c.specs.Values.{optional_in, endpoint_in, listens_at, endpoint_out, state_number, reason_number};
 
@@ -79,13 +80,8 @@ fn connect(
     remote: IpEndpoint,
     local: IpListenEndpoint,
 ) -> u32
-    ensures answer { result ≡ answer_by handle.old.inside
-        (λ host. answer_at as_tcp (λ v. coded of_connect (connect_answer (context_of host.host.inner) v remote local)) host.slots socket) }
-    ensures after { handle.new.inside ≡ after_by handle.old.inside (λ host. record host {
-      host = if draws_at as_tcp (λ v. connect_draws (context_of host.host.inner) v remote local) host.slots socket
-          then with_inner host.host (drawn host.host.inner) else host.host;
-      slots = after_at as_tcp Kind.Tcp (λ v. connect_after (context_of host.host.inner) v remote local) host.slots socket;
-    }) }
+    ensures answer { result ≡ answer_by handle.old.inside (λ host. opens_answer host socket remote local) }
+    ensures after { handle.new.inside ≡ after_by handle.old.inside (λ host. opened host socket remote local) }
 {
     let Some(mut host) = handle.take(alloc) else {
         return NO_HOST;
@@ -95,7 +91,8 @@ fn connect(
     done(answer)
 }
 
-/// Opens a connection to a remote, from a port of one own address or, where the family is 0, of the one that the host chooses.
+/// Opens a connection to a remote, from a port of one own address or, where the family is 0, of the one that the host chooses; where the port is
+/// 0 from a free one.
 #[unsafe(no_mangle)]
 pub extern "C" fn zv_tcp_connect(
     alloc: Global,
@@ -106,14 +103,9 @@ pub extern "C" fn zv_tcp_connect(
     port: u16,
 ) -> u32
     ensures answer { result ≡ checked_answer (endpoint_in remote.now) (λ to. checked_answer (optional_in address.now) (λ from.
-        answer_by handle.old.inside
-        (λ host. answer_at as_tcp (λ v. coded of_connect (connect_answer (context_of host.host.inner) v to (listens_at from port))) host.slots socket))) }
+        answer_by handle.old.inside (λ host. opens_answer host socket to (listens_at from port)))) }
     ensures after { handle.new.inside ≡ checked (endpoint_in remote.now) (λ to. checked (optional_in address.now) (λ from.
-        after_by handle.old.inside (λ host. record host {
-          host = if draws_at as_tcp (λ v. connect_draws (context_of host.host.inner) v to (listens_at from port)) host.slots socket
-              then with_inner host.host (drawn host.host.inner) else host.host;
-          slots = after_at as_tcp Kind.Tcp (λ v. connect_after (context_of host.host.inner) v to (listens_at from port)) host.slots socket;
-        })) handle.old.inside) handle.old.inside }
+        after_by handle.old.inside (λ host. opened host socket to (listens_at from port))) handle.old.inside) handle.old.inside }
 {
     let remote = match required_endpoint(remote) {
         Ok(remote) => remote,

@@ -7,7 +7,7 @@ use Rattle.c_calls.specs.Slots.{answer_at}
 use Rattle.c_calls.proofs.Connecting.{connects}
 use Rattle.c_calls.specs.Host.{StackValue}
 use Rattle.c_calls.specs.contracts.host.Host.{the_view}
-use Rattle.c_calls.proofs.host.Host.tcp_connect.Goals as goal
+use Rattle.c_calls.proofs.host.Host.connect_from.Goals as goal
 
 pub returns-clause-after : goal.returns-clause-after
 returns-clause-after c =
