@@ -1,4 +1,5 @@
 pub mod Link
+pub mod Polling
 pub mod Codes
 pub mod SlotsValue
 pub mod Numbers
@@ -8,6 +9,7 @@ pub mod Streams
 pub mod Ends
 pub mod Datagrams
 pub mod Controls
+pub mod RawPackets
 pub mod Carrying
 pub mod Clients
 pub mod Leases
@@ -15,6 +17,7 @@ pub mod Names
 pub mod Host
 pub mod Calls
 pub mod Tables
+pub mod Lending
 pub mod Added
 pub mod Generations
 pub mod Backlogs

@@ -137,7 +137,7 @@ fn frame_dropped(counters: &mut Counters)
     counters.frames_dropped = one_more(counters.frames_dropped);
 }
 
-fn frame_went(counters: &mut Counters)
+pub(crate) fn frame_went(counters: &mut Counters)
     ensures { counters.new ≡ record counters.old { frames_out = counted counters.old.frames_out } }
 {
     counters.frames_out = one_more(counters.frames_out);
