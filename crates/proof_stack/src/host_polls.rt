@@ -5,6 +5,7 @@ ghost use Rattle.net_base.specs.Time.{IsMoment};
 ghost use Rattle.iface_tables.specs.Inner.{at_instant};
 ghost use Rattle.iface_egress.specs.Departing.{HasSettingsOf};
 ghost use Rattle.iface_egress.specs.Set.{slots, is_fixed};
+ghost use Rattle.interface.specs.BlackHoles.{paths_checked};
 ghost use Rattle.interface.specs.Host.{host_at, maintained};
 ghost use Rattle.interface.specs.Ingress.{IngressStep};
 ghost use Rattle.interface.specs.Instant.{host_instant};
@@ -48,7 +49,7 @@ pub fn send_once<D: Device>(
     ensures step { HostSends D.moves timestamp (state device.old interface.old (slots sockets.old)) (answer_of result)
         (state device.new interface.new (slots sockets.new)) }
     ensures unchanged { result ≡ PollResult.None → AreUnchanged (slots sockets.old) (slots sockets.new) }
-    ensures host { IsSameHost (at_instant timestamp interface.old.inner) interface.new.inner }
+    ensures host { IsSameHost (paths_checked (at_instant timestamp interface.old.inner) (slots sockets.old)) interface.new.inner }
     ensures kind { is_fixed sockets.new ≡ is_fixed sockets.old }
     ensures capabilities { D.described device.new ≡ D.described device.old }
 {
