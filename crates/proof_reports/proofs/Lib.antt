@@ -1,0 +1,5 @@
+mod Places
+mod Joined
+mod Strays
+mod Room
+mod Answers
