@@ -71,8 +71,11 @@ static uint32_t turn(void)
         zv_udp_send(&host, echo, bytes, length, &remote, &local);
     if (code == ZV_OK)
         code = zv_poll(&host, clock_now(), BUDGET, &changed);
-    while (zv_frame_out(&host, frame, sizeof frame, &length) == ZV_OK)
-        ethernet_send(frame, length);
+    const uint8_t *first;
+    while (zv_frame_peek_out(&host, &first, &length) == ZV_OK) {
+        ethernet_send(first, length);
+        zv_frame_skip_out(&host);
+    }
     return code;
 }
 

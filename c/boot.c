@@ -99,7 +99,7 @@ static void configure(zv_host *host, const zv_lease *lease, zv_address *own)
         zv_address_remove(host, own);
         zv_route_remove(host, &everywhere, 0);
     }
-    *own = lease->event == 1 ? lease->address : none;
+    *own = lease->event == ZV_LEASE_NEW ? lease->address : none;
     if (lease->event != 1)
         return;
     must(zv_address_add(host, own, lease->prefix), "address");
@@ -140,9 +140,9 @@ int main(int count, char **words)
             zv_frame_in(&host, frame, (size_t)length);
         must(zv_poll(&host, now(), BUDGET, &changed), "poll");
         must(zv_dhcp_turn(&host, dhcp, now(), &lease), "dhcp turn");
-        if (lease.event != 0)
+        if (lease.event != ZV_LEASE_NONE)
             configure(&host, &lease, &own);
-        if (lease.event == 1) {
+        if (lease.event == ZV_LEASE_NEW) {
             say("address", &lease.address);
             say("router", &lease.router);
             say("names", &lease.names[0]);

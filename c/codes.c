@@ -36,6 +36,7 @@ static struct {
     zv_lease lease;
     zv_addresses found;
     const uint8_t *lent;
+    uint8_t *room;
     void *user;
 } out;
 
@@ -134,6 +135,9 @@ static void hosts_without_host(zv_host *none)
     WANT(zv_frame_in(none, bytes, 60), ZV_NO_HOST);
     WANT(zv_frame_out(none, out.bytes, 60, &out.count), ZV_NO_HOST);
     WANT(zv_frame_out_length(none, &out.count), ZV_NO_HOST);
+    WANT(zv_frame_peek_out(none, &out.lent, &out.count), ZV_NO_HOST);
+    WANT(zv_frame_skip_out(none), ZV_NO_HOST);
+    WANT(zv_frames_reserve(none, 60), ZV_NO_HOST);
     WANT(zv_trace_line(none, 0, 0, bytes, 60, out.bytes, 60, &out.count), ZV_NO_HOST);
     WANT(zv_poll(none, 0, 1, &out.byte), ZV_NO_HOST);
     WANT(zv_poll_at(none, 0, &out.at), ZV_NO_HOST);
@@ -156,6 +160,9 @@ static void streams_refuse(zv_host *host, size_t socket, uint32_t code)
     WANT(zv_tcp_recv(host, socket, out.bytes, 9, &out.count), code);
     WANT(zv_tcp_peek(host, socket, &out.lent, &out.count), code);
     WANT(zv_tcp_done(host, socket, 9, &out.count), code);
+    WANT(zv_tcp_skip(host, socket, 9), code);
+    WANT(zv_tcp_reserve(host, socket, &out.room, &out.count), code);
+    WANT(zv_tcp_commit(host, socket, 9), code);
     WANT(zv_tcp_close(host, socket), code);
     WANT(zv_tcp_abort(host, socket), code);
     WANT(zv_tcp_state(host, socket, &out.byte), code);
@@ -415,6 +422,9 @@ static void unopened(size_t tcp)
     WANT(zv_tcp_recv(&one, tcp, out.bytes, 9, &out.count), ZV_INVALID_STATE);
     WANT(zv_tcp_peek(&one, tcp, &out.lent, &out.count), ZV_INVALID_STATE);
     WANT(zv_tcp_done(&one, tcp, 9, &out.count), ZV_INVALID_STATE);
+    WANT(zv_tcp_skip(&one, tcp, 0), ZV_INVALID_STATE);
+    WANT(zv_tcp_reserve(&one, tcp, &out.room, &out.count), ZV_INVALID_STATE);
+    WANT(zv_tcp_commit(&one, tcp, 0), ZV_INVALID_STATE);
     WANT(zv_tcp_peer(&one, tcp, &out.local, &out.remote), ZV_INVALID_STATE);
     HOLDS(is_filled());
     WANT(zv_tcp_listen(&one, tcp, &unknown, 80), ZV_BAD_ARGUMENT);
@@ -425,6 +435,50 @@ static void unopened(size_t tcp)
     WANT(zv_tcp_connect(&one, tcp, &unported, &any, 4000), ZV_UNADDRESSABLE);
     WANT(zv_tcp_connect(&one, tcp, &unspecified, &any, 4000), ZV_UNADDRESSABLE);
     WANT(zv_tcp_connect(&one, tcp, &remote, &six, 4000), ZV_UNADDRESSABLE);
+}
+
+/* Bytes that are written and read where they stand. Both buffers have 2048. */
+static void lent(size_t tcp, size_t far)
+{
+    const uint8_t *before;
+    size_t count;
+    WANT(zv_tcp_reserve(&one, tcp, &out.room, &out.count), ZV_OK);
+    HOLDS(out.count == 2048);
+    memcpy(out.room, bytes + 7, 2048);
+    WANT(zv_tcp_queues(&one, tcp, &out.count, &out.other), ZV_OK);
+    HOLDS(out.other == 0);
+    WANT(zv_tcp_commit(&one, tcp, 2049), ZV_TOO_LONG);
+    WANT(zv_tcp_queues(&one, tcp, &out.count, &out.other), ZV_OK);
+    HOLDS(out.other == 0);
+    WANT(zv_tcp_commit(&one, tcp, 0), ZV_OK);
+    WANT(zv_tcp_commit(&one, tcp, 1500), ZV_OK);
+    WANT(zv_tcp_queues(&one, tcp, &out.count, &out.other), ZV_OK);
+    HOLDS(out.other == 1500);
+    WANT(zv_tcp_reserve(&one, tcp, &out.room, &out.count), ZV_OK);
+    HOLDS(out.count == 548);
+    memcpy(out.room, bytes + 7 + 1500, 548);
+    WANT(zv_tcp_commit(&one, tcp, 548), ZV_OK);
+    WANT(zv_tcp_reserve(&one, tcp, &out.room, &out.count), ZV_OK);
+    HOLDS(out.count == 0);
+    WANT(zv_tcp_commit(&one, tcp, 1), ZV_TOO_LONG);
+    turns();
+    WANT(zv_tcp_skip(&two, far, 2049), ZV_TOO_LONG);
+    WANT(zv_tcp_peek(&two, far, &before, &count), ZV_OK);
+    turns();
+    WANT(zv_tcp_peek(&two, far, &out.lent, &out.count), ZV_OK);
+    HOLDS(out.lent == before && out.count == count);
+    for (size_t read = 0; read < 2048; read += count) {
+        WANT(zv_tcp_peek(&two, far, &out.lent, &count), ZV_OK);
+        HOLDS(count > 0 && memcmp(out.lent, bytes + 7 + read, count) == 0);
+        WANT(zv_tcp_skip(&two, far, count + 1), ZV_TOO_LONG);
+        WANT(zv_tcp_skip(&two, far, count > 100 ? 100 : count), ZV_OK);
+        count = count > 100 ? 100 : count;
+    }
+    fill();
+    WANT(zv_tcp_peek(&two, far, &out.lent, &count), ZV_OK);
+    HOLDS(count == 0 && is_filled());
+    WANT(zv_tcp_skip(&two, far, 1), ZV_TOO_LONG);
+    WANT(zv_tcp_skip(&two, far, 0), ZV_OK);
 }
 
 static void streams(size_t tcp, size_t far)
@@ -459,6 +513,7 @@ static void streams(size_t tcp, size_t far)
     HOLDS(out.count == 48);
     WANT(zv_tcp_recv(&two, far, out.bytes, 4096, &out.count), ZV_OK);
     HOLDS(out.count == 0);
+    lent(tcp, far);
 }
 
 /* Why the connection of a socket ended. */
@@ -480,6 +535,9 @@ static void closed(size_t tcp, size_t far)
     WANT(zv_tcp_recv(&two, far, out.bytes, 9, &out.count), ZV_FINISHED);
     WANT(zv_tcp_peek(&two, far, &out.lent, &out.count), ZV_FINISHED);
     WANT(zv_tcp_done(&two, far, 9, &out.count), ZV_FINISHED);
+    WANT(zv_tcp_skip(&two, far, 0), ZV_FINISHED);
+    WANT(zv_tcp_reserve(&one, tcp, &out.room, &out.count), ZV_INVALID_STATE);
+    WANT(zv_tcp_commit(&one, tcp, 0), ZV_INVALID_STATE);
     HOLDS(is_filled());
     ended(&two, far, ZV_END_NONE);
     WANT(zv_tcp_abort(&two, far), ZV_OK);
@@ -546,6 +604,7 @@ static void listeners(size_t tcp, size_t udp, size_t far)
 static void messages(size_t icmp)
 {
     const uint8_t ping[16] = {8, 0, 0, 0, 0, 9, 0, 1, 'p', 'i', 'n', 'g'};
+    const zv_address six = ipv6(1);
     WANT(zv_icmp_bind_udp(&one, icmp, &unknown, 9), ZV_BAD_ARGUMENT);
     WANT(zv_icmp_bind_tcp(&one, icmp, &unknown, 9), ZV_BAD_ARGUMENT);
     WANT(zv_icmp_bind_udp(&one, icmp, &any, 0), ZV_UNADDRESSABLE);
@@ -556,6 +615,9 @@ static void messages(size_t icmp)
     WANT(zv_icmp_bind_tcp(&one, icmp, &any, 9), ZV_INVALID_STATE);
     WANT(zv_icmp_send(&one, icmp, ping, sizeof ping, &any), ZV_BAD_ARGUMENT);
     WANT(zv_icmp_send(&one, icmp, ping, sizeof ping, &nobody), ZV_UNADDRESSABLE);
+    WANT(zv_icmp_send(&one, icmp, bytes, 4077, &second), ZV_TOO_LONG);
+    WANT(zv_icmp_send(&one, icmp, bytes, 4057, &six), ZV_TOO_LONG);
+    WANT(zv_icmp_send(&one, icmp, bytes, 4056, &six), ZV_FULL);
     WANT(zv_icmp_send(&one, icmp, ping, sizeof ping, &second), ZV_OK);
     WANT(zv_icmp_send(&one, icmp, ping, sizeof ping, &second), ZV_OK);
     WANT(zv_icmp_send(&one, icmp, ping, sizeof ping, &second), ZV_FULL);
@@ -572,7 +634,12 @@ static void messages(size_t icmp)
 static void packets(size_t raw, size_t far)
 {
     const uint8_t packet[24] = {0x45, 0, 0, 24, 0, 1, 0, 0, 64, 253, 0, 0, 192, 168, 1, 1, 192, 168, 1, 2, 'r', 'a', 'w'};
+    uint8_t long_packet[4097] = {0};
     WANT(zv_raw_new(&one, 5, 253, 2, 64, &out.count), ZV_BAD_ARGUMENT);
+    memcpy(long_packet, packet, sizeof packet);
+    long_packet[2] = 4097 >> 8;
+    long_packet[3] = 4097 & 255;
+    WANT(zv_raw_send(&one, raw, long_packet, 4097), ZV_TOO_LONG);
     WANT(zv_raw_send(&one, raw, packet, sizeof packet), ZV_OK);
     WANT(zv_raw_send(&one, raw, packet, sizeof packet), ZV_OK);
     WANT(zv_raw_send(&one, raw, packet, sizeof packet), ZV_FULL);
@@ -702,6 +769,25 @@ static void old_numbers(void)
 
 /* FRAMES */
 
+/* One of 142 bytes is to go. */
+static void peeked(void)
+{
+    const uint8_t *before = NULL;
+    uint8_t changed;
+    zv_counts were, are;
+    size_t count = 0;
+    WANT(zv_counters(&one, &were), ZV_OK);
+    WANT(zv_frame_peek_out(&one, &before, &count), ZV_OK);
+    HOLDS(count == 142 && memcmp(before + 42, bytes, 100) == 0);
+    WANT(zv_poll(&one, now, 8, &changed), ZV_OK);
+    WANT(zv_frame_peek_out(&one, &out.lent, &out.count), ZV_OK);
+    HOLDS(out.lent == before && out.count == count);
+    WANT(zv_frame_skip_out(&one), ZV_OK);
+    WANT(zv_frame_skip_out(&one), ZV_EMPTY);
+    WANT(zv_counters(&one, &are), ZV_OK);
+    HOLDS(are.frames_out == were.frames_out + 1);
+}
+
 static void frames(void)
 {
     const zv_endpoint remote = at(second, 7);
@@ -709,13 +795,21 @@ static void frames(void)
     fill();
     WANT(zv_frame_out(&one, out.bytes, 60, &out.count), ZV_EMPTY);
     WANT(zv_frame_out_length(&one, &out.count), ZV_EMPTY);
+    WANT(zv_frame_peek_out(&one, &out.lent, &out.count), ZV_EMPTY);
+    WANT(zv_frame_skip_out(&one), ZV_EMPTY);
     WANT(zv_poll(&one, -1, 1, &out.byte), ZV_MOMENT);
     WANT(zv_poll_at(&one, INT64_MAX, &out.at), ZV_MOMENT);
     WANT(zv_udp_new(&one, 4, 4096, &udp), ZV_OK);
     WANT(zv_udp_bind(&one, udp, &any, 5000), ZV_OK);
+    WANT(zv_frames_reserve(&one, 1514), ZV_OK);
+    WANT(zv_frames_reserve(&one, SIZE_MAX), ZV_MEMORY);
     WANT(zv_udp_send(&one, udp, bytes, 100, &remote, &any), ZV_OK);
     uint8_t changed;
     WANT(zv_poll(&one, now, 8, &changed), ZV_OK);
+    peeked();
+    WANT(zv_udp_send(&one, udp, bytes, 100, &remote, &any), ZV_OK);
+    WANT(zv_poll(&one, now, 8, &changed), ZV_OK);
+    fill();
     WANT(zv_frame_out(&one, out.bytes, 141, &out.count), ZV_TOO_SHORT);
     HOLDS(is_filled());
     WANT(zv_frame_out_length(&one, &count), ZV_OK);
@@ -757,9 +851,9 @@ static void leases(void)
     WANT(zv_dhcp_sent(&one, 1), ZV_OK);
     WANT(zv_dhcp_send(&one, out.bytes, 300, &out.count, &out.remote, &out.local), ZV_EMPTY);
     WANT(zv_dhcp_poll(&one, now, &out.lease), ZV_OK);
-    HOLDS(out.lease.event == 2);
+    HOLDS(out.lease.event == ZV_LEASE_LOST);
     WANT(zv_dhcp_poll(&one, now, &out.lease), ZV_OK);
-    HOLDS(out.lease.event == 0);
+    HOLDS(out.lease.event == ZV_LEASE_NONE);
     WANT(zv_dhcp_poll_at(&one, &out.at), ZV_OK);
 }
 

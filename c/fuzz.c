@@ -138,6 +138,8 @@ static void make(zv_host *host, int which)
     zv_address other = {6, {0xfe, 0x80, 0}};
     other.bytes[15] = (uint8_t)(which + 1);
     check(zv_host_new(host, &settings, choice(16) == 0 ? (int64_t)any_number() : clock_of[which]));
+    if (choice(2) && settings.frames <= 64)
+        check(zv_frames_reserve(host, (size_t)choice(2000)));
     check(zv_address_add(host, &own, 24));
     check(zv_address_add(host, &other, 64));
 }
@@ -185,6 +187,46 @@ static size_t any_socket(zv_host *host)
     return removed[caller][slot];
 }
 
+/* Bytes are written where they go, and as many of them are queued as are asked for, or none. */
+static uint32_t written(zv_host *host, size_t socket)
+{
+    uint8_t *room = NULL;
+    size_t count = 0, before = 0, behind = 0, other = 0;
+    const uint32_t code = zv_tcp_reserve(host, socket, &room, &count);
+    if (code != ZV_OK)
+        return code;
+    if (zv_tcp_room(host, socket, &other) != ZV_OK || count > other || (count == 0) != (room == NULL))
+        fail("more is lent than there is room", count);
+    for (size_t i = 0; i < count; i++)
+        room[i] = (uint8_t)i;
+    const size_t asked = choice(4) == 0 ? any_size() : count > 0 ? (size_t)choice(count) + 1 : 0;
+    const uint32_t queued = zv_tcp_queues(host, socket, &other, &before);
+    const uint32_t committed = zv_tcp_commit(host, socket, asked);
+    if (queued != ZV_OK || zv_tcp_queues(host, socket, &other, &behind) != ZV_OK)
+        fail("a socket with room has no queues", queued);
+    if (committed != (asked <= count ? ZV_OK : ZV_TOO_LONG) || behind != before + (asked <= count ? asked : 0))
+        fail("other bytes are queued than asked for", asked);
+    return ZV_OK;
+}
+
+/* As many bytes are given up as are asked for, or none. */
+static uint32_t skipped(zv_host *host, size_t socket)
+{
+    const uint8_t *bytes = NULL;
+    size_t count = 0, before = 0, behind = 0, other = 0;
+    const uint32_t code = zv_tcp_peek(host, socket, &bytes, &count);
+    if (code != ZV_OK)
+        return zv_tcp_skip(host, socket, any_size()) == code ? code : (fail("a skip answers another code", code), code);
+    const size_t asked = choice(4) == 0 ? any_size() : count > 0 ? (size_t)choice(count) + 1 : 0;
+    const uint32_t queued = zv_tcp_queues(host, socket, &before, &other);
+    const uint32_t given_up = zv_tcp_skip(host, socket, asked);
+    if (queued != ZV_OK || zv_tcp_queues(host, socket, &behind, &other) != ZV_OK)
+        fail("a socket that lends has no queues", queued);
+    if (given_up != (asked <= count ? ZV_OK : ZV_TOO_LONG) || behind != before - (asked <= count ? asked : 0))
+        fail("other bytes are given up than asked for", asked);
+    return ZV_OK;
+}
+
 /* One call, of any kind. */
 static void call(zv_host *host, int which)
 {
@@ -202,7 +244,7 @@ static void call(zv_host *host, int which)
     zv_addresses found;
     static uint16_t port;
     uint32_t code = ZV_OK;
-    const uint64_t what = choice(72);
+    const uint64_t what = choice(77);
     if (((what > 13 && what < 40) || what > 65) && choice(8) != 0)
         socket = stream_from(host, (size_t)choice(SOCKETS));
     if (choice(64) == 0)
@@ -255,6 +297,8 @@ static void call(zv_host *host, int which)
             fail("more bytes given up than lent", length);
         break;
     case 25: code = zv_tcp_done(host, socket, any_size(), &count); break;
+    case 72: case 73: case 74: code = written(host, socket); break;
+    case 75: case 76: code = skipped(host, socket); break;
     case 26: case 70: case 71: code = zv_tcp_close(host, socket); break;
     case 27: code = zv_tcp_abort(host, socket); break;
     case 28:
@@ -374,7 +418,14 @@ static void cross(zv_host *from, zv_host *to)
 {
     static uint8_t frame[65549];
     size_t count, room = choice(32) == 0 ? (size_t)choice(200) : sizeof frame;
-    uint32_t code = zv_frame_out(from, frame, room, &count);
+    const uint8_t *lent = NULL;
+    uint32_t code = ZV_OK;
+    if (choice(2)) {
+        code = zv_frame_out(from, frame, room, &count);
+    } else if ((code = zv_frame_peek_out(from, &lent, &count)) == ZV_OK) {
+        memcpy(frame, lent, count);
+        code = zv_frame_skip_out(from);
+    }
     if (code == ZV_TOO_SHORT) {
         size_t again;
         if (zv_frame_out_length(from, &count) != ZV_OK || count <= room)

@@ -37,6 +37,9 @@ static void frames(void)
     BAD(zv_frame_out(&host, NULL, 0, &count));
     BAD(zv_frame_out(&host, bytes, 1, NULL));
     BAD(zv_frame_out_length(&host, NULL));
+    BAD(zv_frame_peek_out(&host, NULL, &count));
+    NO_HOST(zv_frame_skip_out(NULL));
+    NO_HOST(zv_frames_reserve(NULL, 64));
     BAD(zv_trace_line(&host, 0, 0, NULL, 0, bytes, 1, &count));
     BAD(zv_trace_line(&host, 0, 0, bytes, 0, NULL, 0, &count));
     BAD(zv_trace_line(&host, 0, 0, bytes, 0, bytes, 0, NULL));
@@ -62,6 +65,9 @@ static void sockets(void)
     BAD(zv_tcp_send(&host, 0, NULL, 0, &count));
     BAD(zv_tcp_recv(&host, 0, bytes, 1, NULL));
     BAD(zv_tcp_peek(&host, 0, NULL, &count));
+    NO_HOST(zv_tcp_skip(NULL, 0, 0));
+    BAD(zv_tcp_reserve(&host, 0, NULL, &count));
+    NO_HOST(zv_tcp_commit(NULL, 0, 0));
     BAD(zv_tcp_peer(&host, 0, &local, NULL));
     BAD(zv_tcp_queues(&host, 0, &count, NULL));
     BAD(zv_tcp_queues(&host, 0, NULL, &other));

@@ -1,5 +1,5 @@
 /* What a host and its sockets ask malloc for, and that frames which come and go ask for nothing once as many have waited as ever do: it ends
- * with status 1 where they do. Link it with -Wl,--wrap=malloc,--wrap=realloc.
+ * with status 1 where they do; behind zv_frames_reserve from the first one on. Link it with -Wl,--wrap=malloc,--wrap=realloc.
  */
 #define ZV_MAY_IGNORE /* what is asked for is printed, and would be seen to be less */
 #include "zemplovir.h"
@@ -65,15 +65,19 @@ static void made(void)
 static zv_host hosts[2];
 static size_t udp[2];
 
-static void begin(void)
+static void begin(int is_reserved)
 {
     const zv_address any = zv_any();
     for (int i = 0; i < 2; i++) {
         const zv_settings settings = {
             .medium = ZV_ETHERNET, .hardware = {2, 0, 0, 0, 0, (uint8_t)(i + 1)}, .mtu = 1514, .seed = 1, .frames = 16};
         const zv_address own = zv_ipv4(192, 168, 1, (uint8_t)(i + 1));
+        hosts[i].inside = NULL;
         zv_host_new(&hosts[i], &settings, 0);
         zv_address_add(&hosts[i], &own, 24);
+        asked = calls = largest = 0;
+        if (is_reserved)
+            say("memory for 16 frames each way of 1514 bytes", zv_frames_reserve(&hosts[i], 1514));
         zv_udp_new(&hosts[i], 4, 8192, &udp[i]);
         zv_udp_bind(&hosts[i], udp[i], &any, 7);
     }
@@ -105,7 +109,7 @@ static size_t turns(int64_t from, int64_t to)
 int main(void)
 {
     made();
-    begin();
+    begin(0);
     size_t came = turns(0, 2000);
     printf("%zu datagrams: %zu bytes in %zu calls\n", came, asked, calls);
     asked = calls = 0;
@@ -113,5 +117,13 @@ int main(void)
     printf("%zu more: %zu bytes in %zu calls\n", came, asked, calls);
     for (int i = 0; i < 2; i++)
         zv_host_free(&hosts[i]);
-    return came == 36000 && calls == 0 ? 0 : 1;
+    if (came != 36000 || calls != 0)
+        return 1;
+    begin(1);
+    asked = calls = 0;
+    came = turns(0, 2000);
+    printf("%zu datagrams behind that: %zu bytes in %zu calls\n", came, asked, calls);
+    for (int i = 0; i < 2; i++)
+        zv_host_free(&hosts[i]);
+    return came == 4000 && calls == 0 ? 0 : 1;
 }

@@ -160,6 +160,7 @@ static void set_up(zv_host *host)
     DO(zv_host_set_any_ip(host, 0));
     DO(zv_host_set_reassembly_timeout(host, 60000000));
     DO(zv_host_set_reassembly_slots(host, 3));
+    DO(zv_frames_reserve(host, 200));
     DO(zv_counters(host, &counts));
     DO(zv_poll_at(host, 0, &at));
 }
@@ -225,7 +226,7 @@ static void ask(course *it)
     DO(zv_dhcp_poll_at(host, &at));
     DO(zv_dns_poll_at(host, &at));
     SAYS(zv_dns_result(host, &found), ZV_QUERY_PENDING);
-    if (lease.event != 2 || later.event != 0 || it->port < 1024)
+    if (lease.event != ZV_LEASE_LOST || later.event != ZV_LEASE_NONE || it->port < 1024)
         stop("the clients don't ask", it->port);
 }
 
@@ -244,8 +245,9 @@ static void see(course *it)
         stop("the connection is another", from.port);
     if (zv_tcp_peek(&it->hosts[1], it->tcp[1], &lent, &count) != ZV_OK || count == 0 || lent[0] != bytes[0])
         stop("no text is lent", count);
-    if (zv_tcp_done(&it->hosts[1], it->tcp[1], 8, &first) != ZV_OK || first != 8)
+    if (zv_tcp_done(&it->hosts[1], it->tcp[1], 5, &first) != ZV_OK || first != 5 || zv_tcp_skip(&it->hosts[1], it->tcp[1], 3) != ZV_OK)
         stop("the first bytes aren't given up", first);
+    first += 3;
     if (zv_tcp_recv(&it->hosts[1], it->tcp[1], got, sizeof got, &count) != ZV_OK || count != sizeof bytes - first)
         stop("the text didn't come", count);
     if (zv_icmp_recv(&it->hosts[0], it->icmp, got, sizeof got, &count, &address) != ZV_OK || count != 16)
@@ -258,6 +260,7 @@ static void talk(course *it)
 {
     uint8_t packet[24] = {0x45, 0, 0, 24, 0, 1, 0, 0, 64, 1, 0, 0, 192, 168, 1, 2, 192, 168, 1, 1, 8, 0, 0, 0}, changed;
     zv_endpoint remote = {zv_ipv4(192, 168, 1, 2), 7};
+    uint8_t *room = NULL;
     size_t count;
     DO(zv_udp_send(&it->hosts[0], it->udp[0], bytes, sizeof bytes, &remote, &any));
     DO(zv_icmp_send(&it->hosts[0], it->icmp, bytes, 16, &remote.address));
@@ -265,7 +268,12 @@ static void talk(course *it)
     DO(zv_tcp_connect(&it->hosts[0], it->tcp[0], &remote, &any, 4000));
     turns(it->hosts, &it->now);
     turns(it->hosts, &it->now);
-    DO(zv_tcp_send(&it->hosts[0], it->tcp[0], bytes, sizeof bytes, &count));
+    DO(zv_tcp_send(&it->hosts[0], it->tcp[0], bytes, sizeof bytes - 4, &count));
+    DO(zv_tcp_reserve(&it->hosts[0], it->tcp[0], &room, &count));
+    if (room == NULL || count < 4)
+        stop("no room is lent", count);
+    memcpy(room, bytes + sizeof bytes - 4, 4);
+    DO(zv_tcp_commit(&it->hosts[0], it->tcp[0], 4));
     turns(it->hosts, &it->now);
     if (refused_at == 0)
         see(it);
@@ -273,6 +281,9 @@ static void talk(course *it)
     DO(zv_poll(&it->hosts[1], it->now, 8, &changed));
     if (refused_at == 0)
         DO(zv_frame_out_length(&it->hosts[1], &count));
+    const uint8_t *first;
+    if (zv_frame_peek_out(&it->hosts[1], &first, &count) == ZV_OK)
+        DO(zv_frame_skip_out(&it->hosts[1]));
     uint8_t line[200];
     DO(zv_trace_line(&it->hosts[1], it->now, 0, packet, sizeof packet, line, sizeof line, &count));
     turns(it->hosts, &it->now);

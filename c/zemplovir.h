@@ -4,9 +4,10 @@
  *
  * What every call shares
  *   host       A zv_host that is all zero before its first call. Only these calls write it. It may be moved, not copied. One call at a
- *              time: not from two threads at once, and not from a signal handler.
+ *              time: not from two threads at once, and not from a signal handler. A call of a const host leaves it as it was, and is no
+ *              exception: it isn't for two threads at once either.
  *   pointers   Not null, not even where a length of 0 goes with them; valid for the whole call, writable where they aren't const, and
- *              not overlapping one another. Nothing is kept after a call but by zv_tcp_peek, which lends.
+ *              not overlapping one another. Nothing is kept after a call; zv_tcp_peek, zv_tcp_reserve and zv_frame_peek_out lend.
  *   numbers    Any. There is no number, moment or socket that a call may not be given: it answers a code.
  *   answer     ZV_OK, or why not. After any other code nothing has changed, and nothing is written behind the pointers, but where a call
  *              says so.
@@ -14,7 +15,7 @@
  *   sockets    A number: a place in the host, and 2^32 times how many sockets that place had before. Once a socket is removed every call
  *              answers ZV_NO_SOCKET to its number, also while another socket is in its place; the number comes back after 2^32 others.
  *   memory     Taken by malloc when a host or a socket is made, and for frames: once frames have been as many and as long as they
- *              become, no more. It is given back by zv_socket_remove and zv_host_free.
+ *              become, or behind zv_frames_reserve, no more. It is given back by zv_socket_remove and zv_host_free.
  */
 #ifndef ZEMPLOVIR_H
 #define ZEMPLOVIR_H
@@ -154,6 +155,7 @@ typedef struct zv_settings {
     uint8_t isn_key[16]; /* from a true source, and known to nobody else */
     uint8_t without_host_requirements; /* 0 where the host does what RFC 1122 and the standards after it ask of one on a network of many,
                                         * with a table of 256 neighbours; else it does as smoltcp, with one of four */
+    uint8_t without_multicast_reports; /* 0 where routers and switches are told which multicast groups the host listens to */
 } zv_settings;
 
 typedef struct zv_counts {
@@ -187,8 +189,8 @@ uint32_t zv_route_add(zv_host *host, const zv_address *network, uint8_t prefix, 
 uint32_t zv_route_remove(zv_host *host, const zv_address *network, uint8_t prefix);
 
 /* Listens to a multicast group from now on, eight at most: each datagram to it goes to the UDP sockets of its port. A group that is joined already,
- * 224.0.0.1 and ff02::1 stay as they are. No report is sent (IGMP, MLD): a switch that forwards a group to those alone that report it doesn't
- * forward this one. ZV_BAD_ARGUMENT, ZV_UNADDRESSABLE (no group), ZV_TABLE_FULL. */
+ * 224.0.0.1 and ff02::1 stay as they are. Routers and switches are told (IGMP, MLD) unless `without_multicast_reports`: then a switch that
+ * forwards a group to those alone that report it doesn't forward this one. ZV_BAD_ARGUMENT, ZV_UNADDRESSABLE (no group), ZV_TABLE_FULL. */
 uint32_t zv_group_join(zv_host *host, const zv_address *group);
 
 /* Listens to it no longer, however often it was joined. A group that isn't joined stays as it is. ZV_BAD_ARGUMENT, ZV_UNADDRESSABLE (no group). */
@@ -222,12 +224,23 @@ uint32_t zv_frame_in(zv_host *host, const uint8_t *frame, size_t length);
 uint32_t zv_frame_out(zv_host *host, uint8_t *frame, size_t length, size_t *count);
 
 /* How many bytes the first frame has that is to go. ZV_EMPTY. */
-uint32_t zv_frame_out_length(zv_host *host, size_t *count);
+uint32_t zv_frame_out_length(const zv_host *host, size_t *count);
+
+/* Lends the first frame that is to go, where it stands: it may be read only, and stays there through polls and calls, until it is skipped or
+ * copied out. Not for longer than the host. ZV_EMPTY. */
+uint32_t zv_frame_peek_out(const zv_host *host, const uint8_t **frame, size_t *count);
+
+/* The first frame that is to go went: it is dropped, and counted as zv_frame_out counts it. ZV_EMPTY. */
+uint32_t zv_frame_skip_out(zv_host *host);
+
+/* Takes memory at once for as many frames each way as may wait (the settings' `frames`), of so many bytes each: once for a host, behind
+ * zv_host_new, and no frame of that length asks malloc any more. ZV_MEMORY: what was taken by then stays for frames. */
+uint32_t zv_frames_reserve(zv_host *host, size_t length);
 
 /* Writes what a frame is as a line of text for a log: `now` in seconds, whether it came (sent is 0) or was sent (1), and a header behind the
  * other, as "[  1.000000s] <- Ethernet 02-.. > 02-.., ARP request ..\n". It says how many bytes it wrote, and puts no 0 behind them; of a line
  * that is longer than `size` the front is written. The host stays as it is. ZV_MEMORY. */
-uint32_t zv_trace_line(zv_host *host, int64_t now, uint8_t sent, const uint8_t *frame, size_t length, uint8_t *text, size_t size, size_t *count);
+uint32_t zv_trace_line(const zv_host *host, int64_t now, uint8_t sent, const uint8_t *frame, size_t length, uint8_t *text, size_t size, size_t *count);
 
 /* Takes in at most `budget` of the frames that came, and goes over the sockets at most `budget` times for what they have to send. While as
  * many frames are to go as may, none comes and none goes: fetch them, and poll again. Then each listener sees how far the sockets of its
@@ -239,7 +252,7 @@ uint32_t zv_poll(zv_host *host, int64_t now, uint16_t budget, uint8_t *changed);
 uint32_t zv_poll_at(zv_host *host, int64_t now, int64_t *at);
 
 /* What the host has counted since it was made. */
-uint32_t zv_counters(zv_host *host, zv_counts *counters);
+uint32_t zv_counters(const zv_host *host, zv_counts *counters);
 
 /* Gives the memory of a socket of any kind back. Its number is no other's. A connection ends without a word to the remote:
  * close or abort it, and poll, before. One that a listener has stays. ZV_NO_SOCKET, ZV_IN_BACKLOG. */
@@ -248,7 +261,7 @@ uint32_t zv_socket_remove(zv_host *host, size_t socket);
 /* A pointer of the program's own at a socket of any kind, to find what belongs to the socket. Nothing is read behind it. A new socket has a null
  * pointer. ZV_NO_SOCKET. */
 uint32_t zv_socket_set_user(zv_host *host, size_t socket, void *user);
-uint32_t zv_socket_user(zv_host *host, size_t socket, void **user);
+uint32_t zv_socket_user(const zv_host *host, size_t socket, void **user);
 
 /* UDP. Each call with a socket may answer ZV_NO_SOCKET and ZV_WRONG_KIND. */
 
@@ -324,13 +337,26 @@ uint32_t zv_tcp_send(zv_host *host, size_t socket, const uint8_t *bytes, size_t 
  * open yet, or ended by a reset or a timeout). */
 uint32_t zv_tcp_recv(zv_host *host, size_t socket, uint8_t *bytes, size_t length, size_t *count);
 
-/* Lends the first waiting bytes, as many as lie behind one another: they stand where `bytes` points to until the next call with this
- * host, and may be read only. Where none wait, `bytes` isn't written. ZV_FINISHED, ZV_INVALID_STATE. */
-uint32_t zv_tcp_peek(zv_host *host, size_t socket, const uint8_t **bytes, size_t *count);
+/* Lends the first waiting bytes, as many as lie behind one another: they may be read only, and stand where `bytes` points to, also through
+ * polls, until bytes of this socket are read or given up, it is opened again, by a call or by its listener, or removed. Where none wait,
+ * `bytes` isn't written. ZV_FINISHED, ZV_INVALID_STATE. */
+uint32_t zv_tcp_peek(const zv_host *host, size_t socket, const uint8_t **bytes, size_t *count);
 
 /* Gives up the first waiting bytes, at most `wanted` and as many as lie behind one another, and says how many.
  * ZV_FINISHED, ZV_INVALID_STATE. */
 uint32_t zv_tcp_done(zv_host *host, size_t socket, size_t wanted, size_t *count);
+
+/* Gives up exactly so many of the bytes that zv_tcp_peek lends; of more than those, none. ZV_TOO_LONG, ZV_FINISHED, ZV_INVALID_STATE. */
+uint32_t zv_tcp_skip(zv_host *host, size_t socket, size_t count);
+
+/* Lends room for bytes that are to go, behind those that are queued, as many as lie behind one another: they stand where `bytes` points to,
+ * and may be written, until the next zv_poll or the next call with this socket. None is queued by it. Where there is no room, `bytes` isn't
+ * written. ZV_INVALID_STATE (the connection isn't open yet, or its way out is closed). */
+uint32_t zv_tcp_reserve(zv_host *host, size_t socket, uint8_t **bytes, size_t *count);
+
+/* Queues the first so many bytes of the room, as they were written there since zv_tcp_reserve; of more than were lent, none. Behind a poll or
+ * another call with this socket other bytes may stand there: reserve again. ZV_TOO_LONG, ZV_INVALID_STATE. */
+uint32_t zv_tcp_commit(zv_host *host, size_t socket, size_t count);
 
 /* Closes the way out: what is queued still goes, and then the end of the stream. The remote may still send. A socket that listens, or whose
  * connection isn't answered yet, is closed at once. */
@@ -341,19 +367,19 @@ uint32_t zv_tcp_close(zv_host *host, size_t socket);
 uint32_t zv_tcp_abort(zv_host *host, size_t socket);
 
 /* The state of the connection. */
-uint32_t zv_tcp_state(zv_host *host, size_t socket, uint8_t *state);
+uint32_t zv_tcp_state(const zv_host *host, size_t socket, uint8_t *state);
 
 /* Why the last connection ended, once the state is ZV_CLOSED: ZV_END_NONE before. */
-uint32_t zv_tcp_end_reason(zv_host *host, size_t socket, uint8_t *reason);
+uint32_t zv_tcp_end_reason(const zv_host *host, size_t socket, uint8_t *reason);
 
 /* The own endpoint of the connection and the remote's. ZV_INVALID_STATE (there is no connection). */
-uint32_t zv_tcp_peer(zv_host *host, size_t socket, zv_endpoint *local, zv_endpoint *remote);
+uint32_t zv_tcp_peer(const zv_host *host, size_t socket, zv_endpoint *local, zv_endpoint *remote);
 
 /* How many bytes wait to be read, and how many are queued that aren't acknowledged. */
-uint32_t zv_tcp_queues(zv_host *host, size_t socket, size_t *received, size_t *queued);
+uint32_t zv_tcp_queues(const zv_host *host, size_t socket, size_t *received, size_t *queued);
 
 /* How many bytes more can be queued: zv_tcp_send takes at most so many. */
-uint32_t zv_tcp_room(zv_host *host, size_t socket, size_t *room);
+uint32_t zv_tcp_room(const zv_host *host, size_t socket, size_t *room);
 
 /* SETTINGS of TCP. They stay as they are when the socket is opened again. */
 
@@ -446,8 +472,9 @@ uint32_t zv_icmp_bind_tcp(zv_host *host, size_t socket, const zv_address *addres
 /* Sets the hop limit of what is sent, 0 for the usual 64. */
 uint32_t zv_icmp_set_hop_limit(zv_host *host, size_t socket, uint8_t limit);
 
-/* Queues a message, from its type on; the socket needn't be bound. Its checksum is written when it is sent. What is no message of ICMP for
- * the remote's family is dropped later, in silence. ZV_BAD_ARGUMENT, ZV_UNADDRESSABLE (the remote is unspecified), ZV_FULL. */
+/* Queues a message, from its type on; the socket needn't be bound. Its checksum is written when it is sent. One that is longer than a frame
+ * takes goes in fragments, if it has at most 4,076 bytes over IPv4 and 4,056 over IPv6; a longer one is refused. What is no message of ICMP
+ * for the remote's family is dropped later, in silence. ZV_TOO_LONG, ZV_BAD_ARGUMENT, ZV_UNADDRESSABLE (the remote is unspecified), ZV_FULL. */
 uint32_t zv_icmp_send(zv_host *host, size_t socket, const uint8_t *bytes, size_t length, const zv_address *remote);
 
 /* Copies the first message to the buffer, and says its length and where it came from. One that is longer than the buffer is gone
@@ -460,8 +487,9 @@ uint32_t zv_icmp_recv(zv_host *host, size_t socket, uint8_t *bytes, size_t lengt
  * of so many bytes together, each way, and says its place. ZV_BAD_ARGUMENT (family), ZV_MEMORY. */
 uint32_t zv_raw_new(zv_host *host, uint8_t family, uint16_t protocol, size_t packets, size_t bytes, size_t *socket);
 
-/* Queues a packet with its IP header, which is written anew when it is sent, with its checksum and without options. What is no packet of the
- * socket's family and protocol is dropped later, in silence. ZV_FULL. */
+/* Queues a packet with its IP header, which is written anew when it is sent, with its checksum and without options. One that is then longer
+ * than a frame takes, and than 4,096 bytes, is refused. What is no packet of the socket's family and protocol is dropped later, in silence.
+ * ZV_TOO_LONG, ZV_FULL. */
 uint32_t zv_raw_send(zv_host *host, size_t socket, const uint8_t *bytes, size_t length);
 
 /* Copies the first packet to the buffer, its IP header first, and says its length. One that is longer than the buffer is gone
@@ -472,9 +500,16 @@ uint32_t zv_raw_recv(zv_host *host, size_t socket, uint8_t *bytes, size_t length
  * to be done between a client and its socket, by the other calls. Call each after a poll, and poll again; poll at the latest when
  * zv_poll_at, zv_dhcp_poll_at or zv_dns_poll_at says. Each call but zv_dhcp_new and zv_dns_new may answer ZV_NO_CLIENT. */
 
+/* What happened to a lease. */
+enum {
+    ZV_LEASE_NONE = 0, /* nothing */
+    ZV_LEASE_NEW = 1,  /* there is one, perhaps with other addresses than before */
+    ZV_LEASE_LOST = 2  /* there is none: an address that was used is to go */
+};
+
 /* What a client of DHCP tells. */
 typedef struct zv_lease {
-    uint8_t event;       /* 0: nothing happened. 1: there is a lease of what follows. 2: there is none, an address that was used is to go */
+    uint8_t event;       /* ZV_LEASE_NONE, ZV_LEASE_NEW, which has what follows, or ZV_LEASE_LOST */
     uint8_t prefix;      /* how many bits the address's network has */
     zv_address address;
     zv_address router;   /* family 0 for none, here and below */
@@ -506,7 +541,7 @@ uint32_t zv_dhcp_sent(zv_host *host, uint8_t sent);
 uint32_t zv_dhcp_poll(zv_host *host, int64_t now, zv_lease *lease);
 
 /* When the client has something to send: 0 for now, INT64_MAX for never. */
-uint32_t zv_dhcp_poll_at(zv_host *host, int64_t *at);
+uint32_t zv_dhcp_poll_at(const zv_host *host, int64_t *at);
 
 /* Begins a client of DNS in place of one that there was. It asks these servers in turn, up to one of family 0. ZV_BAD_ARGUMENT. */
 uint32_t zv_dns_new(zv_host *host, const zv_address *first, const zv_address *second, const zv_address *third);
@@ -531,7 +566,7 @@ uint32_t zv_dns_sent(zv_host *host, uint8_t sent);
 uint32_t zv_dns_result(zv_host *host, zv_addresses *addresses);
 
 /* When the client has something to send, INT64_MAX for never. */
-uint32_t zv_dns_poll_at(zv_host *host, int64_t *at);
+uint32_t zv_dns_poll_at(const zv_host *host, int64_t *at);
 
 /* Carries datagrams between the client of DHCP and a UDP socket that is bound to port 68 of all addresses, and says what happened. */
 static inline uint32_t zv_dhcp_turn(zv_host *host, size_t socket, int64_t now, zv_lease *lease)
@@ -594,6 +629,8 @@ ZV_MUST_LOOK(zv_host_set_hardware);
 ZV_MUST_LOOK(zv_host_set_reassembly_slots);
 ZV_MUST_LOOK(zv_frame_out);
 ZV_MUST_LOOK(zv_frame_out_length);
+ZV_MUST_LOOK(zv_frame_peek_out);
+ZV_MUST_LOOK(zv_frames_reserve);
 ZV_MUST_LOOK(zv_trace_line);
 ZV_MUST_LOOK(zv_poll);
 ZV_MUST_LOOK(zv_poll_at);
@@ -608,6 +645,9 @@ ZV_MUST_LOOK(zv_tcp_connect);
 ZV_MUST_LOOK(zv_tcp_send);
 ZV_MUST_LOOK(zv_tcp_recv);
 ZV_MUST_LOOK(zv_tcp_peek);
+ZV_MUST_LOOK(zv_tcp_skip);
+ZV_MUST_LOOK(zv_tcp_reserve);
+ZV_MUST_LOOK(zv_tcp_commit);
 ZV_MUST_LOOK(zv_tcp_state);
 ZV_MUST_LOOK(zv_tcp_end_reason);
 ZV_MUST_LOOK(zv_tcp_peer);

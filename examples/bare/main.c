@@ -97,12 +97,12 @@ static void take_lease(void)
 {
     static zv_lease had;
     const zv_address all = {4, {0}};
-    if (lease.event != 0 && had.address.family != 0) {
+    if (lease.event != ZV_LEASE_NONE && had.address.family != 0) {
         zv_address_remove(&host, &had.address);
         zv_route_remove(&host, &all, 0);
         had.address.family = 0;
     }
-    if (lease.event != 1)
+    if (lease.event != ZV_LEASE_NEW)
         return;
     must(zv_address_add(&host, &lease.address, lease.prefix), "address");
     if (lease.router.family != 0)
@@ -116,18 +116,15 @@ static void take_lease(void)
 /* Frames that came go in, the host is polled, and frames that are to go go out. */
 static void turn(void)
 {
-    static uint8_t frame[VIRTIO_FRAME], to_send[VIRTIO_FRAME];
-    static size_t waits;
+    static uint8_t frame[VIRTIO_FRAME];
+    const uint8_t *first;
     uint8_t changed;
     size_t length;
     for (int i = 0; i < BUDGET && (length = virtio_receive(frame)) > 0; i++)
         zv_frame_in(&host, frame, length);
     must(zv_poll(&host, now(), BUDGET, &changed), "poll");
-    while (waits > 0 || zv_frame_out(&host, to_send, sizeof to_send, &waits) == ZV_OK) {
-        if (!virtio_send(to_send, waits))
-            return;
-        waits = 0;
-    }
+    while (zv_frame_peek_out(&host, &first, &length) == ZV_OK && virtio_send(first, length))
+        zv_frame_skip_out(&host);
 }
 
 static void echo_datagrams(void)

@@ -2,11 +2,12 @@
 //!
 //!     echo NAME ADDRESS PREFIX        as root, the device made before: docs/guide/c_and_rust.md
 use std::fs::{File, OpenOptions};
-use std::io::{self, ErrorKind, Read, Write};
+use std::io::{self, Read, Write};
 use std::os::fd::AsRawFd;
 use std::os::raw::{c_int, c_short, c_ulong};
 use std::os::unix::fs::OpenOptionsExt;
 use std::time::Duration;
+use zemplovir::phy::{self, Device, DeviceCapabilities, RxToken, TxToken};
 use zemplovir::tcp::State;
 use zemplovir::{Config, Error, Instant, Interface, Medium, SocketHandle};
 
@@ -15,7 +16,6 @@ const IFF_TUN: c_short = 1;
 const IFF_NO_PI: c_short = 0x1000;
 const O_NONBLOCK: i32 = 0o4000;
 const POLLIN: c_short = 1;
-const BUDGET: u16 = 64;
 const STREAMS: usize = 4;
 
 /// What `ioctl` takes of a device: its name, and what it is.
@@ -49,21 +49,51 @@ fn open(name: &str) -> io::Result<File> {
     Ok(device)
 }
 
-/// Frames that came go to the host, those that are to go go to the device.
-fn carry(host: &mut Interface, device: &mut File, now: Instant) -> Result<(), Error> {
-    let mut frame = [0; 2048];
-    for _ in 0..BUDGET {
-        match device.read(&mut frame) {
-            Ok(count) => drop(host.receive(&frame[..count])),
-            Err(error) if error.kind() == ErrorKind::WouldBlock => break,
-            Err(_) => break,
-        }
+/// The device, as what polls take it for.
+struct Tun {
+    file: File,
+    frame: [u8; 2048],
+}
+
+struct Came<'a> {
+    frame: &'a [u8],
+}
+
+struct Leave<'a> {
+    file: &'a File,
+}
+
+impl RxToken for Came<'_> {
+    fn consume<R, F: FnOnce(&[u8]) -> R>(self, f: F) -> R {
+        f(self.frame)
     }
-    host.poll(now, BUDGET)?;
-    while let Ok(count) = host.transmit(&mut frame) {
-        let _ = device.write(&frame[..count]);
+}
+
+impl TxToken for Leave<'_> {
+    fn consume<R, F: FnOnce(&mut [u8]) -> R>(mut self, len: usize, f: F) -> R {
+        let mut frame = vec![0; len];
+        let answer = f(&mut frame);
+        let _ = self.file.write(&frame);
+        answer
     }
-    Ok(())
+}
+
+impl Device for Tun {
+    type RxToken<'a> = Came<'a>;
+    type TxToken<'a> = Leave<'a>;
+
+    fn receive(&mut self, _: Instant) -> Option<(Came<'_>, Leave<'_>)> {
+        let count = self.file.read(&mut self.frame).ok()?;
+        Some((Came { frame: &self.frame[..count] }, Leave { file: &self.file }))
+    }
+
+    fn transmit(&mut self, _: Instant) -> Option<Leave<'_>> {
+        Some(Leave { file: &self.file })
+    }
+
+    fn capabilities(&self) -> DeviceCapabilities {
+        DeviceCapabilities { medium: phy::Medium::Ip, max_transmission_unit: 1500 }
+    }
 }
 
 fn echo_datagrams(host: &mut Interface, socket: SocketHandle) {
@@ -98,21 +128,22 @@ fn main() -> Result<(), Box<dyn std::error::Error>> {
         eprintln!("usage: echo NAME ADDRESS PREFIX");
         std::process::exit(2);
     };
-    let mut device = open(name)?;
+    let mut device = Tun { file: open(name)?, frame: [0; 2048] };
     let (mut seed, mut key) = ([0; 8], [0; 16]);
     let mut random = File::open("/dev/urandom")?;
     random.read_exact(&mut seed)?;
     random.read_exact(&mut key)?;
     let config = Config {
         medium: Medium::Ip,
-        max_transmission_unit: 1500,
+        max_transmission_unit: 0,
         random_seed: u64::from_ne_bytes(seed),
         isn_key: Some(key),
         frames: 256,
         host_requirements: true,
+        multicast_reports: true,
     };
     let began = std::time::Instant::now();
-    let mut host = Interface::new(&config, Instant::ZERO)?;
+    let mut host = Interface::on_device(&config, &device, Instant::ZERO)?;
     host.add_ip_addr(address.parse()?, prefix.parse()?)?;
     let datagrams = host.add_udp(64, 65536)?;
     host.udp(datagrams).bind(7)?;
@@ -125,14 +156,14 @@ fn main() -> Result<(), Box<dyn std::error::Error>> {
     eprintln!("echo: ready");
     loop {
         let now = Instant::from_micros(began.elapsed().as_micros() as i64);
-        carry(&mut host, &mut device, now)?;
+        host.poll_device(now, &mut device)?;
         echo_datagrams(&mut host, datagrams);
         for &socket in &streams {
             echo_stream(&mut host, socket)?;
         }
-        carry(&mut host, &mut device, now)?;
+        host.poll_device(now, &mut device)?;
         let delay = host.poll_delay(now)?.unwrap_or(Duration::from_secs(1)).min(Duration::from_secs(1));
-        let mut waits = Waits { file: device.as_raw_fd(), events: POLLIN, happened: 0 };
+        let mut waits = Waits { file: device.file.as_raw_fd(), events: POLLIN, happened: 0 };
         unsafe { poll(&mut waits, 1, delay.as_micros().div_ceil(1000) as c_int) };
     }
 }

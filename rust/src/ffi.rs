@@ -38,6 +38,7 @@ pub struct Settings {
     pub keyed: u8,
     pub isn_key: [u8; 16],
     pub without_host_requirements: u8,
+    pub without_multicast_reports: u8,
 }
 
 /// What an interface has counted since it was made.
@@ -88,6 +89,9 @@ extern "C" {
     pub fn zv_frame_in(host: *mut Host, frame: *const u8, length: usize) -> u32;
     pub fn zv_frame_out(host: *mut Host, frame: *mut u8, length: usize, count: *mut usize) -> u32;
     pub fn zv_frame_out_length(host: *mut Host, count: *mut usize) -> u32;
+    pub fn zv_frame_peek_out(host: *mut Host, frame: *mut *const u8, count: *mut usize) -> u32;
+    pub fn zv_frame_skip_out(host: *mut Host) -> u32;
+    pub fn zv_frames_reserve(host: *mut Host, length: usize) -> u32;
     pub fn zv_trace_line(
         host: *mut Host,
         now: i64,
@@ -137,7 +141,11 @@ extern "C" {
     pub fn zv_tcp_send(host: *mut Host, socket: usize, bytes: *const u8, length: usize, count: *mut usize) -> u32;
     pub fn zv_tcp_recv(host: *mut Host, socket: usize, bytes: *mut u8, length: usize, count: *mut usize) -> u32;
     pub fn zv_tcp_peek(host: *mut Host, socket: usize, bytes: *mut *const u8, count: *mut usize) -> u32;
+    #[allow(dead_code)]
     pub fn zv_tcp_done(host: *mut Host, socket: usize, wanted: usize, count: *mut usize) -> u32;
+    pub fn zv_tcp_skip(host: *mut Host, socket: usize, count: usize) -> u32;
+    pub fn zv_tcp_reserve(host: *mut Host, socket: usize, bytes: *mut *mut u8, count: *mut usize) -> u32;
+    pub fn zv_tcp_commit(host: *mut Host, socket: usize, count: usize) -> u32;
     pub fn zv_tcp_close(host: *mut Host, socket: usize) -> u32;
     pub fn zv_tcp_abort(host: *mut Host, socket: usize) -> u32;
     pub fn zv_tcp_state(host: *mut Host, socket: usize, state: *mut u8) -> u32;

@@ -6,7 +6,9 @@
 //! The wrapper adds nothing to what the library does, but that Rust's types keep the library's demands: a host is freed once, is used from
 //! one thread at a time, and lent bytes are read only as long as nothing else is called.
 //!
-//! It needs `alloc`, for what the library itself asks `malloc` for and for [`Interface::query_result`], and nothing else of `std`.
+//! A [`phy::Device`] is what a driver implements; [`Interface::poll_device`] polls with one. Sockets take wakers, as smoltcp's.
+//!
+//! It needs `alloc`, for what the library itself asks `malloc` for, for [`Interface::query_result`] and for wakers, and nothing else of `std`.
 #![no_std]
 #![deny(missing_docs)]
 
@@ -18,9 +20,11 @@ mod error;
 mod ffi;
 pub mod icmp;
 mod listener;
+pub mod phy;
 pub mod raw;
 pub mod tcp;
 pub mod udp;
+mod wakers;
 
 pub use error::{Error, Result};
 pub use ffi::Counters;
@@ -81,6 +85,8 @@ pub struct Config {
     /// Whether the host does what RFC 1122 and the standards after it ask of one on a network of many, with a table of 256 neighbours; else it
     /// does as smoltcp, with one of four.
     pub host_requirements: bool,
+    /// Whether routers and switches are told which multicast groups the host listens to.
+    pub multicast_reports: bool,
 }
 
 /// The place of a socket.
@@ -90,6 +96,8 @@ pub struct SocketHandle(usize);
 /// A host: its addresses, its routes, its sockets, and the frames that wait.
 pub struct Interface {
     host: ffi::Host,
+    frames: usize,
+    wakers: wakers::Wakers,
 }
 
 // The host is one box, whose memory no other host shares.
@@ -154,10 +162,21 @@ impl Interface {
             keyed: config.isn_key.is_some().into(),
             isn_key: config.isn_key.unwrap_or_default(),
             without_host_requirements: (!config.host_requirements).into(),
+            without_multicast_reports: (!config.multicast_reports).into(),
         };
         let mut host = ffi::Host { inside: null_mut() };
         done(unsafe { ffi::zv_host_new(&mut host, &settings, now.micros) })?;
-        Ok(Interface { host })
+        Ok(Interface { host, frames: config.frames, wakers: Default::default() })
+    }
+
+    /// A host for this device, whose longest frame it takes over. [`Error::Medium`] where its frames are others than the configuration says.
+    pub fn on_device<D: phy::Device + ?Sized>(config: &Config, device: &D, now: Instant) -> Result<Interface> {
+        let is_ethernet = matches!(config.medium, Medium::Ethernet(_));
+        let capabilities = device.capabilities();
+        if is_ethernet != (capabilities.medium == phy::Medium::Ethernet) {
+            return Err(Error::Medium);
+        }
+        Interface::new(&Config { max_transmission_unit: capabilities.max_transmission_unit, ..*config }, now)
     }
 
     /// Adds an own address with its network's prefix.
@@ -180,7 +199,7 @@ impl Interface {
         done(unsafe { ffi::zv_route_remove(&mut self.host, &address(network), prefix_len) })
     }
 
-    /// Listens to this multicast group from now on, eight at most. No report is sent. [`Error::Unaddressable`], [`Error::TableFull`].
+    /// Listens to this multicast group from now on, eight at most, and tells of it with `multicast_reports`. [`Error::Unaddressable`], [`Error::TableFull`].
     pub fn join_multicast_group(&mut self, group: IpAddr) -> Result<()> {
         done(unsafe { ffi::zv_group_join(&mut self.host, &address(group)) })
     }
@@ -237,6 +256,21 @@ impl Interface {
         Some(count)
     }
 
+    /// Hands the first frame that is to go to `f`, without copying it, and drops it. Answers what `f` answers, if there is a frame.
+    pub fn transmit_with<R>(&mut self, f: impl FnOnce(&[u8]) -> R) -> Option<R> {
+        let (mut frame, mut count) = (core::ptr::null(), 0);
+        done(unsafe { ffi::zv_frame_peek_out(&mut self.host, &mut frame, &mut count) }).ok()?;
+        // It stays until it is skipped, and the interface is borrowed for as long as it is.
+        let answer = f(if count == 0 { &[] } else { unsafe { core::slice::from_raw_parts(frame, count) } });
+        done(unsafe { ffi::zv_frame_skip_out(&mut self.host) }).ok()?;
+        Some(answer)
+    }
+
+    /// Takes memory at once for as many frames each way as may wait, of so many bytes each: none of that length asks for memory any more.
+    pub fn reserve_frames(&mut self, length: usize) -> Result<()> {
+        done(unsafe { ffi::zv_frames_reserve(&mut self.host, length) })
+    }
+
     /// Writes what a frame is as a line of text for a log, and answers how many bytes it wrote. Of a line that is longer than `text` the front
     /// is written.
     pub fn trace_line(&mut self, now: Instant, sent: bool, frame: &[u8], text: &mut [u8]) -> Result<usize> {
@@ -254,6 +288,9 @@ impl Interface {
     pub fn poll(&mut self, now: Instant, budget: u16) -> Result<bool> {
         let mut changed = 0;
         done(unsafe { ffi::zv_poll(&mut self.host, now.micros, budget, &mut changed) })?;
+        if changed != 0 {
+            self.wakers.wake_all();
+        }
         Ok(changed != 0)
     }
 
@@ -279,7 +316,9 @@ impl Interface {
 
     /// Gives the memory of a socket of any kind back. Its handle names no other socket: every call answers `Error::NoSocket` to it.
     pub fn remove(&mut self, handle: SocketHandle) -> Result<()> {
-        done(unsafe { ffi::zv_socket_remove(&mut self.host, handle.0) })
+        done(unsafe { ffi::zv_socket_remove(&mut self.host, handle.0) })?;
+        self.wakers.forget(handle.0);
+        Ok(())
     }
 
     /// Sets a number of the program's own at a socket of any kind, as an index of what belongs to it.

@@ -1,7 +1,7 @@
 //! TCP sockets.
 use crate::{done, endpoint, ffi, micros, optional, read_endpoint, Error, Interface, Result, SocketHandle};
 use core::net::{IpAddr, SocketAddr};
-use core::ptr::null;
+use core::ptr::{null, null_mut};
 use core::slice;
 use core::time::Duration;
 
@@ -157,12 +157,22 @@ impl Socket<'_> {
         Ok(unsafe { slice::from_raw_parts(bytes, count) })
     }
 
-    /// Lends the waiting bytes to `f`, which answers how many of them are read, and a value that is passed on.
+    /// Lends the waiting bytes to `f`, which answers how many of them are read, and a value that is passed on. [`Error::TooLong`] where it
+    /// answers more than there are: then none is.
     pub fn recv<R>(&mut self, f: impl FnOnce(&[u8]) -> (usize, R)) -> Result<R> {
         let (count, answer) = f(self.peek()?);
-        let handle = self.handle.0;
-        self.interface
-            .counted(|host, read| unsafe { ffi::zv_tcp_done(host, handle, count, read) })?;
+        done(unsafe { ffi::zv_tcp_skip(&mut self.interface.host, self.handle.0, count) })?;
+        Ok(answer)
+    }
+
+    /// Lends room behind what is queued to `f`, as much as lies behind one another. It writes there, and answers how many bytes are queued,
+    /// and a value that is passed on. [`Error::TooLong`] where it answers more than there are: then none is.
+    pub fn send<R>(&mut self, f: impl FnOnce(&mut [u8]) -> (usize, R)) -> Result<R> {
+        let (mut bytes, mut room) = (null_mut(), 0);
+        done(unsafe { ffi::zv_tcp_reserve(&mut self.interface.host, self.handle.0, &mut bytes, &mut room) })?;
+        // It is lent until the next call of the interface, and that is borrowed for as long as it is.
+        let (count, answer) = f(if room == 0 { &mut [] } else { unsafe { slice::from_raw_parts_mut(bytes, room) } });
+        done(unsafe { ffi::zv_tcp_commit(&mut self.interface.host, self.handle.0, count) })?;
         Ok(answer)
     }
 

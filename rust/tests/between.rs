@@ -1,5 +1,9 @@
 //! Two interfaces whose frames go from one to the other.
 use std::net::{IpAddr, Ipv4Addr, SocketAddr};
+use std::sync::Arc;
+use std::sync::atomic::{AtomicUsize, Ordering};
+use std::task::{Wake, Waker};
+use zemplovir::phy::{self, Device, DeviceCapabilities, Loopback, RxToken, TxToken};
 use zemplovir::{Config, Error, Instant, Interface, Medium, dhcp::Event, dns::DnsQueryType, tcp::{EndReason, State}};
 
 const FIRST: IpAddr = IpAddr::V4(Ipv4Addr::new(192, 168, 1, 1));
@@ -7,7 +11,7 @@ const SECOND: IpAddr = IpAddr::V4(Ipv4Addr::new(192, 168, 1, 2));
 
 fn host(medium: Medium, own: IpAddr, seed: u64) -> Interface {
     let max_transmission_unit = if medium == Medium::Ip { 1500 } else { 1514 };
-    let config = Config { medium, max_transmission_unit, random_seed: seed, isn_key: None, frames: 64, host_requirements: true };
+    let config = Config { medium, max_transmission_unit, random_seed: seed, isn_key: None, frames: 64, host_requirements: true, multicast_reports: true };
     let mut host = Interface::new(&config, Instant::ZERO).unwrap();
     host.add_ip_addr(own, 24).unwrap();
     host
@@ -145,7 +149,7 @@ fn refusals_have_names() {
     pair.first.remove(stream).unwrap();
     assert_eq!(pair.first.remove(stream), Err(Error::NoSocket));
     assert_eq!(pair.first.tcp(stream).abort(), Err(Error::NoSocket));
-    let config = Config { medium: Medium::Ip, max_transmission_unit: 500, random_seed: 0, isn_key: None, frames: 1, host_requirements: true };
+    let config = Config { medium: Medium::Ip, max_transmission_unit: 500, random_seed: 0, isn_key: None, frames: 1, host_requirements: true, multicast_reports: true };
     assert_eq!(Interface::new(&config, Instant::ZERO).err(), Some(Error::Mtu));
 }
 
@@ -298,4 +302,155 @@ fn a_handle_names_one_socket() {
     assert_eq!(pair.first.remove(old), Err(Error::NoSocket));
     assert_eq!(pair.first.user(next), Ok(0));
     assert_eq!(pair.first.tcp(next).room(), Ok(48));
+}
+
+#[test]
+fn bytes_are_written_and_read_where_they_stand() {
+    let mut pair = Pair::new(false);
+    let (one, other) = (pair.first.add_tcp(1000, 1000).unwrap(), pair.second.add_tcp(1000, 1000).unwrap());
+    assert_eq!(pair.first.tcp(one).send(|room| (room.len(), ())), Err(Error::InvalidState));
+    pair.second.tcp(other).listen(7).unwrap();
+    pair.first.tcp(one).connect(SocketAddr::new(SECOND, 7), 4000).unwrap();
+    pair.run(4);
+    let (mut sent, mut read) = (0u32, 0u32);
+    while read < 20_000 {
+        let room = pair.first.tcp(one).send(|room| {
+            let count = room.len().min(333);
+            for byte in &mut room[..count] {
+                *byte = sent as u8 ^ (sent >> 8) as u8;
+                sent += 1;
+            }
+            (count, room.len())
+        });
+        assert!(room.unwrap() <= 1000);
+        assert_eq!(pair.first.tcp(one).send(|room| (room.len() + 1, ())), Err(Error::TooLong));
+        pair.run(20);
+        assert_eq!(pair.second.tcp(other).recv(|bytes| (bytes.len() + 1, ())), Err(Error::TooLong));
+        let all = |bytes: &[u8]| {
+            for byte in bytes {
+                assert_eq!(*byte, read as u8 ^ (read >> 8) as u8);
+                read += 1;
+            }
+            (bytes.len(), bytes.len())
+        };
+        pair.second.tcp(other).recv(all).unwrap();
+    }
+}
+
+/// A device that keeps its newest frames, and takes so many until it is emptied.
+struct Kept {
+    came: Vec<Vec<u8>>,
+    went: Vec<Vec<u8>>,
+    room: usize,
+}
+
+struct Came(Vec<u8>);
+
+struct Leave<'a>(&'a mut Vec<Vec<u8>>);
+
+impl RxToken for Came {
+    fn consume<R, F: FnOnce(&[u8]) -> R>(self, f: F) -> R {
+        f(&self.0)
+    }
+}
+
+impl TxToken for Leave<'_> {
+    fn consume<R, F: FnOnce(&mut [u8]) -> R>(self, len: usize, f: F) -> R {
+        let mut frame = vec![0; len];
+        let answer = f(&mut frame);
+        self.0.push(frame);
+        answer
+    }
+}
+
+impl Device for Kept {
+    type RxToken<'a> = Came;
+    type TxToken<'a> = Leave<'a>;
+
+    fn receive(&mut self, _: Instant) -> Option<(Came, Leave<'_>)> {
+        let frame = self.came.pop()?;
+        Some((Came(frame), Leave(&mut self.went)))
+    }
+
+    fn transmit(&mut self, _: Instant) -> Option<Leave<'_>> {
+        (self.went.len() < self.room).then_some(Leave(&mut self.went))
+    }
+
+    fn capabilities(&self) -> DeviceCapabilities {
+        DeviceCapabilities { medium: phy::Medium::Ip, max_transmission_unit: 1500 }
+    }
+}
+
+#[test]
+fn a_device_takes_what_it_has_room_for() {
+    let mut device = Kept { came: Vec::new(), went: Vec::new(), room: 3 };
+    let ethernet = Config { medium: Medium::Ethernet([2, 0, 0, 0, 0, 1]), max_transmission_unit: 0, random_seed: 1, isn_key: None, frames: 2, host_requirements: true };
+    assert_eq!(Interface::on_device(&ethernet, &device, Instant::ZERO).err(), Some(Error::Medium));
+    let mut host = Interface::on_device(&Config { medium: Medium::Ip, ..ethernet }, &device, Instant::ZERO).unwrap();
+    host.add_ip_addr(FIRST, 24).unwrap();
+    host.reserve_frames(1500).unwrap();
+    let socket = host.add_udp(8, 8192).unwrap();
+    host.udp(socket).bind(9).unwrap();
+    for _ in 0..8 {
+        host.udp(socket).send_slice(b"datagram", SocketAddr::new(SECOND, 9)).unwrap();
+    }
+    for (poll, went) in [3, 3, 2, 0].into_iter().enumerate() {
+        host.poll_device(Instant::from_millis(poll as i64), &mut device).unwrap();
+        assert_eq!(device.went.len(), went);
+        device.went.clear();
+    }
+    assert_eq!(host.transmit_with(|frame| frame.len()), None);
+}
+
+#[test]
+fn a_stream_goes_round_a_loopback() {
+    let mut device = Loopback::new(phy::Medium::Ip);
+    let config = Config { medium: Medium::Ip, max_transmission_unit: 0, random_seed: 1, isn_key: None, frames: 4, host_requirements: false };
+    let mut host = Interface::on_device(&config, &device, Instant::ZERO).unwrap();
+    host.add_ip_addr(IpAddr::V4(Ipv4Addr::LOCALHOST), 8).unwrap();
+    let (client, server) = (host.add_tcp(4096, 4096).unwrap(), host.add_tcp(4096, 4096).unwrap());
+    host.tcp(server).listen(7).unwrap();
+    host.tcp(client).connect(SocketAddr::new(IpAddr::V4(Ipv4Addr::LOCALHOST), 7), 50000).unwrap();
+    let mut now = 0;
+    let mut run = |host: &mut Interface| {
+        for _ in 0..30 {
+            now += 1;
+            host.poll_device(Instant::from_millis(now), &mut device).unwrap();
+        }
+    };
+    run(&mut host);
+    assert_eq!(host.tcp(server).state(), Ok(State::Established));
+    host.tcp(client).send_slice(b"round and round").unwrap();
+    run(&mut host);
+    assert_eq!(host.tcp(server).recv(|bytes| (bytes.len(), bytes.to_vec())), Ok(b"round and round".to_vec()));
+}
+
+struct Counted(AtomicUsize);
+
+impl Wake for Counted {
+    fn wake(self: Arc<Self>) {
+        self.0.fetch_add(1, Ordering::SeqCst);
+    }
+}
+
+#[test]
+fn tasks_that_wait_are_woken_once() {
+    let mut pair = Pair::new(false);
+    let (one, other) = (pair.first.add_udp(4, 4096).unwrap(), pair.second.add_udp(4, 4096).unwrap());
+    pair.first.udp(one).bind(4000).unwrap();
+    pair.second.udp(other).bind(7).unwrap();
+    let woken = Arc::new(Counted(AtomicUsize::new(0)));
+    let waker = Waker::from(woken.clone());
+    pair.second.udp(other).register_recv_waker(&waker);
+    pair.second.udp(other).register_recv_waker(&waker);
+    pair.run(3);
+    assert_eq!(woken.0.load(Ordering::SeqCst), 0);
+    for _ in 0..2 {
+        pair.first.udp(one).send_slice(b"wake", SocketAddr::new(SECOND, 7)).unwrap();
+        pair.run(3);
+        assert_eq!(woken.0.load(Ordering::SeqCst), 1);
+    }
+    pair.second.udp(other).register_send_waker(&waker);
+    pair.second.remove(other).unwrap();
+    assert_eq!(woken.0.load(Ordering::SeqCst), 2);
 }

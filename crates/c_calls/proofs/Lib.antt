@@ -2,6 +2,7 @@ pub mod Numbers
 pub mod Generations
 pub mod Named
 pub mod TooLong
+pub mod Commits
 pub mod Lent
 pub mod Placed
 pub mod Making

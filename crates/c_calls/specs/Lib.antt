@@ -8,6 +8,7 @@ pub mod Streams
 pub mod Ends
 pub mod Datagrams
 pub mod Controls
+pub mod RawPackets
 pub mod Carrying
 pub mod Clients
 pub mod Leases
@@ -15,6 +16,7 @@ pub mod Names
 pub mod Host
 pub mod Calls
 pub mod Tables
+pub mod Lending
 pub mod Added
 pub mod Generations
 pub mod Backlogs

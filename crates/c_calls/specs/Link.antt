@@ -39,6 +39,11 @@ push_refusal link len Push.Memory = IsTaken link len
 abbrev pub arrived : LinkValue → List ℕ → LinkValue
 arrived link frame = record link { waiting = link.waiting ++ frame ∷ [] }
 
+-- the first frame
+abbrev pub next_frame : List (List ℕ) → Option (List ℕ)
+next_frame [] = None
+next_frame (frame ∷ _) = Some frame
+
 -- the length of the first frame
 abbrev pub next_len : List (List ℕ) → Option ℕ
 next_len [] = None

@@ -6,16 +6,27 @@ ghost use Rattle.c_calls.specs.Slots.{answer_at, after_at, written_at};
 ghost use Rattle.socket_datagram.specs.Icmp.{send_answer, send_after};
 ghost use Rattle.socket_datagram.specs.SocketValue.{recv_answer, recv_after, recv_written};
 ghost use Rattle.c_calls.specs.Codes.{coded, of_send, of_recv};
-ghost use Rattle.c_calls.specs.Controls.{act_answer, act_after};
+ghost use Rattle.c_calls.specs.Controls.{act_answer, act_after, header_len, message_room, queued_answer, queued_after, sent_answer, sent_after};
 ghost use Rattle.c_calls.specs.Added.{MakesSocket, new_icmp};
 
 use crate::code::{Code, of_bind, of_recv, of_send};
+use crate::datagrams::LONGEST_CUT;
 use crate::host::Host;
 use crate::kinds::lent;
 use crate::made::{limit_of, queues};
 use crate::slots::Slots;
 use ip_wire::IpAddress;
-use sockets::icmp;
+use sockets::{Context, icmp};
+
+/// How many bytes the IP header before a message has.
+fn header_len(remote: &IpAddress) -> usize
+    ensures { result ≡ header_len remote.now }
+{
+    match remote {
+        IpAddress::Ipv4(_) => 20,
+        IpAddress::Ipv6(_) => 40,
+    }
+}
 
 /// A call that answers nothing but whether it was done.
 #[derive(Clone, Copy)]
@@ -116,10 +127,27 @@ impl Host {
         perform(self.sockets(), number, act)
     }
 
-    /// Queues a message. Its checksum is written when it is sent.
+    /// How many bytes a message to this address has at most.
+    fn message_room(&self, remote: &IpAddress) -> usize
+        ensures { result ≡ message_room self.now remote.now }
+    {
+        self.seen_interface().ip_mtu().max(LONGEST_CUT) - header_len(remote)
+    }
+
+    /// Queues a message. Its checksum is written when it is sent. One that is longer than any frame or set of fragments carries is refused.
     pub fn icmp_send(&mut self, number: usize, bytes: &[u8], remote: IpAddress) -> Result<(), Code>
-        ensures answer { result ≡ answer_at as_icmp (λ v. coded of_send (send_answer v remote (length bytes.now))) self.old.slots number }
-        ensures after { self.new ≡ record self.old { slots = after_at as_icmp Kind.Icmp (λ v. send_after v remote bytes.now) self.old.slots number } }
+        ensures answer { result ≡ sent_answer self.old number remote bytes.now }
+        ensures after { self.new ≡ sent_after self.old number remote bytes.now }
+    {
+        if bytes.len() > self.message_room(&remote) {
+            return Err(Code::TooLong);
+        }
+        self.queue_message(number, bytes, remote)
+    }
+
+    fn queue_message(&mut self, number: usize, bytes: &[u8], remote: IpAddress) -> Result<(), Code>
+        ensures answer { result ≡ queued_answer self.old number remote bytes.now }
+        ensures after { self.new ≡ queued_after self.old number remote bytes.now }
     {
         send(self.sockets(), number, bytes, remote)
     }

@@ -19,7 +19,7 @@ use sockets::Context;
 use sockets::udp::{self, UdpMetadata};
 
 /// The longest packet that goes in fragments, with its header.
-const LONGEST_CUT: usize = 4096;
+pub(crate) const LONGEST_CUT: usize = 4096;
 
 /// How many bytes the headers before a datagram have.
 fn headers_len(remote: &IpAddress) -> usize

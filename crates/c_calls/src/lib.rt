@@ -17,6 +17,7 @@ mod host;
 mod kinds;
 pub mod laws;
 pub mod leases;
+pub mod lending;
 pub mod link;
 pub mod looks;
 mod made;

@@ -1,5 +1,5 @@
 //! Calls of raw sockets.
-ghost use Rattle.std.specs.Prelude.{◌≡◌, length};
+ghost use Rattle.std.specs.Prelude.{◌≡◌, ◌+◌, ◌<◌, length};
 ghost use Rattle.sockets.specs.AnySocket.{as_raw};
 ghost use Rattle.sockets.specs.declared.socket.Socket.TheVariants as Kind;
 ghost use Rattle.c_calls.specs.Slots.{answer_at, after_at, written_at};
@@ -7,14 +7,39 @@ ghost use Rattle.socket_datagram.specs.Raw.{send_answer, send_after, counted};
 ghost use Rattle.socket_datagram.specs.SocketValue.{recv_answer, recv_after, recv_written};
 ghost use Rattle.c_calls.specs.Codes.{coded, of_raw_send, of_recv};
 ghost use Rattle.c_calls.specs.Added.{MakesSocket, new_raw};
+ghost use Rattle.c_calls.specs.RawPackets.{word_at, packet_len, queued_answer, queued_after, sent_answer, sent_after};
 
 use crate::code::{Code, of_raw_send, of_recv};
+use crate::datagrams::LONGEST_CUT;
 use crate::host::Host;
 use crate::kinds::lent;
 use crate::made::queues;
 use crate::slots::Slots;
 use ip_wire::{IpProtocol, IpVersion};
-use sockets::raw;
+use sockets::{Context, raw};
+
+/// A number of two bytes, the higher one first.
+fn word_at(bytes: &[u8], at: usize) -> usize
+    requires within { at + 1 < length bytes.now }
+    ensures { result ≡ word_at bytes.now at }
+{
+    usize::from(bytes[at]) * 256 + usize::from(bytes[at + 1])
+}
+
+/// How many bytes a packet has when its header was written anew, 0 where it is none.
+fn packet_len(bytes: &[u8]) -> usize
+    ensures { result ≡ packet_len bytes.now }
+{
+    if bytes.len() < 20 {
+        return 0;
+    }
+    let first = usize::from(bytes[0]);
+    match first / 16 {
+        4 => word_at(bytes, 2).saturating_sub(first % 16 * 4) + 20,
+        6 => word_at(bytes, 4) + 40,
+        _ => 0,
+    }
+}
 
 /// Queues a packet with its IP header.
 pub fn send(sockets: &mut Slots, number: usize, bytes: &[u8]) -> Result<(), Code>
@@ -77,10 +102,20 @@ impl Host {
         self.add(raw::Socket::new(version, protocol, received, queued))
     }
 
-    /// Queues a packet with its IP header.
+    /// Queues a packet with its IP header. One that is longer than any frame or set of fragments carries is refused.
     pub fn raw_send(&mut self, number: usize, bytes: &[u8]) -> Result<(), Code>
-        ensures answer { result ≡ answer_at as_raw (λ v. coded of_raw_send (send_answer v (length bytes.now))) self.old.slots number }
-        ensures after { self.new ≡ record self.old { slots = after_at as_raw Kind.Raw (λ v. send_after v bytes.now) self.old.slots number } }
+        ensures answer { result ≡ sent_answer self.old number bytes.now }
+        ensures after { self.new ≡ sent_after self.old number bytes.now }
+    {
+        if packet_len(bytes) > self.seen_interface().ip_mtu().max(LONGEST_CUT) {
+            return Err(Code::TooLong);
+        }
+        self.queue_packet(number, bytes)
+    }
+
+    fn queue_packet(&mut self, number: usize, bytes: &[u8]) -> Result<(), Code>
+        ensures answer { result ≡ queued_answer self.old number bytes.now }
+        ensures after { self.new ≡ queued_after self.old number bytes.now }
     {
         send(self.sockets(), number, bytes)
     }

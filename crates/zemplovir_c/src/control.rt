@@ -1,13 +1,12 @@
 //! ICMP sockets.
 ghost use Rattle.std.specs.Prelude.{◌≡◌, length};
 ghost use Rattle.sockets.specs.AnySocket.{as_icmp};
-ghost use Rattle.socket_datagram.specs.Icmp.{send_answer, send_after};
 ghost use Rattle.socket_datagram.specs.declared.icmp.Endpoint.TheVariants as Bound;
 ghost use Rattle.socket_datagram.specs.SocketValue.{recv_answer, recv_after, recv_written};
 ghost use Rattle.sockets.specs.declared.socket.Socket.TheVariants as Kind;
-ghost use Rattle.c_calls.specs.Codes.{coded, of_send, of_recv};
+ghost use Rattle.c_calls.specs.Codes.{coded, of_recv};
 ghost use Rattle.c_calls.specs.Slots.{answer_at, after_at, written_at};
-ghost use Rattle.c_calls.specs.Controls.{act_answer, act_after};
+ghost use Rattle.c_calls.specs.Controls.{act_answer, act_after, sent_answer, sent_after};
 ghost use Rattle.c_calls.specs.declared.control.Act.TheVariants as To;
 ghost use Rattle.c_calls.specs.Added.{MakesSocket, new_icmp};
 ghost use Rattle.zemplovir_c.specs.Answers.{answer_by, after_by, given_by, written_by, mapped, checked_answer, checked, Gives};
@@ -147,10 +146,10 @@ pub extern "C" fn zv_icmp_send(
 ) -> u32
     ensures answer { result ≡
         checked_answer (required_in remote.now)
-        (λ to. answer_by handle.old.inside (λ host. answer_at as_icmp (λ v. coded of_send (send_answer v to (length bytes.now))) host.slots socket)) }
+        (λ to. answer_by handle.old.inside (λ host. sent_answer host socket to bytes.now)) }
     ensures after { handle.new.inside ≡
         checked (required_in remote.now)
-        (λ to. after_by handle.old.inside (λ host. record host { slots = after_at as_icmp Kind.Icmp (λ v. send_after v to bytes.now) host.slots socket }))
+        (λ to. after_by handle.old.inside (λ host. sent_after host socket to bytes.now))
         handle.old.inside }
 {
     let remote = match required(remote) {

@@ -9,6 +9,7 @@ mod control;
 mod datagrams;
 mod frames;
 mod handle;
+mod lending;
 mod loose;
 mod packets;
 mod stream_settings;
@@ -35,6 +36,10 @@ pub use datagrams::{
 pub use frames::{
     zv_counters, zv_frame_in, zv_frame_out, zv_frame_out_length, zv_host_free, zv_host_new,
     zv_poll, zv_poll_at, zv_socket_remove, zv_socket_set_user, zv_socket_user,
+};
+pub use lending::{
+    zv_frame_peek_out, zv_frame_skip_out, zv_frames_reserve, zv_tcp_commit, zv_tcp_reserve,
+    zv_tcp_skip,
 };
 pub use packets::{zv_raw_new, zv_raw_recv, zv_raw_send};
 pub use stream_settings::{

@@ -1,11 +1,12 @@
 //! Raw sockets.
 ghost use Rattle.std.specs.Prelude.{◌≡◌, length};
 ghost use Rattle.sockets.specs.AnySocket.{as_raw};
-ghost use Rattle.socket_datagram.specs.Raw.{send_answer, send_after, counted};
+ghost use Rattle.socket_datagram.specs.Raw.{counted};
 ghost use Rattle.socket_datagram.specs.SocketValue.{recv_answer, recv_after, recv_written};
 ghost use Rattle.sockets.specs.declared.socket.Socket.TheVariants as Kind;
-ghost use Rattle.c_calls.specs.Codes.{coded, of_raw_send, of_recv};
+ghost use Rattle.c_calls.specs.Codes.{coded, of_recv};
 ghost use Rattle.c_calls.specs.Slots.{answer_at, after_at, written_at};
+ghost use Rattle.c_calls.specs.RawPackets.{sent_answer, sent_after};
 ghost use Rattle.c_calls.specs.Added.{MakesSocket, new_raw};
 ghost use Rattle.zemplovir_c.specs.Answers.{answer_by, after_by, given_by, written_by, Gives, Where};
 ghost use Rattle.zemplovir_c.specs.Values.{version_in, byte_or_none, protocol_in};
@@ -75,10 +76,8 @@ pub extern "C" fn zv_raw_send(
     socket: usize,
     bytes: &[u8],
 ) -> u32
-    ensures answer { result ≡
-        answer_by handle.old.inside (λ host. answer_at as_raw (λ v. coded of_raw_send (send_answer v (length bytes.now))) host.slots socket) }
-    ensures after { handle.new.inside ≡
-        after_by handle.old.inside (λ host. record host { slots = after_at as_raw Kind.Raw (λ v. send_after v bytes.now) host.slots socket }) }
+    ensures answer { result ≡ answer_by handle.old.inside (λ host. sent_answer host socket bytes.now) }
+    ensures after { handle.new.inside ≡ after_by handle.old.inside (λ host. sent_after host socket bytes.now) }
 {
     let Some(mut host) = handle.take(alloc) else {
         return NO_HOST;

@@ -176,7 +176,7 @@ pub extern "C" fn zv_tcp_recv(
 }
 
 /// Where the bytes are, and how many.
-fn lend(bytes: &[u8], at: &mut *const u8, count: &mut usize)
+pub(crate) fn lend(bytes: &[u8], at: &mut *const u8, count: &mut usize)
     ensures { count.new ≡ length bytes.now }
 {
     if let Some(first) = bytes.first() {

@@ -1,10 +1,11 @@
 //! The device.
-ghost use Rattle.std.specs.Prelude.{◌≡◌, drop, length, OnOk, IfErr, OnErr};
-ghost use Rattle.c_calls.specs.Link.{unused, IsTaken, push_refusal, arrived, next_len, fetch_answer, fetch_after, fetched};
+ghost use Rattle.std.specs.Prelude.{◌≡◌, drop, length, None, Some, OnOk, IfErr, OnErr};
+ghost use Rattle.std.specs.Option.{MatchOption};
+ghost use Rattle.c_calls.specs.Link.{unused, IsTaken, push_refusal, arrived, next_frame, next_len, fetch_answer, fetch_after, fetched};
 
 use crate::link::error::{FetchError, PushError};
-use crate::link::frame::{Frame, FrameRxToken, put_following};
-use crate::link::queue::{copy_first, take_buffer};
+use crate::link::frame::{Frame, FrameRxToken, lay_ready, put_following};
+use crate::link::queue::{copy_first, lay_spare, take_buffer};
 use net_base::{Device, DeviceCapabilities, Instant, SendRefused, TxToken};
 use std::alloc::Global;
 use std::collections::VecDeque;
@@ -69,6 +70,17 @@ impl FrameLink {
             refused: 0,
             described: capabilities,
         }
+    }
+
+    /// Takes memory for as many frames each way as may wait, of so many bytes each, and says whether there was enough.
+    pub fn reserve(&mut self, length: usize) -> bool
+        ensures { self.new ≡ self.old }
+    {
+        let most = self.most;
+        let queues = self.came.reserve(most).is_ok() && self.leaving.reserve(most).is_ok();
+        queues
+            && lay_ready(self.alloc, &mut self.ready, most.saturating_add(1), length)
+            && lay_spare(self.alloc, &mut self.spare, most, length)
     }
 
     /// How many frames may wait each way.
@@ -143,8 +155,18 @@ impl FrameLink {
         fetched
     }
 
+    /// The first frame that is to go.
+    pub fn first(&self) -> Option<&[u8]>
+        ensures { MatchOption result (next_frame self.now.sent ≡ None) (λ frame. next_frame self.now.sent ≡ Some frame.now) }
+    {
+        match self.leaving.front() {
+            Some(frame) => Some(frame.as_slice()),
+            None => None,
+        }
+    }
+
     /// Drops the first frame that is to go. Its buffer lies ready.
-    fn drop_first(&mut self)
+    pub(crate) fn drop_first(&mut self)
         ensures { self.new ≡ record self.old { sent = drop 1 self.old.sent } }
     {
         if let Some(buffer) = self.leaving.pop_front() {

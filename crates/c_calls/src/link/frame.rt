@@ -71,3 +71,27 @@ fn refilled(mut frame: Frame, bytes: &[u8]) -> Option<Frame>
     buffer.extend_from_slice(bytes).ok()?;
     Some(frame)
 }
+
+/// Lays so many more buffers ready, each for a frame of so many bytes, and says whether there was memory for all.
+pub(crate) fn lay_ready(
+    alloc: Global,
+    ready: &mut Vec<Frame>,
+    count: usize,
+    length: usize,
+) -> bool {
+    if ready.reserve(count).is_err() {
+        return false;
+    }
+    for _ in 0..count {
+        let Ok(buffer) = Vec::with_capacity(alloc, length) else {
+            return false;
+        };
+        let Ok(frame) = Rc::new(alloc, buffer) else {
+            return false;
+        };
+        if ready.push(frame).is_err() {
+            return false;
+        }
+    }
+    true
+}

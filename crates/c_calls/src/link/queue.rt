@@ -5,6 +5,7 @@ ghost use Rattle.net_base.specs.Device.{frames_of};
 ghost use Rattle.c_calls.specs.Link.{fetch_answer, fetch_after, fetched};
 
 use crate::link::error::FetchError;
+use std::alloc::Global;
 use std::collections::VecDeque;
 
 /// Copies the first frame to the front of the slice, if it is that long.
@@ -43,4 +44,25 @@ pub(crate) fn take_buffer(
     // What stands in it is of a frame that went: the host writes each byte.
     buffer.resize(len, 0).ok()?;
     Some(buffer)
+}
+
+/// Lays so many more buffers ready, each for a frame of so many bytes, and says whether there was memory for all.
+pub(crate) fn lay_spare(
+    alloc: Global,
+    spare: &mut Vec<Vec<u8>>,
+    count: usize,
+    length: usize,
+) -> bool {
+    if spare.reserve(count).is_err() {
+        return false;
+    }
+    for _ in 0..count {
+        let Ok(buffer) = Vec::with_capacity(alloc, length) else {
+            return false;
+        };
+        if spare.push(buffer).is_err() {
+            return false;
+        }
+    }
+    true
 }

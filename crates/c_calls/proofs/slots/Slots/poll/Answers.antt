@@ -1,5 +1,5 @@
 use Rattle.std.proofs.Common.{◌≡◌, List, ap, subst}
-use Rattle.interface.specs.Polls.{Polls}
+use Rattle.interface.specs.Polls.{HostPolls}
 use Rattle.interface.specs.Set.{slots}
 use Rattle.interface.specs.SocketStorage.{SocketStorage}
 use Rattle.interface.specs.State.{state}
@@ -11,5 +11,5 @@ use Rattle.c_calls.proofs.slots.Slots.poll.Goals as goal
 pub returns-clause-polls : goal.returns-clause-polls
 returns-clause-polls c =
     let same : slots c.self.inside.set ≡ c.args.self.now.sockets = ap (λ (s : SlotsValue). s.sockets) c.self.view_is in
-    subst (λ (ps : List (SocketStorage Socket)). Polls LinkMove c.args.now c.args.budget (state c.args.link.now c.args.interface.now ps) c.poll_set.result
+    subst (λ (ps : List (SocketStorage Socket)). HostPolls LinkMove c.args.now c.args.budget (state c.args.link.now c.args.interface.now ps) c.poll_set.result
     (state c.poll_set.new.link c.poll_set.new.interface (slots c.poll_set.new.set))) same c.poll_set.ensures.polls
