@@ -1,5 +1,5 @@
 //! What is told, and when.
-ghost use Rattle.std.specs.Prelude.{◌≡◌, ◌≤ℤ◌, ◌<ℤ◌, ℕ, ℤ, pos, Bool, true, false, List, Option, Some, None};
+ghost use Rattle.std.specs.Prelude.{◌≡◌, ℕ, true, false, List, Some};
 ghost use Rattle.std.specs.List.{filter, list_any};
 ghost use Rattle.ip_wire.specs.IpAddress.{IpAddress};
 ghost use Rattle.wire_igmp.specs.declared.group_record.RecordType.TheVariants as Record;
@@ -9,26 +9,8 @@ ghost use Rattle.iface_groups.specs.declared.mode.CompatibilityMode.TheVariants 
 ghost use Rattle.iface_groups.specs.declared.mode.Told.TheVariants as Told_of;
 ghost use Rattle.iface_groups.specs.declared.table.Row.{Row};
 ghost use Rattle.iface_tables.specs.Inner.{InnerValue, is_member_of};
-ghost use Rattle.iface_reports.specs.Reports.{ReportsValue, reports_due, micros, is_new, is_full_for, joined_by, is_stray, left_row, without_strays};
+ghost use Rattle.iface_reports.specs.Reports.{ReportsValue, micros, is_new, is_full_for, joined_by, is_stray, left_row, without_strays};
 ghost use Rattle.iface_reports.specs.Told.{is_due_in, first_due, records_in, told_row};
-ghost use Rattle.iface_reports.specs.Transmits.{Transmits};
-
-use net_base::Device;
-
-/// Law: before something is due the device is asked for nothing, and nothing changes.
-pub fn reports_are_quiet<D: Device>()
-    ensures before { (i : InnerValue) (old new : D) (r after : ReportsValue) (went : Bool) (at : ℤ)
-        → pos 0 ≤ℤ i.instant
-        → reports_due r ≡ Some at
-        → i.instant <ℤ at
-        → Transmits D.moves i old r went new after
-        → (went ≡ true) × (new ≡ old) × (after ≡ r) }
-    ensures never { (i : InnerValue) (old new : D) (r after : ReportsValue) (went : Bool)
-        → pos 0 ≤ℤ i.instant
-        → reports_due r ≡ None
-        → Transmits D.moves i old r went new after
-        → (went ≡ true) × (new ≡ old) × (after ≡ r) }
-{}
 
 /// Law: a report goes by a row of its family that is due; one of version 3 has records of such rows alone; and no other row counts as told.
 pub fn nothing_else_is_told()
