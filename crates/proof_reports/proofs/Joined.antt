@@ -23,11 +23,11 @@ own_group : (group : IpAddress) → is_same_address group group ≡ true
 own_group (Ip.Ipv4 a) = (bytes_eq-Decides a.0 a.0).1 refl
 own_group (Ip.Ipv6 a) = (bytes_eq-Decides a.0 a.0).1 refl
 
-not_true : (a : Bool) → not a ≡ true → a ≡ false
+pub not_true : (a : Bool) → not a ≡ true → a ≡ false
 not_true true e = absurd (cc (e))
 not_true false e = refl
 
-left_of : (a b : Bool) → (a && b) ≡ true → a ≡ true
+pub left_of : (a b : Bool) → (a && b) ≡ true → a ≡ true
 left_of true b e = refl
 left_of false b e = absurd (cc (e))
 
@@ -36,13 +36,13 @@ right_of true b e = e
 right_of false b e = absurd (cc (e))
 
 -- the row that a join puts in
-abbrev entry : IpAddress → ℕ → ℕ → Member → Row
+abbrev pub entry : IpAddress → ℕ → ℕ → Member → Row
 entry group now gap m = record { group = group; member = joined now gap m }
 
 fresh_entry : (now gap : ℕ) (m : Member) → m.listens ≡ false → joined now gap m ≡ changed true 2 now gap
 fresh_entry now gap m miss = rw miss refl
 
-from_start : (n : ℕ) → Some (0 + n) ≡ Some n
+pub from_start : (n : ℕ) → Some (0 + n) ≡ Some n
 from_start n = ap (λ (a : ℕ). Some a) (let same : 0 + n ≡ n = omega arith in same)
 
 member_there : (rows : List Row) (group : IpAddress) (n : ℕ) (x : Row) → row_index_of rows group ≡ Some n → row_at rows n ≡ x → member_of rows group ≡ x.member

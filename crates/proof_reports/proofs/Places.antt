@@ -63,6 +63,46 @@ behind_none p k (r ∷ rows) x none hit =
           rw miss (behind_none p (k + 1) rows x e hit ∙ ap (λ (a : ℕ). Some a) (sym next))
     ]
 
+-- a row that doesn't pass, put in another's place, leaves the first where it is
+pub set_other : (p : Row → Bool) (k m n : ℕ) (rows : List Row) (x : Row) → position_from p k rows ≡ Some (k + m) → p x ≡ false → (n ≡ m → ⊥)
+    → position_from p k (slice_set rows n x) ≡ Some (k + m)
+set_other p k m n [] x is miss apart = absurd (cc (is))
+set_other p k m zero (r ∷ rows) x is miss apart =
+    elim (bool_is (p r)) [
+      | inl own ↦ let e = rw own at is in
+          let same : k ≡ k + m = some_is k (k + m) e in absurd (apart (omega (arith, same)))
+      | inr no_own ↦ let e = rw no_own at is in rw miss e
+    ]
+set_other p k m (suc n) (r ∷ rows) x is miss apart =
+    elim (bool_is (p r)) [
+      | inl own ↦ let e = rw own at is in rw own e
+      | inr no_own ↦ let e = rw no_own at is in
+          let place = first_passes p (k + 1) (k + m) rows e in
+          let next : k + m ≡ k + 1 + place.0 = place.1 in
+          let far : n ≡ place.0 → ⊥ = λ same. apart (omega (arith, next, same)) in
+          rw no_own (set_other p (k + 1) place.0 n rows x (e ∙ ap (λ (a : ℕ). Some a) next) miss far ∙ ap (λ (a : ℕ). Some a) (sym next))
+    ]
+
+pub behind_some : (p : Row → Bool) (k at : ℕ) (rows : List Row) (x : Row) → position_from p k rows ≡ Some at → position_from p k (rows ++ x ∷ []) ≡ Some at
+behind_some p k at [] x is = absurd (cc (is))
+behind_some p k at (r ∷ rows) x is =
+    elim (bool_is (p r)) [
+      | inl own ↦ let e = rw own at is in rw own e
+      | inr miss ↦ let e = rw miss at is in rw miss (behind_some p (k + 1) at rows x e)
+    ]
+
+pub row_before : (rows : List Row) (n : ℕ) (x : Row) → n < length rows → row_at (rows ++ x ∷ []) n ≡ row_at rows n
+row_before [] n x in_range = absurd (omega (arith, in_range))
+row_before (r ∷ rows) zero x in_range = refl
+row_before (r ∷ rows) (suc n) x in_range = row_before rows n x (omega (arith, in_range))
+
+pub row_apart : (rows : List Row) (m n : ℕ) (x : Row) → (n ≡ m → ⊥) → row_at (slice_set rows n x) m ≡ row_at rows m
+row_apart [] m n x apart = refl
+row_apart (r ∷ rows) zero zero x apart = absurd (apart refl)
+row_apart (r ∷ rows) (suc m) zero x apart = refl
+row_apart (r ∷ rows) zero (suc n) x apart = refl
+row_apart (r ∷ rows) (suc m) (suc n) x apart = row_apart rows m n x (λ same. apart (ap (λ (a : ℕ). suc a) same))
+
 pub row_behind : (rows : List Row) (x : Row) → row_at (rows ++ x ∷ []) (length rows) ≡ x
 row_behind [] x = refl
 row_behind (r ∷ rows) x = row_behind rows x

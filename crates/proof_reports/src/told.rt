@@ -1,6 +1,7 @@
 //! What is told, and when.
 ghost use Rattle.std.specs.Prelude.{◌≡◌, ℕ, true, false, List, Some};
 ghost use Rattle.std.specs.List.{filter, list_any};
+ghost use Rattle.ip_wire.specs.AddressTests.{is_same_address};
 ghost use Rattle.ip_wire.specs.IpAddress.{IpAddress};
 ghost use Rattle.wire_igmp.specs.declared.group_record.RecordType.TheVariants as Record;
 ghost use Rattle.iface_groups.specs.Member.{due_at, next_told};
@@ -38,6 +39,14 @@ pub fn a_group_is_told()
         → is_new group r ≡ true
         → is_full_for group r.rows ≡ false
         → next_told Mode.Igmpv3 (micros i) (member_of (joined_by i group r).rows group) ≡ Some (Told_of.Record Record.ChangeToExclude) }
+{}
+
+/// Law: a join leaves what is told of any other group to which the host listens as it is.
+pub fn groups_are_told_apart()
+    ensures { (i : InnerValue) (group other : IpAddress) (r : ReportsValue)
+        → is_same_address group other ≡ false
+        → listens_to r.rows other ≡ true
+        → member_of (joined_by i group r).rows other ≡ member_of r.rows other }
 {}
 
 /// Law: what is told follows the host's own list. A group to which the host doesn't listen any more is left, and that is told at once as a
