@@ -1,0 +1,6 @@
+mod Places
+mod Joined
+mod Others
+mod Strays
+mod Room
+mod Answers
