@@ -155,6 +155,7 @@ typedef struct zv_settings {
     uint8_t isn_key[16]; /* from a true source, and known to nobody else */
     uint8_t without_host_requirements; /* 0 where the host does what RFC 1122 and the standards after it ask of one on a network of many,
                                         * with a table of 256 neighbours; else it does as smoltcp, with one of four */
+    uint8_t without_multicast_reports; /* 0 where routers and switches are told which multicast groups the host listens to */
 } zv_settings;
 
 typedef struct zv_counts {
@@ -188,8 +189,8 @@ uint32_t zv_route_add(zv_host *host, const zv_address *network, uint8_t prefix, 
 uint32_t zv_route_remove(zv_host *host, const zv_address *network, uint8_t prefix);
 
 /* Listens to a multicast group from now on, eight at most: each datagram to it goes to the UDP sockets of its port. A group that is joined already,
- * 224.0.0.1 and ff02::1 stay as they are. No report is sent (IGMP, MLD): a switch that forwards a group to those alone that report it doesn't
- * forward this one. ZV_BAD_ARGUMENT, ZV_UNADDRESSABLE (no group), ZV_TABLE_FULL. */
+ * 224.0.0.1 and ff02::1 stay as they are. Routers and switches are told (IGMP, MLD) unless `without_multicast_reports`: then a switch that
+ * forwards a group to those alone that report it doesn't forward this one. ZV_BAD_ARGUMENT, ZV_UNADDRESSABLE (no group), ZV_TABLE_FULL. */
 uint32_t zv_group_join(zv_host *host, const zv_address *group);
 
 /* Listens to it no longer, however often it was joined. A group that isn't joined stays as it is. ZV_BAD_ARGUMENT, ZV_UNADDRESSABLE (no group). */

@@ -189,17 +189,22 @@ def flooded(station, version):
 
 
 def of_version(tun, station, version, file):
-    host = subprocess.Popen([tun, DEVICE, "tap", OURS[version], PREFIX[version], "--join", GROUP[version], "--pcap", file], stderr=subprocess.PIPE)
-    host.stderr.readline()
-    try:
-        well = heard(station, host, version)
-        well &= answered(station, version)
-        well &= flooded(station, version)
-        well &= left(station, host, version)
-        return well & say("the host is still there", host.poll() is None)
-    finally:
-        host.terminate()
-        host.wait()
+    """A host joins, is heard and leaves; then another is queried (a querier of version 1 or 2 is one for minutes, and the bridge asks no more)."""
+    tests = ((heard, left), (lambda station, host, version: flooded(station, version), lambda station, host, version: answered(station, version)))
+    well = True
+    for number, steps in enumerate(tests):
+        host = subprocess.Popen([tun, DEVICE, "tap", OURS[version], PREFIX[version], "--join", GROUP[version], "--pcap", f"{file}.{number}"],
+                                stderr=subprocess.PIPE)
+        host.stderr.readline()
+        try:
+            for step in steps:
+                well &= step(station, host, version)
+            well &= say("the host is still there", host.poll() is None)
+        finally:
+            host.terminate()
+            host.wait()
+        well &= read_back(f"{file}.{number}")
+    return well
 
 
 def read_back(file):
@@ -217,7 +222,6 @@ def main():
         well = True
         for version in (6, 4):
             well &= of_version(sys.argv[1], station, version, f"{folder}/{version}.pcap")
-            well &= read_back(f"{folder}/{version}.pcap")
     finally:
         station.process.kill()
         shutil.rmtree(folder)

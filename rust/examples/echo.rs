@@ -140,6 +140,7 @@ fn main() -> Result<(), Box<dyn std::error::Error>> {
         isn_key: Some(key),
         frames: 256,
         host_requirements: true,
+        multicast_reports: true,
     };
     let began = std::time::Instant::now();
     let mut host = Interface::on_device(&config, &device, Instant::ZERO)?;

@@ -38,6 +38,7 @@ pub struct Settings {
     pub keyed: u8,
     pub isn_key: [u8; 16],
     pub without_host_requirements: u8,
+    pub without_multicast_reports: u8,
 }
 
 /// What an interface has counted since it was made.

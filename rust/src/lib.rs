@@ -85,6 +85,8 @@ pub struct Config {
     /// Whether the host does what RFC 1122 and the standards after it ask of one on a network of many, with a table of 256 neighbours; else it
     /// does as smoltcp, with one of four.
     pub host_requirements: bool,
+    /// Whether routers and switches are told which multicast groups the host listens to.
+    pub multicast_reports: bool,
 }
 
 /// The place of a socket.
@@ -160,6 +162,7 @@ impl Interface {
             keyed: config.isn_key.is_some().into(),
             isn_key: config.isn_key.unwrap_or_default(),
             without_host_requirements: (!config.host_requirements).into(),
+            without_multicast_reports: (!config.multicast_reports).into(),
         };
         let mut host = ffi::Host { inside: null_mut() };
         done(unsafe { ffi::zv_host_new(&mut host, &settings, now.micros) })?;
@@ -196,7 +199,7 @@ impl Interface {
         done(unsafe { ffi::zv_route_remove(&mut self.host, &address(network), prefix_len) })
     }
 
-    /// Listens to this multicast group from now on, eight at most. No report is sent. [`Error::Unaddressable`], [`Error::TableFull`].
+    /// Listens to this multicast group from now on, eight at most, and tells of it with `multicast_reports`. [`Error::Unaddressable`], [`Error::TableFull`].
     pub fn join_multicast_group(&mut self, group: IpAddr) -> Result<()> {
         done(unsafe { ffi::zv_group_join(&mut self.host, &address(group)) })
     }

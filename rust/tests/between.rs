@@ -11,7 +11,7 @@ const SECOND: IpAddr = IpAddr::V4(Ipv4Addr::new(192, 168, 1, 2));
 
 fn host(medium: Medium, own: IpAddr, seed: u64) -> Interface {
     let max_transmission_unit = if medium == Medium::Ip { 1500 } else { 1514 };
-    let config = Config { medium, max_transmission_unit, random_seed: seed, isn_key: None, frames: 64, host_requirements: true };
+    let config = Config { medium, max_transmission_unit, random_seed: seed, isn_key: None, frames: 64, host_requirements: true, multicast_reports: true };
     let mut host = Interface::new(&config, Instant::ZERO).unwrap();
     host.add_ip_addr(own, 24).unwrap();
     host
@@ -149,7 +149,7 @@ fn refusals_have_names() {
     pair.first.remove(stream).unwrap();
     assert_eq!(pair.first.remove(stream), Err(Error::NoSocket));
     assert_eq!(pair.first.tcp(stream).abort(), Err(Error::NoSocket));
-    let config = Config { medium: Medium::Ip, max_transmission_unit: 500, random_seed: 0, isn_key: None, frames: 1, host_requirements: true };
+    let config = Config { medium: Medium::Ip, max_transmission_unit: 500, random_seed: 0, isn_key: None, frames: 1, host_requirements: true, multicast_reports: true };
     assert_eq!(Interface::new(&config, Instant::ZERO).err(), Some(Error::Mtu));
 }
 

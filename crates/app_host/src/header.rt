@@ -24,6 +24,7 @@ pub enum Verb {
     IsnKey,
     Checksums,
     HostRequirements,
+    Reports,
 }
 
 /// What a script asks for before its line `start`.
@@ -35,6 +36,7 @@ pub struct Header {
     begins: Instant,
     isn_key: Option<[u8; 16]>,
     host_requirements: bool,
+    multicast_reports: bool,
     specs: Vec<SocketSpec>,
 }
 
@@ -61,6 +63,7 @@ impl Header {
             begins: Instant::ZERO,
             isn_key: None,
             host_requirements: false,
+            multicast_reports: false,
             specs: Vec::new(alloc),
         })
     }
@@ -92,6 +95,10 @@ impl Header {
             Verb::HostRequirements => {
                 words.host();
                 self.host_requirements = words.switch();
+            }
+            Verb::Reports => {
+                words.host();
+                self.multicast_reports = words.switch();
             }
         }
         words.end();
@@ -145,6 +152,7 @@ impl Header {
             random_seed: self.seed,
             isn_key: self.isn_key,
             host_requirements: self.host_requirements,
+            multicast_reports: self.multicast_reports,
             ..Config::new(self.hardware)
         };
         match Interface::new(alloc, &config, wire, self.begins) {

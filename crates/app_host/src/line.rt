@@ -105,6 +105,7 @@ fn of_header(word: &str) -> Line {
         "isn_key" => Line::Header(header::Verb::IsnKey),
         "checksums" => Line::Header(header::Verb::Checksums),
         "host_requirements" => Line::Header(header::Verb::HostRequirements),
+        "reports" => Line::Header(header::Verb::Reports),
         _ => Line::Unknown,
     }
 }

@@ -2,7 +2,7 @@
 //! Wireshark.
 ghost use Rattle.std.specs.Prelude.{◌≡◌};
 ghost use Rattle.net_base.specs.Time.{IsMoment};
-ghost use Rattle.interface.specs.Polls.{Polls, is_change};
+ghost use Rattle.interface.specs.Polls.{HostPolls, is_change};
 ghost use Rattle.interface.specs.Set.{slots};
 ghost use Rattle.interface.specs.State.{state};
 ghost use Rattle.app_tun_services.specs.Link.Drain.{DrainMove};
@@ -53,7 +53,7 @@ fn poll_through(
     budget: u16,
 ) -> PollResult
     requires { IsMoment now }
-    ensures { Polls DrainMove now budget (state tap.old.inner.inner interface.old (slots sockets.old)) (is_change result)
+    ensures { HostPolls DrainMove now budget (state tap.old.inner.inner interface.old (slots sockets.old)) (is_change result)
         (state tap.new.inner.inner interface.new (slots sockets.new)) }
 {
     interface.poll(now, tap, sockets, budget)

@@ -11,6 +11,7 @@ use Rattle.net_base.specs.Ring.{Ring, ring}
 use Rattle.iface_tables.specs.ReceiveMap.{space}
 use Rattle.sockets.specs.TcpValue.{TcpValue, new_socket, received_of}
 use Rattle.interface.specs.Host.{HostValue}
+use Rattle.interface.specs.Reports.{with_followed, with_own_addresses}
 use Rattle.interface.specs.Made.{new_host, with_inner, Makes}
 use Rattle.iface_tables.specs.Inner.{InnerValue}
 use Rattle.iface_tables.specs.Neighbor.{flushed}
@@ -147,6 +148,11 @@ routed h h' ipv4 ipv6 before after is adds set none fits =
       set ∙ ap (with_inner h) (same_room h.inner after (adds.room ∙ room)),
     )
 
+host_by : (b : Bool) (h k : HostValue) (table : RoutesValue) → routes_of h.inner ≡ table → routes_of k.inner ≡ table
+    → routes_of (if b then h else k).inner ≡ table
+host_by true h k table p q = p
+host_by false h k table p q = q
+
 kept_by : (b : Bool) (i j : InnerValue) (table : RoutesValue) → routes_of i ≡ table → routes_of j ≡ table → routes_of (if b then i else j) ≡ table
 kept_by true i j table p q = p
 kept_by false i j table p q = q
@@ -174,24 +180,25 @@ module _ (s : Settings) (instant : ℤ) (ipv4 ipv6 : IpCidr) (own_ipv4 : IsBlock
       ∙ not_both (is_host_address (cidr_address ipv4)) (is_host_address (cidr_address ipv6)) unknown
 
   initial_with : HostValue
-  initial_with = with_inner (new_host (config_of s) (capabilities_of s.hardware) instant)
-      (with_addresses (made (config_of s) (capabilities_of s.hardware) instant) (ipv4 ∷ ipv6 ∷ []))
+  initial_with = with_own_addresses (new_host (config_of s) (capabilities_of s.hardware) instant) (ipv4 ∷ ipv6 ∷ [])
 
   unused_table : routes_of initial_with.inner ≡ no_routes table_room
   unfolding initial_with
   unused_table =
-      let i = made (config_of s) (capabilities_of s.hardware) instant in
-      kept_by (list_any is_stranger (ipv4 ∷ ipv6 ∷ [])) i (record i { addresses = ipv4 ∷ ipv6 ∷ []; neighbors = flushed i.neighbors })
-      (no_routes table_room) refl refl
+      let h = new_host (config_of s) (capabilities_of s.hardware) instant in
+      let i = h.inner in
+      let strange = list_any is_stranger (ipv4 ∷ ipv6 ∷ []) in
+      host_by strange h (with_followed h (with_addresses i (ipv4 ∷ ipv6 ∷ []))) (no_routes table_room) refl
+      (kept_by strange i (record i { addresses = ipv4 ∷ ipv6 ∷ []; neighbors = flushed i.neighbors }) (no_routes table_room) refl refl)
 
   pub interface_begun : (first addressed last : HostValue) → first ≡ new_host (config_of s) (capabilities_of s.hardware) instant
-      → addressed ≡ with_inner first (with_addresses first.inner (ipv4 ∷ ipv6 ∷ [])) → true ≡ not (list_any is_stranger (ipv4 ∷ ipv6 ∷ []))
+      → addressed ≡ with_own_addresses first (ipv4 ∷ ipv6 ∷ []) → true ≡ not (list_any is_stranger (ipv4 ∷ ipv6 ∷ []))
       → (addressed.inner.routes ≡ [] → 2 ≤ addressed.inner.route_room → (routes : List Route) × AreDefaults s.ipv4_router s.ipv6_router routes ×
       (last ≡ with_inner addressed (with_routes addressed.inner routes)))
       → IsInterface s instant last
   unfolding initial_with
   interface_begun first addressed last first_is addressed_is known set =
-      let whole : addressed ≡ initial_with = addressed_is ∙ ap (λ (h : HostValue). with_inner h (with_addresses h.inner (ipv4 ∷ ipv6 ∷ []))) first_is in
+      let whole : addressed ≡ initial_with = addressed_is ∙ ap (λ (h : HostValue). with_own_addresses h (ipv4 ∷ ipv6 ∷ [])) first_is in
       let table : routes_of addressed.inner ≡ no_routes table_room = ap (λ (h : HostValue). routes_of h.inner) whole ∙ unused_table in
       let room : addressed.inner.route_room ≡ 4 = ap (λ (rs : RoutesValue). rs.room) table in
       let routed = set (ap (λ (rs : RoutesValue). rs.entries) table) (omega (arith, room)) in

@@ -2,12 +2,13 @@
 use Rattle.std.specs.Prelude.{◌≡◌, ℕ, ◌+◌, ◌<◌, ◌≤◌, ◌&&◌, ◌||◌, ℤ, Bool, true, false, List, [], ◌∷◌, length, replicate, slice_index_or, Option, None, Some, ⊤}
 use Rattle.interface.specs.Host.{HostValue}
 use Rattle.interface.specs.Made.{new_host, with_inner}
+use Rattle.interface.specs.Reports.{with_own_addresses}
 use Rattle.interface.specs.State.{State}
 use Rattle.interface.specs.Set.{free}
 use Rattle.interface.specs.Item.{Item}
 use Rattle.interface.specs.SocketStorage.{SocketStorage}
 use Rattle.iface_tables.specs.Route.{RoutesValue, IsGateway}
-use Rattle.iface_tables.specs.Settings.{network_config, is_unicast_hardware, made, with_addresses, with_routes}
+use Rattle.iface_tables.specs.Settings.{network_config, is_unicast_hardware, with_routes}
 use Rattle.iface_tables.specs.declared.config.Config.{Config}
 use Rattle.iface_tables.specs.declared.route.Route.{Route}
 use Rattle.ip_wire.specs.AddressTests.{is_unicast, is_unspecified}
@@ -82,8 +83,8 @@ pub record AddsRouters (ipv4 : Ipv4Address) (ipv6 : Ipv6Address) (old new : Rout
 
 abbrev pub begun_host : Settings → ℤ → List IpCidr → List Route → HostValue
 begun_host s instant local routes =
-    with_inner (new_host (config_of s) (capabilities_of s.hardware) instant)
-    (with_routes (with_addresses (made (config_of s) (capabilities_of s.hardware) instant) local) routes)
+    let h = with_own_addresses (new_host (config_of s) (capabilities_of s.hardware) instant) local in
+    with_inner h (with_routes h.inner routes)
 
 -- a new interface with the own addresses in their networks, and the routers
 pub record IsInterface (s : Settings) (instant : ℤ) (h : HostValue) : Type 0 where

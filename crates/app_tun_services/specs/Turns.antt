@@ -1,12 +1,12 @@
 -- A host's turns: what one makes of it, what is written, and how a run of turns ends.
 use Rattle.std.specs.Prelude.{◌≡◌, ℕ, ◌-◌, ◌^◌, ℤ, pos, Bool, List, [], ◌∷◌, ◌++◌, length, map, vec_len, Option, None, Some, Result, Ok, Err, IfSome, ⊤}
 use Rattle.interface.specs.Host.{host_at}
-use Rattle.interface.specs.Instant.{poll_instant}
+use Rattle.interface.specs.Instant.{host_instant}
+use Rattle.interface.specs.OwnWork.{OwnWork}
 use Rattle.interface.specs.Polls.{Polls}
 use Rattle.interface.specs.State.{State, state, at_device}
 use Rattle.interface.specs.Set.{slots}
 use Rattle.interface.specs.SocketStorage.{SocketStorage}
-use Rattle.iface_tables.specs.Inner.{at_instant}
 use Rattle.sockets.specs.declared.socket.Socket.{Socket}
 use Rattle.app_tun_services.specs.Begins.{Begins, RefusesSettings}
 use Rattle.interface.specs.Backlog.Calls.{micros_of, Refreshes, accepted}
@@ -94,18 +94,22 @@ pub record AreServed (instant : ℤ) (d : DrainValue) (old : Served) (t : Tally)
   pub tally : t' ≡ collected done (more_waiting ready.echoes ready.pages t)
 
 -- The packet comes, the interface is polled at the turn's instant, the services do what can be done, and the interface is polled again;
--- then it is asked when it wants to be polled next. Nothing but the host before, the packet and the instant goes in.
+-- then it is asked when it wants to be polled next. Before each poll the host does what it does of its own. Nothing but the host before, the packet and the instant goes in.
 pub record TakesTurn (old : HostState) (instant : ℤ) (packet : List ℕ) (next : Option ℤ) (new : HostState) : Type 0 where
   pub come : State DrainValue
   pub done : Served
   pub gone : State DrainValue
   pub changed : Bool
   pub changed_again : Bool
-  pub takes : Polls DrainMove instant budget (with_packet old.net packet) changed come
+  pub begun : State DrainValue
+  pub works : OwnWork DrainMove instant (with_packet old.net packet) begun
+  pub takes : Polls DrainMove instant budget begun changed come
   pub tally : Tally
   pub serves : AreServed instant come.device (served_of come.slots old.echoes old.pages old.echo_sessions old.sessions) old.tally done tally
-  pub sends : Polls DrainMove instant budget (state come.device come.host done.sockets) changed_again gone
-  pub asked : next ≡ poll_instant (at_instant instant gone.host.inner) gone.host.left gone.slots
+  pub begun_again : State DrainValue
+  pub works_again : OwnWork DrainMove instant (state come.device come.host done.sockets) begun_again
+  pub sends : Polls DrainMove instant budget begun_again changed_again gone
+  pub asked : next ≡ host_instant (host_at instant gone.host) gone.slots
   pub after : new ≡ record {
     net = state gone.device (host_at instant gone.host) gone.slots;
     echoes = done.echoes;

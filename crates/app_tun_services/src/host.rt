@@ -10,7 +10,7 @@ ghost use Rattle.app_tun_services.specs.Services.{echo_room, most_request, socke
 ghost use Rattle.app_tun_services.specs.Turns.{state_of, IsSetUp, budget, served_of, ServicesServe, AreServed, TakesTurn, Answers};
 ghost use Rattle.interface.specs.State.{state};
 ghost use Rattle.app_tun_services.specs.Site.{initial_session};
-ghost use Rattle.interface.specs.Polls.{Polls, is_change};
+ghost use Rattle.interface.specs.Polls.{HostPolls, is_change};
 ghost use Rattle.app_tun_services.specs.Link.Drain.{DrainMove};
 
 use crate::backlog::{listener, serve_backlog, serve_first};
@@ -69,7 +69,7 @@ fn poll<V: Watch>(
     now: Instant,
 ) -> PollResult
     requires { IsMoment now }
-    ensures { Polls DrainMove now budget (state drain.old interface.old (slots sockets.old)) (is_change result)
+    ensures { HostPolls DrainMove now budget (state drain.old interface.old (slots sockets.old)) (is_change result)
         (state drain.new interface.new (slots sockets.new)) }
 {
     watch.poll(interface, drain, sockets, now, budget())

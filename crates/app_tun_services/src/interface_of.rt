@@ -3,7 +3,8 @@ ghost use Rattle.std.specs.Prelude.{◌≡◌, ◌≤◌, List, [], ◌∷◌, n
 ghost use Rattle.std.specs.List.{list_any};
 ghost use Rattle.net_base.specs.Time.{IsMoment};
 ghost use Rattle.interface.specs.Made.{new_host, with_inner};
-ghost use Rattle.interface.specs.Settings.{is_stranger, with_addresses, with_routes};
+ghost use Rattle.interface.specs.Reports.{with_own_addresses};
+ghost use Rattle.interface.specs.Settings.{is_stranger, with_routes};
 ghost use Rattle.interface.specs.Route.{Route};
 ghost use Rattle.app_tun_services.specs.Settings.{HasPrefixes};
 ghost use Rattle.app_tun_services.specs.Begins.{capabilities_of, config_of, AddsRouters, AreDefaults, IsInterface, RefusesHardware, RefusesSettings};
@@ -63,7 +64,7 @@ fn add_routers(routes: &mut Routes, ipv4: Ipv4Address, ipv6: Ipv6Address)
 /// Sets the own addresses, if a host can have them.
 fn set_addresses(interface: &mut Interface, ipv4: IpCidr, ipv6: IpCidr) -> bool
     ensures answer { result ≡ not (list_any is_stranger (ipv4 ∷ ipv6 ∷ [])) }
-    ensures after { interface.new ≡ with_inner interface.old (with_addresses interface.old.inner (ipv4 ∷ ipv6 ∷ [])) }
+    ensures after { interface.new ≡ with_own_addresses interface.old (ipv4 ∷ ipv6 ∷ []) }
 {
     interface
         .update_ip_addrs(|addresses| put(addresses, ipv4, ipv6))

@@ -1,6 +1,6 @@
 //! Who watches a host's link.
 ghost use Rattle.net_base.specs.Time.{IsMoment};
-ghost use Rattle.interface.specs.Polls.{Polls, is_change};
+ghost use Rattle.interface.specs.Polls.{HostPolls, is_change};
 ghost use Rattle.interface.specs.Set.{slots};
 ghost use Rattle.interface.specs.State.{state};
 ghost use Rattle.app_tun_services.specs.Link.Drain.{DrainMove};
@@ -22,7 +22,7 @@ pub trait Watch {
         budget: u16,
     ) -> PollResult
         requires { IsMoment now }
-        ensures { Polls DrainMove now budget (state drain.old interface.old (slots sockets.old)) (is_change result)
+        ensures { HostPolls DrainMove now budget (state drain.old interface.old (slots sockets.old)) (is_change result)
             (state drain.new interface.new (slots sockets.new)) };
 }
 

@@ -9,20 +9,19 @@ use Rattle.net_base.specs.Medium.TheVariants as On
 use Rattle.ip_wire.specs.EthernetAddress.{EthernetAddress}
 use Rattle.ip_wire.specs.HardwareAddress.{HardwareAddress}
 use Rattle.ip_wire.specs.HardwareAddress.TheVariants as Hardware
-use Rattle.c_calls.specs.Link.{LinkValue, unused, IsTaken, arrived, fetch_answer, fetch_after, push_refusal, LinkMove}
+use Rattle.c_calls.specs.Link.{LinkValue, unused, IsTaken, arrived, fetch_answer, fetch_after, push_refusal}
+use Rattle.c_calls.specs.Polling.{LinkPolls}
 use Rattle.c_calls.specs.declared.link.error.PushError.{PushError}
 use Rattle.c_calls.specs.declared.link.error.FetchError.{FetchError}
 use Rattle.c_calls.specs.Codes.{coded}
 use Rattle.c_calls.specs.declared.code.Code.{Code}
 use Rattle.c_calls.specs.declared.code.Code.TheVariants as Is
 use Rattle.interface.specs.Host.{host_at}
-use Rattle.interface.specs.Instant.{poll_instant}
+use Rattle.interface.specs.Instant.{host_instant}
 use Rattle.interface.specs.Made.{new_host}
-use Rattle.interface.specs.Polls.{Polls}
 use Rattle.interface.specs.State.{state}
 use Rattle.interface.specs.Settings.{default_config, network_config, refusal}
 use Rattle.interface.specs.SocketStorage.{SocketStorage}
-use Rattle.interface.specs.Inner.{at_instant}
 use Rattle.interface.specs.Config.{Config}
 use Rattle.interface.specs.NewError.{NewError}
 use Rattle.sockets.specs.declared.socket.Socket.{Socket}
@@ -97,7 +96,11 @@ initial_config false hardware = default_config hardware
 
 abbrev pub config_of : Settings → Config
 config_of settings =
-    record (initial_config settings.host_requirements (hardware_of settings.hardware)) { random_seed = settings.seed; isn_key = settings.isn_key }
+    record (initial_config settings.host_requirements (hardware_of settings.hardware)) {
+      random_seed = settings.seed;
+      isn_key = settings.isn_key;
+      multicast_reports = settings.multicast_reports;
+    }
 
 -- A HOST THAT IS MADE
 
@@ -128,7 +131,7 @@ NewHost settings now result =
 abbrev pub PollsAndListens : ℤ → ℕ → StackValue → Bool → StackValue → Type 0
 PollsAndListens now budget s changed s' =
     (polled : List (SocketStorage Socket))
-    × Polls LinkMove now budget (state s.link s.host s.slots.sockets) changed (state s'.link s'.host polled)
+    × LinkPolls now budget (state s.link s.host s.slots.sockets) changed (state s'.link s'.host polled)
     × RefreshesAll (micros_of now) s.listeners polled s'.listeners s'.slots.sockets
     × (s'.slots.tags ≡ s.slots.tags)
     × (s'.counters ≡ record s.counters { polls = counted s.counters.polls })
@@ -141,5 +144,5 @@ PollsAt now budget s result s' =
 abbrev pub AsksAt : ℤ → StackValue → Result (Option ℤ) Code → StackValue → Type 0
 AsksAt now s result s' =
     MatchResult result
-    (λ at. IsMoment now × (at ≡ poll_instant (at_instant now s.host.inner) s.host.left s.slots.sockets) × (s' ≡ record s { host = host_at now s.host }))
+    (λ at. IsMoment now × (at ≡ host_instant (host_at now s.host) s.slots.sockets) × (s' ≡ record s { host = host_at now s.host }))
     (λ code. (code ≡ Is.Moment) × (IsMoment now → ⊥) × (s' ≡ s))

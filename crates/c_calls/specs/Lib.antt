@@ -1,4 +1,5 @@
 pub mod Link
+pub mod Polling
 pub mod Codes
 pub mod SlotsValue
 pub mod Numbers

@@ -14,9 +14,11 @@ pub use Rattle.interface.specs.Made.{with_inner, with_timeout}
 use Rattle.interface.specs.Made.{with_assemblers}
 use Rattle.interface.specs.Inner.{InnerValue}
 use Rattle.interface.specs.Route.{Route}
-pub use Rattle.interface.specs.Groups.{join_refusal, leave_refusal}
-pub use Rattle.interface.specs.Settings.{hardware_refusal, with_any_ip, with_group, with_hardware, without_group}
-use Rattle.interface.specs.Settings.{is_stranger, with_addresses, with_routes}
+pub use Rattle.interface.specs.Groups.{leave_refusal}
+pub use Rattle.interface.specs.Reports.{host_join_refusal, with_joined, with_left}
+use Rattle.interface.specs.Reports.{with_own_addresses}
+pub use Rattle.interface.specs.Settings.{hardware_refusal, with_any_ip, with_hardware}
+use Rattle.interface.specs.Settings.{is_stranger, with_routes}
 use Rattle.interface.specs.HardwareAddrError.{HardwareAddrError}
 use Rattle.interface.specs.HardwareAddrError.TheVariants as No
 use Rattle.interface.specs.MulticastError.{MulticastError}
@@ -66,7 +68,7 @@ own_without own address = own_without_at own (position (is_address address) own)
 
 -- these addresses, or nothing changed
 abbrev pub own_in : HostValue → Result (List IpCidr) Code → HostValue
-own_in h (Ok blocks) = with_inner h (with_addresses h.inner blocks)
+own_in h (Ok blocks) = with_own_addresses h blocks
 own_in h (Err code) = h
 
 abbrev pub with_own : StackValue → Result (List IpCidr) Code → StackValue

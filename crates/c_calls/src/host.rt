@@ -34,6 +34,8 @@ pub struct Settings {
     pub frames: usize,
     /// Whether it does what is asked of a host on a network of many, where smoltcp does otherwise; with a table of 256 neighbours.
     pub host_requirements: bool,
+    /// Whether routers and switches are told which multicast groups it listens to.
+    pub multicast_reports: bool,
 }
 
 /// What a host has counted since it was made, each up to the largest number.
@@ -112,6 +114,7 @@ fn config(settings: &Settings) -> Config
     Config {
         random_seed: settings.seed,
         isn_key: settings.isn_key,
+        multicast_reports: settings.multicast_reports,
         ..initial_config(settings.host_requirements, hardware_addr)
     }
 }

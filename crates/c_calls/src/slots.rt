@@ -3,13 +3,11 @@ ghost use Rattle.std.specs.Prelude.{◌≡◌, ◌<◌, ◌^◌, ◌++◌, ◌+�
 ghost use Rattle.std.specs.Borrow.{sem};
 ghost use Rattle.std.specs.Option.{option_copied, option_copied_mut};
 ghost use Rattle.interface.specs.Host.{host_at};
-ghost use Rattle.interface.specs.Inner.{at_instant};
-ghost use Rattle.interface.specs.Instant.{poll_instant};
-ghost use Rattle.interface.specs.Polls.{Polls};
+ghost use Rattle.interface.specs.Instant.{host_instant};
 ghost use Rattle.interface.specs.Set.{slots, is_fixed};
 ghost use Rattle.interface.specs.State.{state};
 ghost use Rattle.net_base.specs.Time.{IsMoment};
-ghost use Rattle.c_calls.specs.Link.{LinkMove};
+ghost use Rattle.c_calls.specs.Polling.{LinkPolls};
 ghost use Rattle.c_calls.specs.Added.{AddsSocket};
 ghost use Rattle.c_calls.specs.Numbers.{slot_of, generation_of, number_of, no_tag, no_slots, is_current, next_tag, tag_at, socket_named, without_socket};
 ghost use Rattle.c_calls.specs.Numbers.{is_some_socket, user_at, with_user_at};
@@ -159,7 +157,7 @@ fn poll_set(
     link: &mut FrameLink,
 ) -> bool
     requires { IsMoment now }
-    ensures polls { Polls LinkMove now budget (state link.old interface.old (slots set.old)) result (state link.new interface.new (slots set.new)) }
+    ensures polls { LinkPolls now budget (state link.old interface.old (slots set.old)) result (state link.new interface.new (slots set.new)) }
     ensures fixed { is_fixed set.new ≡ is_fixed set.old }
 {
     match interface.poll(now, link, set, budget) {
@@ -280,7 +278,7 @@ impl Slots {
         link: &mut FrameLink,
     ) -> bool
         requires { IsMoment now }
-        ensures polls { Polls LinkMove now budget (state link.old interface.old self.old.sockets) result
+        ensures polls { LinkPolls now budget (state link.old interface.old self.old.sockets) result
             (state link.new interface.new self.new.sockets) }
         ensures tags { self.new.tags ≡ self.old.tags }
     {
@@ -290,7 +288,7 @@ impl Slots {
     /// When the interface wants to be polled, for its own sake or for that of a socket.
     pub(crate) fn poll_at(&self, now: Instant, interface: &mut Interface) -> Option<Instant>
         requires { IsMoment now }
-        ensures at { result ≡ poll_instant (at_instant now interface.old.inner) interface.old.left self.now.sockets }
+        ensures at { result ≡ host_instant (host_at now interface.old) self.now.sockets }
         ensures after { interface.new ≡ host_at now interface.old }
     {
         interface.poll_at(now, &self.set)

@@ -2,8 +2,9 @@
 ghost use Rattle.std.specs.Prelude.{◌≡◌, position};
 ghost use Rattle.ip_wire.specs.HardwareAddress.TheVariants as Hardware;
 ghost use Rattle.interface.specs.Made.{with_inner, with_timeout};
-ghost use Rattle.interface.specs.Groups.{join_refusal, leave_refusal};
-ghost use Rattle.interface.specs.Settings.{hardware_refusal, with_hardware, with_any_ip, with_group, without_group};
+ghost use Rattle.interface.specs.Groups.{leave_refusal};
+ghost use Rattle.interface.specs.Reports.{host_join_refusal, with_joined, with_left};
+ghost use Rattle.interface.specs.Settings.{hardware_refusal, with_hardware, with_any_ip};
 ghost use Rattle.c_calls.specs.Tables.{address_room, is_address, is_cidr, pushed, removed, own_with, own_without, routes_with, routes_without};
 ghost use Rattle.c_calls.specs.Tables.{with_own, with_table, own_in, table_in, route_to, is_done, of_hardware, hardware_answer, of_group, group_answer, UpdatesHardware, SetsSlots};
 
@@ -128,8 +129,8 @@ fn set_hardware(interface: &mut Interface, address: EthernetAddress) -> Result<(
 }
 
 fn join_group(interface: &mut Interface, group: IpAddress) -> Result<(), Code>
-    ensures answer { result ≡ group_answer (join_refusal interface.old.inner.groups group) }
-    ensures after { interface.new ≡ with_inner interface.old (with_group interface.old.inner group) }
+    ensures answer { result ≡ group_answer (host_join_refusal interface.old group) }
+    ensures after { interface.new ≡ with_joined interface.old group }
 {
     match interface.join_multicast_group(group) {
         Ok(()) => Ok(()),
@@ -139,7 +140,7 @@ fn join_group(interface: &mut Interface, group: IpAddress) -> Result<(), Code>
 
 fn leave_group(interface: &mut Interface, group: IpAddress) -> Result<(), Code>
     ensures answer { result ≡ group_answer (leave_refusal group) }
-    ensures after { interface.new ≡ with_inner interface.old (without_group interface.old.inner group) }
+    ensures after { interface.new ≡ with_left interface.old group }
 {
     match interface.leave_multicast_group(group) {
         Ok(()) => Ok(()),
@@ -230,18 +231,18 @@ impl Host {
         }
     }
 
-    /// Listens to this multicast group from now on.
+    /// Listens to this multicast group from now on, and tells of it.
     pub fn group_join(&mut self, group: IpAddress) -> Result<(), Code>
-        ensures answer { result ≡ group_answer (join_refusal self.old.host.inner.groups group) }
-        ensures after { self.new ≡ record self.old { host = with_inner self.old.host (with_group self.old.host.inner group) } }
+        ensures answer { result ≡ group_answer (host_join_refusal self.old.host group) }
+        ensures after { self.new ≡ record self.old { host = with_joined self.old.host group } }
     {
         join_group(self.interface(), group)
     }
 
-    /// Listens to this multicast group no longer.
+    /// Listens to this multicast group no longer, and tells of that.
     pub fn group_leave(&mut self, group: IpAddress) -> Result<(), Code>
         ensures answer { result ≡ group_answer (leave_refusal group) }
-        ensures after { self.new ≡ record self.old { host = with_inner self.old.host (without_group self.old.host.inner group) } }
+        ensures after { self.new ≡ record self.old { host = with_left self.old.host group } }
     {
         leave_group(self.interface(), group)
     }

@@ -18,4 +18,7 @@ pub use member::Member;
 pub use mode::{CompatibilityMode, Told};
 pub use querier::Querier;
 pub use query::{answer_at, igmp_max_micros, mld_max_micros};
-pub use table::{GROUP_ROOM, GroupTable, GroupTableFull, Row};
+pub use table::{
+    GROUP_ROOM, GroupTable, GroupTableFull, Row, forget_all, is_row_due, row_index_of, slot_of,
+    soonest,
+};

@@ -173,7 +173,7 @@ impl GroupTable {
 }
 
 /// Where the row of this group is.
-fn row_index_of(rows: &[Row], group: &IpAddress) -> Option<usize>
+pub fn row_index_of(rows: &[Row], group: &IpAddress) -> Option<usize>
     ensures row { result ≡ row_index_of rows.now group.now }
     ensures in_range { ForSome result (λ at. at < length rows.now) }
 {
@@ -190,7 +190,7 @@ fn first_free(rows: &[Row]) -> Option<usize>
 }
 
 /// The row that a group has, or may have: one of which nothing is to be told any more gives way.
-fn slot_of(rows: &[Row], group: &IpAddress) -> Option<usize>
+pub fn slot_of(rows: &[Row], group: &IpAddress) -> Option<usize>
     ensures row { result ≡ slot_of rows.now group.now }
     ensures in_range { ForSome result (λ at. at < length rows.now) }
 {
@@ -216,8 +216,8 @@ fn forget(family: &IpAddress, row: &mut Row)
     }
 }
 
-/// The same of each row.
-fn forget_all(family: &IpAddress, rows: &mut [Row])
+/// No query of this family is to be answered any more.
+pub fn forget_all(family: &IpAddress, rows: &mut [Row])
     ensures { rows.new ≡ unqueried family.now rows.old }
 {
     for row in rows.iter_mut() {
@@ -226,7 +226,7 @@ fn forget_all(family: &IpAddress, rows: &mut [Row])
 }
 
 /// When something of these rows is to be told next.
-fn soonest(rows: &[Row]) -> Option<u64>
+pub fn soonest(rows: &[Row]) -> Option<u64>
     ensures { result ≡ rows_due rows.now }
 {
     let mut due = None;
@@ -237,7 +237,7 @@ fn soonest(rows: &[Row]) -> Option<u64>
 }
 
 /// Whether something is to be told of this row now.
-fn is_row_due(now: u64, row: &Row) -> bool
+pub fn is_row_due(now: u64, row: &Row) -> bool
     ensures { result ≡ is_row_due now row.now }
 {
     match row.member.due_at() {

@@ -76,6 +76,9 @@ none_of test (y ∷ xs) none (suc i) x is = none_of test xs (or_parts (test y) (
 
 -- A FOLD
 
+none_some : {X : Type 0} {x : X} → None ≡ Some x → ⊥
+none_some is = absurd (cc)
+
 -- what changes nothing is passed over
 module _ {X B : Type 0} (f : B → X → B) (Rests : X → Type 0) (stays : (b : B) (x : X) → Rests x → f b x ≡ b) where
   one_past : (n from : ℕ) (b : B) (xs : List X) → ((x : X) → slice_get xs from ≡ Some x → Rests x)
@@ -93,6 +96,29 @@ module _ {X B : Type 0} (f : B → X → B) (Rests : X → Type 0) (stays : (b :
       (fold_past n (suc from) b xs (λ i x since less. rest i x (omega (arith, since)) (omega (arith, less)))) (slot_or_end xs from)
       ∙ ap (λ k. fold f b (drop k xs)) same
 
+  -- the next one that doesn't rest, after those that do
+  pub fold_next : (b : B) (xs : List X) (from at : ℕ) (x : X) → from ≤ at → ((k : ℕ) (y : X) → from ≤ k → k < at → slice_get xs k ≡ Some y → Rests y)
+      → slice_get xs at ≡ Some x → fold f b (drop from xs) ≡ fold f (f b x) (drop (at + 1) xs)
+  fold_next b xs from at x since rest is =
+      let n : ℕ = at - from in
+      let sum : n + from ≡ at = omega (arith, since) in
+      let past : fold f b (drop from xs) ≡ fold f b (drop (n + from) xs) =
+      fold_past n from b xs (λ k y s less. rest k y s (omega (arith, less, sum))) in
+      past ∙ (ap (λ k. fold f b (drop k xs)) sum ∙ (here (slot_or_end xs at) ∙ next)) where
+        next : fold f (f b x) (drop (suc at) xs) ≡ fold f (f b x) (drop (at + 1) xs)
+        next = let one : suc at ≡ at + 1 = omega arith in ap (λ k. fold f (f b x) (drop k xs)) one
+
+        here : SlotOrEnd xs at → fold f b (drop at xs) ≡ fold f (f b x) (drop (suc at) xs)
+        here (inl h) =
+            let same : h.0 ≡ x = cc in
+            ap (fold f b) h.1 ∙ ap (λ y. fold f (f b y) (drop (suc at) xs)) same
+        here (inr h) = absurd (none_some (sym h.3 ∙ is))
+
+  pub fold_last : (b : B) (xs : List X) (from : ℕ) → ((k : ℕ) (y : X) → from ≤ k → slice_get xs k ≡ Some y → Rests y) → fold f b (drop from xs) ≡ b
+  fold_last b xs from rest =
+      fold_past (length xs) from b xs (λ k y since less. rest k y since)
+      ∙ ap (fold f b) (nothing_left xs (length xs + from) (omega arith))
+
 -- WHO IS AT REST
 
 abbrev pub IsIdle : SocketStorage Socket → Type 0
@@ -107,9 +133,6 @@ unmarked_idle slot rests = by slot.inner rests where
   by : (o : Option (Item Socket)) → is_item_idle is_idle o ≡ true → is_marked_at o ≡ false
   by None rests = refl
   by (Some item) rests = waits item.meta.waiting (and_parts _ _ rests).0
-
-none_some : {X : Type 0} {x : X} → None ≡ Some x → ⊥
-none_some is = absurd (cc)
 
 -- NO MOMENT
 
@@ -164,26 +187,11 @@ module _ (due_instant : (cx : ContextValue) (s : Socket) → is_idle s ≡ true 
   pub soonest_next : (best : Option ℤ) (ps : List (SocketStorage Socket)) (from at : ℕ) (slot : SocketStorage Socket) → from ≤ at
       → ((k : ℕ) (x : SocketStorage Socket) → from ≤ k → k < at → slice_get ps k ≡ Some x → IsIdle x) → slice_get ps at ≡ Some slot
       → fold sooner best (drop from ps) ≡ fold sooner (sooner best slot) (drop (at + 1) ps)
-  soonest_next best ps from at slot since rest is =
-      let n : ℕ = at - from in
-      let sum : n + from ≡ at = omega (arith, since) in
-      let past : fold sooner best (drop from ps) ≡ fold sooner best (drop (n + from) ps) =
-      fold_past sooner IsIdle no_sooner n from best ps (λ k x s less. rest k x s (omega (arith, less, sum))) in
-      past ∙ (ap (λ k. fold sooner best (drop k ps)) sum ∙ (here (slot_or_end ps at) ∙ next)) where
-        next : fold sooner (sooner best slot) (drop (suc at) ps) ≡ fold sooner (sooner best slot) (drop (at + 1) ps)
-        next = let one : suc at ≡ at + 1 = omega arith in ap (λ k. fold sooner (sooner best slot) (drop k ps)) one
-
-        here : SlotOrEnd ps at → fold sooner best (drop at ps) ≡ fold sooner (sooner best slot) (drop (suc at) ps)
-        here (inl h) =
-            let same : h.0 ≡ slot = cc in
-            ap (fold sooner best) h.1 ∙ ap (λ x. fold sooner (sooner best x) (drop (suc at) ps)) same
-        here (inr h) = absurd (none_some (sym h.3 ∙ is))
+  soonest_next best ps from at slot since rest is = fold_next sooner IsIdle no_sooner best ps from at slot since rest is
 
   pub soonest_last : (best : Option ℤ) (ps : List (SocketStorage Socket)) (from : ℕ)
       → ((k : ℕ) (x : SocketStorage Socket) → from ≤ k → slice_get ps k ≡ Some x → IsIdle x) → fold sooner best (drop from ps) ≡ best
-  soonest_last best ps from rest =
-      fold_past sooner IsIdle no_sooner (length ps) from best ps (λ k x since less. rest k x since)
-      ∙ ap (fold sooner best) (nothing_left ps (length ps + from) (omega arith))
+  soonest_last best ps from rest = fold_last sooner IsIdle no_sooner best ps from rest
 
 -- NONE WAITS
 

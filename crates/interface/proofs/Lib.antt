@@ -6,6 +6,9 @@ pub mod QuietTurn
 pub mod ParkedPlan
 pub mod QuietParked
 pub mod QuietPass
+pub mod BlackHoles
+pub mod BlackHoleLaws
+pub mod Begun
 pub mod StepUnchanged
 pub mod PassStep
 pub mod Parked
@@ -20,6 +23,9 @@ pub mod Unchanged
 pub mod Runs
 pub mod Kept
 pub mod Keep
+pub mod Tells
+pub mod Silent
+pub mod Worked
 pub mod KeepAlone
 pub mod Hosts
 pub mod Shapes

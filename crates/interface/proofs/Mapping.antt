@@ -6,7 +6,7 @@ use Rattle.iface_ingress.specs.Offer as Answer
 use Rattle.iface_ingress.specs.Offer.TheVariants as Offer
 use Rattle.iface_ingress.specs.Sockets.{offered_by}
 use Rattle.iface_ingress.specs.Socket.{Socket}
-use Rattle.iface_tables.specs.Inner.{InnerValue}
+use Rattle.iface_tables.specs.Inner.{InnerValue, at_instant}
 use Rattle.iface_egress.specs.declared.socket_set.Item.{Item}
 use Rattle.iface_egress.specs.declared.socket_set.SocketStorage.{SocketStorage}
 use Rattle.iface_egress.specs.Departure as Departures
@@ -38,7 +38,13 @@ use Rattle.interface.specs.declared.serve.Served.TheVariants as Turn
 use Rattle.interface.specs.State.{State, state, at_device}
 use Rattle.interface.specs.Egress.{EgressStep, sending}
 use Rattle.interface.specs.Ingress.{AnswerGoes, IngressStep, Takes, Receives, Replied, is_awaited, sender_of, sender_with, would_solicit}
-use Rattle.interface.specs.Polls.{Repeats, Polls, begun}
+use Rattle.interface.specs.Polls.{Repeats, Polls, HostPolls, begun}
+use Rattle.interface.specs.OwnWork.{OwnWork, TellsIf, ChecksPathsIf}
+use Rattle.iface_egress.specs.Emits.{Emits}
+use Rattle.iface_reports.specs.Frames.{report_frame, report_frame_len}
+use Rattle.iface_reports.specs.Reports.{ReportsValue, micros}
+use Rattle.iface_reports.specs.Told.{ReportValue, first_due, report_at, v4_family, v6_family}
+use Rattle.iface_reports.specs.Transmits.{GoesIf, Tells, TellsAt, Transmits}
 
 -- How moves of one device are moves of another: what holds of the devices before is kept, and what holds of those after held before.
 pub record IsMapped {D E : Type 0} (f : D → E) (moves : D → Move → D → Type 0) (others : E → Move → E → Type 0) (Before After : D → Type 0) : Type 0 where
@@ -416,7 +422,7 @@ module _ {D E : Type 0} (f : D → E) (moves : D → Move → D → Type 0) (oth
       both s.device one.1 s'.device (others (f s.device) (Took s.host.inner.instant one.0) (f one.1))
       (Receives others one.4.0 (on_state (at_device s one.1)) (on_state s'))
       (Takes others (on_state s) (Some true) (on_state s'))
-      (λ n g. (one.0, f one.1, n, one.3, (one.4.0, one.4.1, g))) (moves_so s.device one.1 (Took s.host.inner.instant one.0) one.2)
+      (λ n g. (one.0, f one.1, n, one.3, (one.4.0, one.4.1, g, one.4.3))) (moves_so s.device one.1 (Took s.host.inner.instant one.0) one.2)
       (receives one.4.0 (at_device s one.1) s' one.4.2)
 
   -- STEPS
@@ -434,13 +440,90 @@ module _ {D E : Type 0} (f : D → E) (moves : D → Move → D → Type 0) (oth
         (Repeats step' (suc n) (on_state s) c (on_state s') c')
         (λ x y. inr (a.0, on_state a.1, x, y)) (steps s a.1 (Some a.0) a.2) (repeats n a.1 s' (c || a.0) c' a.3)
 
-  pub polls_there : (t : ℤ) (budget : ℕ) (s s' : State D) (changed : Bool) → Polls moves t budget s changed s' → Before s.device → After s'.device →
-      Polls others t budget (on_state s) changed (on_state s')
-  polls_there t budget s s' changed polls before after =
+  polled : (t : ℤ) (budget : ℕ) (s s' : State D) (changed : Bool) → Polls moves t budget s changed s' →
+      Leads s.device s'.device (Polls others t budget (on_state s) changed (on_state s'))
+  polled t budget s s' changed polls =
       let first = repeats (IngressStep moves t) (IngressStep others t) (λ x y answer one. takes (begun t x) y answer one) budget (begun t s) polls.0 false
       polls.1 polls.2 in
       let second = repeats (EgressStep moves t) (EgressStep others t) (out_step t) budget polls.0 s' polls.1 changed polls.3 in
-      let leads = both s.device polls.0.device s'.device (Repeats (IngressStep others t) budget (on_state (begun t s)) false (on_state polls.0) polls.1)
+      both s.device polls.0.device s'.device (Repeats (IngressStep others t) budget (on_state (begun t s)) false (on_state polls.0) polls.1)
       (Repeats (EgressStep others t) budget (on_state polls.0) polls.1 (on_state s') changed) (Polls others t budget (on_state s) changed (on_state s'))
-      (λ x y. (on_state polls.0, polls.1, x, y)) first second in
+      (λ x y. (on_state polls.0, polls.1, x, y)) first second
+
+  pub polls_there : (t : ℤ) (budget : ℕ) (s s' : State D) (changed : Bool) → Polls moves t budget s changed s' → Before s.device → After s'.device →
+      Polls others t budget (on_state s) changed (on_state s')
+  polls_there t budget s s' changed polls before after = (polled t budget s s' changed polls).there before after
+
+  -- WHAT THE HOST DOES OF ITS OWN
+
+  emits : (old new : D) (frame : List ℕ) (len : ℕ) (taken : Bool) → Emits moves old frame len taken new → Leads old new (Emits others (f old) frame len taken (f new))
+  emits old new frame len true goes =
+      so old new (others (f old) (Emitted frame) (f new)) (Emits others (f old) frame len true (f new)) (λ x. (x, goes.1)) (moves_so old new (Emitted frame) goes.0)
+  emits old new frame len false goes = moves_so old new (Denied len) goes
+
+  goes_if : (i : InnerValue) (old new : D) (report : ReportValue) (went : Bool) → GoesIf moves i old report went new →
+      Leads old new (GoesIf others i (f old) report went (f new))
+  goes_if i old new report true one =
+      both old one.0 new (others (f old) (Allowed i.instant true) (f one.0)) (Emits others (f one.0) (report_frame i report) (report_frame_len i report) true (f new))
+      (GoesIf others i (f old) report true (f new)) (λ x y. (f one.0, x, y)) (moves_so old one.0 (Allowed i.instant true) one.1)
+      (emits one.0 new (report_frame i report) (report_frame_len i report) true one.2)
+  goes_if i old new report false (inl none) =
+      so old new (others (f old) (Allowed i.instant false) (f new)) (GoesIf others i (f old) report false (f new)) (λ x. inl x)
+      (moves_so old new (Allowed i.instant false) none)
+  goes_if i old new report false (inr one) =
+      both old one.0 new (others (f old) (Allowed i.instant true) (f one.0)) (Emits others (f one.0) (report_frame i report) (report_frame_len i report) false (f new))
+      (GoesIf others i (f old) report false (f new)) (λ x y. inr (f one.0, x, y)) (moves_so old one.0 (Allowed i.instant true) one.1)
+      (emits one.0 new (report_frame i report) (report_frame_len i report) false one.2)
+
+  tells_at : (i : InnerValue) (family : IpAddress) (old new : D) (r after : ReportsValue) (at : Option ℕ) (went : Bool) → TellsAt moves i old family r at went new after →
+      Leads old new (TellsAt others i (f old) family r at went (f new) after)
+  tells_at i family old new r after None went one =
+      stays old new (TellsAt others i (f old) family r None went (f new) after) one.1 (one.0, ap f one.1, one.2)
+  tells_at i family old new r after (Some at) true one =
+      so old new (GoesIf others i (f old) (report_at i family r at) true (f new)) (TellsAt others i (f old) family r (Some at) true (f new) after)
+      (λ n. (n, one.1)) (goes_if i old new (report_at i family r at) true one.0)
+  tells_at i family old new r after (Some at) false one =
+      so old new (GoesIf others i (f old) (report_at i family r at) false (f new)) (TellsAt others i (f old) family r (Some at) false (f new) after)
+      (λ n. (n, one.1)) (goes_if i old new (report_at i family r at) false one.0)
+
+  tells : (i : InnerValue) (family : IpAddress) (old new : D) (r after : ReportsValue) (went : Bool) → Tells moves i old family r went new after →
+      Leads old new (Tells others i (f old) family r went (f new) after)
+  tells i family old new r after went one = tells_at i family old new r after (first_due family (micros i) r.rows) went one
+
+  transmits : (i : InnerValue) (old new : D) (r after : ReportsValue) (went : Bool) → Transmits moves i old r went new after →
+      Leads old new (Transmits others i (f old) r went (f new) after)
+  transmits i old new r after went (inl one) =
+      so old new (Tells others i (f old) v4_family r false (f new) after) (Transmits others i (f old) r went (f new) after) (λ n. inl (n, one.1))
+      (tells i v4_family old new r after false one.0)
+  transmits i old new r after went (inr one) =
+      both old one.0 new (Tells others i (f old) v4_family r true (f one.0) one.1) (Tells others i (f one.0) v6_family one.1 went (f new) after)
+      (Transmits others i (f old) r went (f new) after) (λ x y. inr (f one.0, one.1, x, y))
+      (tells i v4_family old one.0 r one.1 true one.2) (tells i v6_family one.0 new one.1 after went one.3)
+
+  module _ (t : ℤ) where
+    tells_if : (reports : Option ReportsValue) (s s' : State D) → TellsIf moves t reports s s' →
+        Leads s.device s'.device (TellsIf others t reports (on_state s) (on_state s'))
+    tells_if None s s' one = stays s.device s'.device (TellsIf others t None (on_state s) (on_state s')) (ap (λ (x : State D). x.device) one) (ap on_state one)
+    tells_if (Some r) s s' one =
+        both s.device one.1 s'.device (Transmits others (at_instant t s.host.inner) (f s.device) r one.0 (f one.1) one.2) (Unit {0})
+        (TellsIf others t (Some r) (on_state s) (on_state s')) (λ n u. (one.0, f one.1, one.2, n, ap on_state one.4))
+        (transmits (at_instant t s.host.inner) s.device one.1 r one.2 one.0 one.3)
+        (stays one.1 s'.device (Unit {0}) (ap (λ (x : State D). x.device) one.4) tt)
+
+    checks_paths : (many : Bool) (s s' : State D) → ChecksPathsIf moves t many s s' → Leads s.device s'.device (ChecksPathsIf others t many (on_state s) (on_state s'))
+    checks_paths false s s' one = stays s.device s'.device (ChecksPathsIf others t false (on_state s) (on_state s')) (ap (λ (x : State D). x.device) one) (ap on_state one)
+    checks_paths true s s' one = stays s.device s'.device (ChecksPathsIf others t true (on_state s) (on_state s')) (ap (λ (x : State D). x.device) one) (ap on_state one)
+
+    own_work : (s s' : State D) → OwnWork moves t s s' → Leads s.device s'.device (OwnWork others t (on_state s) (on_state s'))
+    own_work s s' one =
+        both s.device one.0.device s'.device (TellsIf others t s.host.reports (on_state s) (on_state one.0))
+        (ChecksPathsIf others t s.host.inner.host_requirements (on_state one.0) (on_state s')) (OwnWork others t (on_state s) (on_state s'))
+        (λ x y. (on_state one.0, x, y)) (tells_if s.host.reports s one.0 one.1) (checks_paths s.host.inner.host_requirements one.0 s' one.2)
+
+  pub host_polls_there : (t : ℤ) (budget : ℕ) (s s' : State D) (changed : Bool) → HostPolls moves t budget s changed s' → Before s.device → After s'.device →
+      HostPolls others t budget (on_state s) changed (on_state s')
+  host_polls_there t budget s s' changed polls before after =
+      let leads = both s.device polls.0.device s'.device (OwnWork others t (on_state s) (on_state polls.0))
+      (Polls others t budget (on_state polls.0) changed (on_state s')) (HostPolls others t budget (on_state s) changed (on_state s'))
+      (λ x y. (on_state polls.0, x, y)) (own_work t s polls.0 polls.1) (polled t budget polls.0 s' changed polls.2) in
       leads.there before after

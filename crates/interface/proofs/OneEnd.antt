@@ -518,24 +518,25 @@ module _ (one_offer : OneOffer) {D : Type 0} (moves : D → Move → D → Type 
   det_replied awaited (Some (Replies.Answers p)) x y (inr one) det = det_answered x.inner.host_requirements p (awaited && would_solicit x p) x y one det
 
   same_state : (s r : State D) → s.device ≡ r.device → s.host.inner ≡ r.host.inner → s.host.left ≡ r.host.left → s.host.assemblers ≡ r.host.assemblers →
-      s.host.timeout ≡ r.host.timeout → s.slots ≡ r.slots → s ≡ r
-  same_state s r devices inners lefts assemblers timeouts slots =
-      λ k. record { device = devices k; host = record { inner = inners k; left = lefts k; assemblers = assemblers k; timeout = timeouts k }; slots = slots k }
+      s.host.timeout ≡ r.host.timeout → s.host.reports ≡ r.host.reports → s.slots ≡ r.slots → s ≡ r
+  same_state s r devices inners lefts assemblers timeouts reports slots =
+      λ k. record { device = devices k; host = record { inner = inners k; left = lefts k; assemblers = assemblers k; timeout = timeouts k; reports = reports k }; slots = slots k }
 
-  one_receives : (content : Option IncomingValue) (o s r : State D) → Det o.device → Receives moves content o s → Receives moves content o r → s ≡ r
-  one_receives content o s r det one two =
+  one_receives : (content : Option IncomingValue) (o s r : State D) → s.host.reports ≡ r.host.reports → Det o.device → Receives moves content o s
+      → Receives moves content o r → s ≡ r
+  one_receives content o s r reports det one two =
       let same = one_arrives_as o.host.inner o.host.timeout o.host.assemblers o.slots content r.host.assemblers s.host.assemblers two.0 one.0 two.1 one.1 in
       let again : Replied moves (is_awaited one.0) one.0.reply (sender_with moves o one.0) (sender_of moves r) =
       subst (λ (a : Arrived). Replied moves (is_awaited a) a.reply (sender_with moves o a) (sender_of moves r)) same.1 two.3 in
       let senders : sender_of moves s ≡ sender_of moves r =
       one_replied (is_awaited one.0) one.0.reply (sender_with moves o one.0) (sender_of moves s) (sender_of moves r) det one.3 again in
       same_state s r (ap (λ (x : Sender D). x.device) senders) (ap (λ (x : Sender D). x.inner) senders) (ap (λ (x : Sender D). x.left) senders)
-      (sym same.0) (one.4 ∙ sym two.4) (one.2 ∙ ap (λ (a : Arrived). a.slots) (sym same.1) ∙ sym two.2)
+      (sym same.0) (one.4 ∙ sym two.4) reports (one.2 ∙ ap (λ (a : Arrived). a.slots) (sym same.1) ∙ sym two.2)
 
   one_reads : (frame : List ℕ) (o s r : State D) → Det o.device → Reads moves frame o s → Reads moves frame o r → s ≡ r
   one_reads frame o s r det one two =
       let same = one-content o.host.inner.hardware o.host.inner.checksums frame two.0 one.0 two.1 one.1 in
-      one_receives one.0 o s r det one.2 (subst (λ (c : Option IncomingValue). Receives moves c o r) same two.2)
+      one_receives one.0 o s r (one.3 ∙ sym two.3) det one.2 (subst (λ (c : Option IncomingValue). Receives moves c o r) same two.2)
 
   one_takes : (o s r : State D) (a b : Option Bool) → Det o.device → Takes moves o a s → Takes moves o b r → SameStep a s b r
   one_takes o s r None None det one two =

@@ -36,7 +36,7 @@ same_mtu asked t (Some address) since early =
     mtu_stays asked.paths address asked.instant t asked.mtu since (λ until is. subst (λ (o : Option ℤ). IsEarlier t o) is early)
 
 -- when a socket wants to be polled doesn't depend on the instant, until what is known of the path to its remote ends
-same_due : (asked : InnerValue) (t : ℤ) (s : Socket) → asked.instant ≤ℤ t → IsEarlier t (end_by asked (remote_of s)) →
+pub same_due : (asked : InnerValue) (t : ℤ) (s : Socket) → asked.instant ≤ℤ t → IsEarlier t (end_by asked (remote_of s)) →
     poll_of (context_for (at_instant t asked) s) s ≡ poll_of (context_for asked s) s
 same_due asked t (Kind.Raw v) since early = refl
 same_due asked t (Kind.Icmp v) since early = refl

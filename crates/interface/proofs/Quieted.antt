@@ -16,6 +16,7 @@ use Rattle.interface.specs.Egress.{EgressStep, sending, following, if_changed}
 use Rattle.interface.specs.Ingress.{Takes, IngressStep}
 use Rattle.interface.specs.Polls.{Repeats, Polls, begun}
 use Rattle.interface.specs.QuietPoll.{HasNoFrame, IsQuietPoll}
+use Rattle.interface.specs.OwnWork.{HasBegun}
 
 -- SLOTS: those that were freed aren't freed again
 
@@ -106,3 +107,20 @@ quiet_poll due {D} moves t asked last budget s s' changed is early none polls =
       host = ap (λ (x : State D). x.host) exit.0;
       due_instant = exit.1;
     }
+
+-- the same of a whole poll, where nothing was done before it
+pub quiet_host : (due : DueAsBefore) {D : Type 0} (moves : D → Move → D → Type 0) (t : ℤ) (asked : InnerValue) (last : ℤ) (budget : ℕ) (s : State D)
+    (device : D) (h : HostValue) (s' : State D) (changed : Bool)
+    → device ≡ s.device → HasBegun t s.host h → s.host.inner ≡ at_instant last asked → IsEarly asked s.host.left s.slots t → HasNoFrame moves t s.device
+    → Polls moves t budget (state device h s.slots) changed s' → IsQuietPoll moves asked t s changed s'
+quiet_host due {D} moves t asked last budget s device h s' changed same begun is early none polls =
+    by begun (subst (λ (d : D). Polls moves t budget (state d h s.slots) changed s') same polls)
+  where
+    by : HasBegun t s.host h → Polls moves t budget (state s.device h s.slots) changed s' → IsQuietPoll moves asked t s changed s'
+    by (inl still) polls =
+        quiet_poll due moves t asked last budget s s' changed is early none
+        (subst (λ (x : HostValue). Polls moves t budget (state s.device x s.slots) changed s') still polls)
+    by (inr now) polls =
+        let quiet = quiet_poll due moves t asked t budget (state s.device (host_at t s.host) s.slots) s' changed (ap (at_instant t) is) early none
+        (subst (λ (x : HostValue). Polls moves t budget (state s.device x s.slots) changed s') now polls) in
+        record { device = quiet.device; changed_none = quiet.changed_none; host = quiet.host; due_instant = quiet.due_instant }

@@ -14,6 +14,7 @@ use Rattle.iface_ingress.specs.Incoming.{IncomingValue, IsContent}
 use Rattle.iface_ingress.specs.Arrives as Replies
 use Rattle.iface_ingress.specs.Arrives.{ReplyValue, Arrived, ArrivesAs}
 use Rattle.interface.specs.Awaited.{turn_of}
+use Rattle.interface.specs.Reports.{heard_if}
 use Rattle.interface.specs.Host.{Sender, sender, maintained}
 use Rattle.interface.specs.State.{State, state, at_device}
 
@@ -67,9 +68,11 @@ module _ {D : Type 0} (moves : D → Move → D → Type 0) where
       (a : Arrived) × ArrivesAs s.host.inner s.host.timeout s.host.assemblers s.slots content s'.host.assemblers a
       × (s'.slots ≡ a.slots) × Replied (is_awaited a) a.reply (sender_with s a) (sender_of s') × (s'.host.timeout ≡ s.host.timeout)
 
+  -- what it says of multicast groups is heard where anything is told of them
   abbrev pub Reads : List ℕ → State D → State D → Type 0
   Reads frame s s' =
       (content : Option IncomingValue) × IsContent s.host.inner.hardware s.host.inner.checksums frame content × Receives content s s'
+      × (s'.host.reports ≡ heard_if s.host.inner frame s.host.reports)
 
   -- At the host's instant no frame came; or one that isn't read; or one that is.
   abbrev pub Takes : State D → Option Bool → State D → Type 0

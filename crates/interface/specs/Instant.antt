@@ -17,6 +17,8 @@ use Rattle.iface_egress.specs.declared.socket_set.SocketStorage.{SocketStorage}
 use Rattle.iface_ingress.specs.Sockets.{poll_of}
 use Rattle.iface_ingress.specs.Socket.{Socket}
 use Rattle.iface_egress.specs.Fragments.{LeftValue}
+use Rattle.interface.specs.Host.{HostValue}
+use Rattle.interface.specs.Reports.{reports_at}
 use Rattle.interface.specs.Remote.{remote_of, context_for, end_by}
 use Rattle.interface.specs.Serve.{passes_filter}
 
@@ -74,3 +76,7 @@ soonest_parked i = soonest_if i.host_requirements i
 abbrev pub poll_instant : InnerValue → Option LeftValue → List (SocketStorage Socket) → Option ℤ
 poll_instant i (Some l) ps = Some (pos 0)
 poll_instant i None ps = earlier (soonest_parked i) (soonest i ps)
+
+-- the same, or sooner where something has to be told of multicast groups
+abbrev pub host_instant : HostValue → List (SocketStorage Socket) → Option ℤ
+host_instant h ps = earlier (reports_at h.reports) (poll_instant h.inner h.left ps)

@@ -1,7 +1,9 @@
 pub mod Host
+pub mod Reports
 pub mod Awaited
 pub mod Remote
 pub mod Serve
+pub mod BlackHoles
 pub mod SendTo
 pub mod Pass
 pub mod EgressPath
@@ -12,6 +14,7 @@ pub mod Made
 pub mod Announced
 pub mod State
 pub mod Egress
+pub mod OwnWork
 pub mod Ingress
 pub mod Polls
 pub mod QuietPoll

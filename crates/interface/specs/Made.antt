@@ -11,7 +11,12 @@ use Rattle.iface_tables.specs.Assemblers.{free_assemblers}
 use Rattle.iface_tables.specs.declared.config.Config.{Config}
 use Rattle.iface_tables.specs.declared.config.NewError.{NewError}
 use Rattle.iface_egress.specs.Fragments.{LeftValue}
+use Rattle.iface_reports.specs.Reports.{ReportsValue, fresh}
 use Rattle.interface.specs.Host.{HostValue}
+
+-- where anything is told of multicast groups, nothing has to be yet
+abbrev pub new_reports : Config → Option ReportsValue
+new_reports config = if config.multicast_reports then Some (fresh config.random_seed) else None
 
 -- how long fragments of a datagram are waited for at first: a minute, in microseconds
 abbrev pub first_timeout : ℕ
@@ -23,7 +28,7 @@ assembler_count config = if config.host_requirements then 16 else 2
 
 abbrev pub new_host : Config → DeviceCapabilities → ℤ → HostValue
 new_host config device instant =
-    record { inner = made config device instant; left = None; assemblers = free_assemblers (assembler_count config) 4096; timeout = first_timeout }
+    record { inner = made config device instant; left = None; assemblers = free_assemblers (assembler_count config) 4096; timeout = first_timeout; reports = new_reports config }
 
 -- A refusal has its reason. Without one, an interface is made, or there is no memory for it.
 abbrev pub Makes : Config → DeviceCapabilities → ℤ → Result HostValue NewError → Type 0

@@ -1,11 +1,12 @@
 -- A device, the host at it, and its sockets.
-use Rattle.std.specs.Prelude.{◌≡◌, ℕ, List, Option}
+use Rattle.std.specs.Prelude.{◌≡◌, ℕ, List, Option, None}
 use Rattle.iface_tables.specs.declared.key.FragKey.{FragKey}
 use Rattle.iface_tables.specs.Inner.{InnerValue}
 use Rattle.iface_tables.specs.Reassembly.{AssemblerValue}
 use Rattle.iface_egress.specs.declared.socket_set.SocketStorage.{SocketStorage}
 use Rattle.iface_ingress.specs.Socket.{Socket}
 use Rattle.iface_egress.specs.Fragments.{LeftValue}
+use Rattle.iface_reports.specs.Reports.{ReportsValue}
 use Rattle.interface.specs.Host.{HostValue, Sender}
 use Rattle.interface.specs.SameHost.{parking_from}
 
@@ -17,8 +18,13 @@ pub record State (D : Type 0) : Type 0 where
 abbrev pub state : {D : Type 0} → D → HostValue → List (SocketStorage Socket) → State D
 state device host slots = record { device = device; host = host; slots = slots }
 
+-- one that tells nothing of multicast groups
 abbrev pub host : InnerValue → Option LeftValue → List (AssemblerValue FragKey) → ℕ → HostValue
-host inner left assemblers timeout = record { inner = inner; left = left; assemblers = assemblers; timeout = timeout }
+host inner left assemblers timeout = record { inner = inner; left = left; assemblers = assemblers; timeout = timeout; reports = None }
+
+-- one with these things to tell of them
+abbrev pub telling : HostValue → Option ReportsValue → HostValue
+telling h reports = record h { reports = reports }
 
 -- the same host and sockets after a move of the device
 abbrev pub at_device : {D : Type 0} → State D → D → State D

@@ -6,7 +6,8 @@ ghost use Rattle.iface_ingress.specs.Packet.{packet_value, IsSendable};
 ghost use Rattle.iface_ingress.specs.WellFormed.{IsWellFormed};
 ghost use Rattle.interface.specs.Awaited.{turn_of};
 ghost use Rattle.interface.specs.Host.{sender};
-ghost use Rattle.interface.specs.State.{state, host, KeepsSettings};
+ghost use Rattle.interface.specs.State.{state, host, telling, KeepsSettings};
+ghost use Rattle.interface.specs.Reports.{heard_if};
 ghost use Rattle.interface.specs.Ingress.{is_read, is_solicitation, Replied, Receives, Reads, Takes};
 
 use crate::awaited::turn_of;
@@ -20,6 +21,7 @@ use iface_ingress::{
     Context, Incoming, Packet, Reply, Socket, bring, keep, process_frame_fast, read_into, release,
     take_in,
 };
+use iface_reports::Reporter;
 use net_base::{Device, Duration, RxToken};
 
 /// The longest frame that is read: an Ethernet header before the longest IP packet.
@@ -31,11 +33,12 @@ pub fn ingress<D: Device>(
     fragmenter: &mut Fragmenter,
     assemblers: &mut PacketAssemblerSet,
     timeout: Duration,
+    reporter: &mut Option<Reporter>,
     device: &mut D,
     slots: &mut Slots<Socket>,
 ) -> Option<bool>
-    ensures takes { Takes D.moves (state device.old (host inner.old fragmenter.old assemblers.old timeout) slots.old) result
-        (state device.new (host inner.new fragmenter.new assemblers.new timeout) slots.new) }
+    ensures takes { Takes D.moves (state device.old (telling (host inner.old fragmenter.old assemblers.old timeout) reporter.old) slots.old) result
+        (state device.new (telling (host inner.new fragmenter.new assemblers.new timeout) reporter.new) slots.new) }
     ensures settings { KeepsSettings inner.old inner.new }
     ensures capabilities { D.described device.new ≡ D.described device.old }
 {
@@ -45,6 +48,7 @@ pub fn ingress<D: Device>(
     if !is_read(frame.bytes()) {
         return Some(false);
     }
+    hear(reporter, inner, frame.bytes());
     process_frame(
         inner,
         fragmenter,
@@ -56,6 +60,15 @@ pub fn ingress<D: Device>(
         frame.bytes(),
     );
     Some(true)
+}
+
+/// What a frame says of multicast groups is heard, where anything is told of them.
+fn hear(reporter: &mut Option<Reporter>, inner: &InterfaceInner, frame: &[u8])
+    ensures { reporter.new ≡ heard_if inner.now frame.now reporter.old }
+{
+    if let Some(reporter) = reporter {
+        reporter.process_frame(inner, frame);
+    }
 }
 
 /// Whether a frame of this length is read.

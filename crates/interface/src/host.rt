@@ -1,5 +1,5 @@
 //! An interface.
-ghost use Rattle.std.specs.Prelude.{◌≡◌, IsTrue, [], length, not, is_ok, OnOk, OnErr, Some};
+ghost use Rattle.std.specs.Prelude.{◌≡◌, IsTrue, [], length, not, is_ok, is_some, OnOk, OnErr, Some};
 ghost use Rattle.std.specs.Fn.{FnOnceReturnsAtMut};
 ghost use Rattle.std.specs.List.{list_any};
 ghost use Rattle.net_base.specs.Time.{IsMoment};
@@ -7,13 +7,13 @@ ghost use Rattle.arrayvec.specs.ArrayVec.{ArrayVec as Items};
 ghost use Rattle.ip_wire.specs.IpCidr.{IpCidr};
 ghost use Rattle.iface_tables.specs.Route.{RoutesValue};
 ghost use Rattle.iface_egress.specs.Inner.{is_local, is_member_of};
-ghost use Rattle.iface_egress.specs.Settings.{unless, hardware_refusal, with_hardware, is_stranger, with_addresses, with_any_ip, routes_of, with_route_table};
-ghost use Rattle.iface_egress.specs.Settings.{with_group, without_group};
-ghost use Rattle.interface.specs.Groups.{join_refusal, leave_refusal};
+ghost use Rattle.iface_egress.specs.Settings.{unless, hardware_refusal, with_hardware, is_stranger, with_any_ip, routes_of, with_route_table};
+ghost use Rattle.interface.specs.Groups.{leave_refusal};
+ghost use Rattle.interface.specs.Reports.{is_untold, host_join_refusal, with_joined, with_left, with_followed, with_own_addresses};
 ghost use Rattle.ip_wire.specs.IpAddress.{IpAddress};
 ghost use Rattle.iface_egress.specs.Source.{first_v4, first_v6, source_for, source_v4, source_v6};
 ghost use Rattle.interface.specs.Host.{host_at, maintained};
-ghost use Rattle.interface.specs.Made.{IsIdle, assembler_count, Makes, with_inner, with_assemblers, with_timeout};
+ghost use Rattle.interface.specs.Made.{IsIdle, assembler_count, new_reports, Makes, with_inner, with_assemblers, with_timeout};
 
 use arrayvec::ArrayVec;
 use iface_egress::{
@@ -21,8 +21,10 @@ use iface_egress::{
     PacketAssemblerSet, Routes, TABLE_ROOM,
 };
 use iface_ingress::Context;
+use iface_reports::Reporter;
 use ip_wire::{HardwareAddress, IpAddress, IpCidr, Ipv4Address, Ipv6Address};
 use net_base::{ChecksumCapabilities, Device, Duration, Instant};
+use socket_context::addresses::is_multicast;
 use std::alloc::{AllocError, Global};
 use std::marker::Model;
 
@@ -42,6 +44,7 @@ pub struct Interface {
     pub(crate) fragmenter: Fragmenter,
     pub(crate) assemblers: PacketAssemblerSet,
     pub(crate) timeout: Duration,
+    pub(crate) reporter: Option<Reporter>,
 }
 
 impl Model for Interface {
@@ -50,7 +53,7 @@ impl Model for Interface {
 
     ghost Value = { HostValue };
 
-    ghost view = { λ f. record { inner = f.inner; left = f.fragmenter; assemblers = f.assemblers; timeout = f.timeout } };
+    ghost view = { λ f. record { inner = f.inner; left = f.fragmenter; assemblers = f.assemblers; timeout = f.timeout; reports = f.reporter } };
 
     ghost invariant = { λ f. IsIdleIfInitial f.inner f.fragmenter f.assemblers };
 }
@@ -77,6 +80,7 @@ impl Interface {
             fragmenter,
             assemblers,
             timeout: Duration::from_secs(REASSEMBLY_SECS),
+            reporter: reporter_for(config),
         })
     }
 
@@ -157,6 +161,13 @@ impl Interface {
         self.inner.routes()
     }
 
+    /// Whether routers and switches are told which multicast groups the host listens to.
+    pub fn multicast_reports(&self) -> bool
+        ensures { result ≡ is_some self.now.reports }
+    {
+        self.reporter.is_some()
+    }
+
     /// Whether nothing ran yet: no call that polls, and no setting of `any_ip` or of the time of reassembly. Then nothing came in fragments,
     /// nothing is half sent, and no neighbour is known.
     pub fn is_fresh(&self) -> bool
@@ -202,9 +213,11 @@ impl Interface {
         ensures { (before : Items IpCidr) × (after : Items IpCidr) × (before.items ≡ self.old.inner.addresses)
             × FnOnceReturnsAtMut F.FnOnce f before tt after
             × (is_ok result ≡ not (list_any is_stranger after.items))
-            × (self.new ≡ with_inner self.old (with_addresses self.old.inner after.items)) }
+            × (self.new ≡ with_own_addresses self.old after.items) }
     {
-        self.inner.update_ip_addrs(f)
+        self.inner.update_ip_addrs(f)?;
+        self.follow();
+        Ok(())
     }
 
     /// Sets whether every address counts as an own one.
@@ -215,17 +228,17 @@ impl Interface {
     }
 
     /// Listens to this multicast group from now on: each datagram to it is for the host, and goes to the UDP sockets of its port. A group
-    /// that every host listens to, or that was joined already, stays as it is. Nothing is told to routers or switches (RFC 3376, RFC 3810):
-    /// where a switch forwards a group to those alone that report it, the group isn't heard.
+    /// that every host listens to, or that was joined already, stays as it is. With `Config::multicast_reports` routers and switches are told
+    /// (RFC 3376, RFC 3810); else, where a switch forwards a group to those alone that report it, the group isn't heard.
     pub fn join_multicast_group<T: Into<IpAddress>>(
         &mut self,
         addr: T,
     ) -> Result<(), MulticastError>
         ensures { (group : IpAddress) × T.converts addr group
-            × (result ≡ unless (join_refusal self.old.inner.groups group) tt)
-            × (self.new ≡ with_inner self.old (with_group self.old.inner group)) }
+            × (result ≡ unless (host_join_refusal self.old group) tt)
+            × (self.new ≡ with_joined self.old group) }
     {
-        self.inner.join_multicast_group(addr.into())
+        self.join_group(addr.into())
     }
 
     /// Listens to this multicast group no longer, however often it was joined. One that isn't joined stays as it is.
@@ -235,9 +248,9 @@ impl Interface {
     ) -> Result<(), MulticastError>
         ensures { (group : IpAddress) × T.converts addr group
             × (result ≡ unless (leave_refusal group) tt)
-            × (self.new ≡ with_inner self.old (without_group self.old.inner group)) }
+            × (self.new ≡ with_left self.old group) }
     {
-        self.inner.leave_multicast_group(&addr.into())
+        self.leave_group(&addr.into())
     }
 
     /// Lends the routes to `f`.
@@ -267,6 +280,53 @@ impl Interface {
     {
         self.inner.end_initial();
         self.timeout = timeout;
+    }
+}
+
+/// What is told of multicast groups.
+impl Interface {
+    /// Joins a group, and tells of it.
+    fn join_group(&mut self, group: IpAddress) -> Result<(), MulticastError>
+        ensures answer { result ≡ unless (host_join_refusal self.old group) tt }
+        ensures after { self.new ≡ with_joined self.old group }
+    {
+        if is_untold(&self.reporter, &group) && is_multicast(&group) {
+            return Err(MulticastError::GroupTableFull);
+        }
+        self.inner.join_multicast_group(group)?;
+        if let Some(reporter) = &mut self.reporter {
+            let _ = reporter.join(&self.inner, &group);
+        }
+        Ok(())
+    }
+
+    /// Leaves a group, and tells of it.
+    fn leave_group(&mut self, group: &IpAddress) -> Result<(), MulticastError>
+        ensures answer { result ≡ unless (leave_refusal group.now) tt }
+        ensures after { self.new ≡ with_left self.old group.now }
+    {
+        self.inner.leave_multicast_group(group)?;
+        self.follow();
+        Ok(())
+    }
+
+    /// What is told follows groups and addresses.
+    fn follow(&mut self)
+        ensures { self.new ≡ with_followed self.old self.old.inner }
+    {
+        if let Some(reporter) = &mut self.reporter {
+            reporter.follow(&self.inner);
+        }
+    }
+}
+
+/// Whether there is no room to tell of this group.
+fn is_untold(reporter: &Option<Reporter>, group: &IpAddress) -> bool
+    ensures { result ≡ is_untold group.now reporter.now }
+{
+    match reporter {
+        Some(reporter) => reporter.is_full_for(group),
+        None => false,
     }
 }
 
@@ -313,6 +373,17 @@ impl Context for Interface {
     }
 
     ghost drawn_context = { λ h. refl };
+}
+
+/// Who tells of multicast groups, where anybody is to be told.
+fn reporter_for(config: &Config) -> Option<Reporter>
+    ensures { result ≡ new_reports config.now }
+{
+    if config.multicast_reports {
+        Some(Reporter::new(config.random_seed))
+    } else {
+        None
+    }
 }
 
 /// How many datagrams can come in fragments at a time at first.

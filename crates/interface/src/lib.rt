@@ -7,6 +7,8 @@ pub mod announce_laws;
 mod announced;
 mod arrival;
 mod awaited;
+pub mod black_hole_laws;
+mod black_holes;
 mod by_kind;
 pub mod delivery_laws;
 mod due_instant;

@@ -1,5 +1,7 @@
 //! Polling.
-ghost use Rattle.std.specs.Prelude.{◌≡◌, false};
+ghost use Rattle.std.specs.Prelude.{◌≡◌, false, List, None};
+ghost use Rattle.iface_egress.specs.declared.socket_set.SocketStorage.{SocketStorage};
+ghost use Rattle.iface_ingress.specs.Socket.{Socket};
 ghost use Rattle.net_base.specs.Time.{IsMoment};
 ghost use Rattle.iface_egress.specs.Inner.{InnerValue, at_instant};
 ghost use Rattle.iface_egress.specs.Set.{slots, is_fixed};
@@ -7,24 +9,29 @@ ghost use Rattle.interface.specs.Host.{sender, host_at, maintained};
 ghost use Rattle.iface_egress.specs.Departing.{HasSettingsOf};
 ghost use Rattle.interface.specs.EgressPath.{Egress};
 ghost use Rattle.interface.specs.Pass.{passed};
-ghost use Rattle.interface.specs.Instant.{poll_instant};
-ghost use Rattle.interface.specs.QuietStep.{AreUnchanged, IsEarly, IsQuiet};
+ghost use Rattle.interface.specs.Instant.{poll_instant, host_instant};
+ghost use Rattle.interface.specs.Reports.{reports_at};
+ghost use Rattle.interface.specs.BlackHoles.{checked_if, paths_checked};
+ghost use Rattle.interface.specs.OwnWork.{HasBegun, OwnWork, TellsIf};
+ghost use Rattle.interface.specs.QuietStep.{AreUnchanged, IsEarlier, IsEarly, IsQuiet};
 ghost use Rattle.interface.specs.SameHost.{IsSameHost};
 ghost use Rattle.interface.specs.Made.{time_until, delay_by};
 ghost use Rattle.interface.specs.State.{state, host, KeepsSettings};
 ghost use Rattle.interface.specs.Egress.{EgressStep, if_changed};
 ghost use Rattle.interface.specs.Ingress.{IngressStep, Takes};
-ghost use Rattle.interface.specs.Polls.{Repeats, Polls, answer_of, single_answer, is_change};
+ghost use Rattle.interface.specs.Polls.{Repeats, Polls, HostPolls, HostSends, answer_of, single_answer, is_change};
 ghost use Rattle.interface.specs.QuietPoll.{HasNoFrame, IsQuietPoll};
 
 use crate::arrival::ingress;
-use crate::due_instant::poll_instant;
+use crate::black_holes::check_paths;
+use crate::due_instant::{earlier, poll_instant};
 use crate::host::Interface;
 use crate::round::either;
 use crate::step::egress;
-use iface_egress::SocketSet;
+use iface_egress::{Slots, SocketSet};
 use iface_ingress::Socket;
 use iface_ingress::socket_laws::due_as_before;
+use iface_reports::Reporter;
 use net_base::{Device, Duration, Instant};
 
 /// What a poll did to the sockets.
@@ -58,17 +65,19 @@ impl Interface {
         budget: u16,
     ) -> PollResult
         requires { IsMoment timestamp }
-        ensures steps { Polls D.moves timestamp budget (state device.old self.old (slots sockets.old)) (is_change result)
+        ensures steps { HostPolls D.moves timestamp budget (state device.old self.old (slots sockets.old)) (is_change result)
             (state device.new self.new (slots sockets.new)) }
+        ensures silent { self.old.reports ≡ None → self.new.reports ≡ None }
         ensures unchanged { result ≡ PollResult.None → AreUnchanged (slots sockets.old) (slots sockets.new) }
         ensures quiet { (asked : InnerValue) → self.old.inner ≡ at_instant self.old.inner.instant asked
-            → IsEarly asked self.old.left (slots sockets.old) timestamp → HasNoFrame D.moves timestamp device.old
+            → IsEarly asked self.old.left (slots sockets.old) timestamp → IsEarlier timestamp (reports_at self.old.reports) → HasNoFrame D.moves timestamp device.old
             → IsQuietPoll D.moves asked timestamp (state device.old self.old (slots sockets.old)) (is_change result)
             (state device.new self.new (slots sockets.new)) }
         ensures settings { HasSettingsOf self.old.inner self.new.inner }
         ensures kind { is_fixed sockets.new ≡ is_fixed sockets.old }
         ensures capabilities { D.described device.new ≡ D.described device.old }
     {
+        self.begin(timestamp, device, &sockets.slots);
         due_as_before();
         if self.poll_all(timestamp, device, sockets, budget) {
             PollResult::SocketStateChanged
@@ -108,13 +117,14 @@ impl Interface {
         sockets: &mut SocketSet<Socket>,
     ) -> PollResult
         requires { IsMoment timestamp }
-        ensures step { EgressStep D.moves timestamp (state device.old self.old (slots sockets.old)) (answer_of result)
+        ensures step { HostSends D.moves timestamp (state device.old self.old (slots sockets.old)) (answer_of result)
             (state device.new self.new (slots sockets.new)) }
         ensures unchanged { result ≡ PollResult.None → AreUnchanged (slots sockets.old) (slots sockets.new) }
-        ensures host { IsSameHost (at_instant timestamp self.old.inner) self.new.inner }
+        ensures host { IsSameHost (paths_checked (at_instant timestamp self.old.inner) (slots sockets.old)) self.new.inner }
         ensures kind { is_fixed sockets.new ≡ is_fixed sockets.old }
         ensures capabilities { D.described device.new ≡ D.described device.old }
     {
+        self.begin(timestamp, device, &sockets.slots);
         if self.send(timestamp, device, sockets) {
             PollResult::SocketStateChanged
         } else {
@@ -134,11 +144,12 @@ impl Interface {
     /// When the interface wants to be polled; nothing has to be done before, unless a frame comes or a socket is called.
     pub fn poll_at(&mut self, timestamp: Instant, sockets: &SocketSet<Socket>) -> Option<Instant>
         requires { IsMoment timestamp }
-        ensures value { result ≡ poll_instant (at_instant timestamp self.old.inner) self.old.left (slots sockets.now) }
+        ensures value { result ≡ host_instant (host_at timestamp self.old) (slots sockets.now) }
         ensures after { self.new ≡ host_at timestamp self.old }
     {
         self.inner.set_now(timestamp);
-        poll_instant(&self.inner, &self.fragmenter, &sockets.slots)
+        let first = poll_instant(&self.inner, &self.fragmenter, &sockets.slots);
+        earlier(reports_at(&self.reporter), first)
     }
 
     /// How long it is until the interface wants to be polled.
@@ -148,7 +159,7 @@ impl Interface {
         sockets: &SocketSet<Socket>,
     ) -> Option<Duration>
         requires { IsMoment timestamp }
-        ensures value { result ≡ delay_by timestamp (poll_instant (at_instant timestamp self.old.inner) self.old.left (slots sockets.now)) }
+        ensures value { result ≡ delay_by timestamp (host_instant (host_at timestamp self.old) (slots sockets.now)) }
         ensures after { self.new ≡ host_at timestamp self.old }
     {
         match self.poll_at(timestamp, sockets) {
@@ -160,6 +171,49 @@ impl Interface {
 
 /// Steps.
 impl Interface {
+    /// What the host does of its own as a call that polls begins.
+    fn begin<D: Device>(&mut self, timestamp: Instant, device: &mut D, slots: &Slots<Socket>)
+        requires { IsMoment timestamp }
+        ensures work { OwnWork D.moves timestamp (state device.old self.old slots.now) (state device.new self.new slots.now) }
+        ensures host { at_instant timestamp self.new.inner ≡ paths_checked (at_instant timestamp self.old.inner) slots.now }
+        ensures silent { self.old.reports ≡ None → self.new.reports ≡ None }
+        ensures quiet { (asked : InnerValue) → self.old.inner ≡ at_instant self.old.inner.instant asked
+            → IsEarly asked self.old.left slots.now timestamp → IsEarlier timestamp (reports_at self.old.reports)
+            → (device.new ≡ device.old) × HasBegun timestamp self.old self.new }
+        ensures settings { HasSettingsOf self.old.inner self.new.inner }
+        ensures capabilities { D.described device.new ≡ D.described device.old }
+    {
+        self.tell_reports(timestamp, device);
+        self.check_paths(timestamp, slots);
+    }
+
+    /// With host requirements, takes in what the timers of connections tell of their paths.
+    fn check_paths(&mut self, timestamp: Instant, slots: &Slots<Socket>)
+        requires { IsMoment timestamp }
+        ensures { self.new ≡ checked_if self.old.inner.host_requirements timestamp self.old slots.now }
+    {
+        if self.inner.host_requirements() {
+            self.inner.set_now(timestamp);
+            check_paths(&mut self.inner, slots);
+        }
+    }
+
+    /// Tells of multicast groups what is due.
+    fn tell_reports<D: Device>(&mut self, timestamp: Instant, device: &mut D)
+        requires { IsMoment timestamp }
+        ensures tells { (slots : List (SocketStorage Socket))
+            → TellsIf D.moves timestamp self.old.reports (state device.old self.old slots) (state device.new self.new slots) }
+        ensures silent { self.old.reports ≡ None → self.new.reports ≡ None }
+        ensures quiet { IsEarlier timestamp (reports_at self.old.reports) → (device.new ≡ device.old) × HasBegun timestamp self.old self.new }
+        ensures settings { HasSettingsOf self.old.inner self.new.inner }
+        ensures capabilities { D.described device.new ≡ D.described device.old }
+    {
+        if let Some(reporter) = &mut self.reporter {
+            self.inner.set_now(timestamp);
+            let _ = reporter.transmit(&self.inner, device);
+        }
+    }
+
     /// A poll. Says whether a socket's state or a queue may have changed.
     fn poll_all<D: Device>(
         &mut self,
@@ -255,6 +309,7 @@ impl Interface {
             &mut self.fragmenter,
             &mut self.assemblers,
             self.timeout,
+            &mut self.reporter,
             device,
             &mut sockets.slots,
         )
@@ -282,6 +337,16 @@ impl Interface {
             device,
             &mut sockets.slots,
         )
+    }
+}
+
+/// When something has to be told of multicast groups next.
+fn reports_at(reporter: &Option<Reporter>) -> Option<Instant>
+    ensures { result ≡ reports_at reporter.now }
+{
+    match reporter {
+        Some(reporter) => reporter.due_at(),
+        None => None,
     }
 }
 

@@ -29,8 +29,10 @@ ghost use Rattle.interface.specs.declared.awaited.Awaited.{Awaited};
 ghost use Rattle.interface.specs.declared.serve.Served.{Served};
 ghost use Rattle.interface.specs.declared.serve.Served.TheVariants as Turn;
 ghost use Rattle.iface_egress.specs.Departing.{HasSettingsOf};
-ghost use Rattle.interface.specs.State.{State};
-ghost use Rattle.interface.specs.Polls.{Polls};
+ghost use Rattle.interface.specs.State.{State, state};
+ghost use Rattle.interface.specs.BlackHoles.{checked};
+ghost use Rattle.interface.specs.OwnWork.{OwnWork};
+ghost use Rattle.interface.specs.Polls.{Polls, HostPolls};
 ghost use Rattle.iface_egress.specs.Determined.{IsDetermined};
 ghost use Rattle.interface.specs.Idents.{TakesIdents};
 ghost use Rattle.interface.specs.Used.{most_parked, sockets_in};
@@ -45,6 +47,21 @@ pub fn polls_keep_settings<D: Device>()
     ensures { (t : ℤ) (budget : ℕ) (s s' : State D) (changed : Bool)
         → Polls D.moves t budget s changed s'
         → HasSettingsOf s.host.inner s'.host.inner }
+{}
+
+/// Law: what a host does of its own before a poll touches no socket and no setting. A host that tells nothing of multicast groups does nothing
+/// without host requirements, and with them takes in what the timers of its connections tell of their paths, and nothing else.
+pub fn own_work_stands_apart<D: Device>()
+    ensures sockets { (t : ℤ) (s s' : State D) → OwnWork D.moves t s s' → s'.slots ≡ s.slots }
+    ensures settings { (t : ℤ) (s s' : State D) → OwnWork D.moves t s s' → HasSettingsOf s.host.inner s'.host.inner }
+    ensures none { (t : ℤ) (s s' : State D) → s.host.reports ≡ None → s.host.inner.host_requirements ≡ false → OwnWork D.moves t s s' → s' ≡ s }
+    ensures paths { (t : ℤ) (s s' : State D) → s.host.reports ≡ None → s.host.inner.host_requirements ≡ true → OwnWork D.moves t s s'
+        → s' ≡ state s.device (checked t s.host s.slots) s.slots }
+    ensures silent { (t : ℤ) (budget : ℕ) (s s' : State D) (changed : Bool)
+        → s.host.reports ≡ None
+        → s.host.inner.host_requirements ≡ false
+        → HostPolls D.moves t budget s changed s'
+        → Polls D.moves t budget s changed s' × (s'.host.reports ≡ None) }
 {}
 
 /// Law: all that a poll asks of its device is a list of looks, leaves to send, and frames that are departures of the host: of these

@@ -1,5 +1,5 @@
 //! The header of a script, and the world that it asks for.
-ghost use Rattle.std.specs.Prelude.{◌≡◌, ◌⊎◌, ◌++◌, ◌∷◌, [], Some, None, pos, IfOk, OnOk, IfErr};
+ghost use Rattle.std.specs.Prelude.{◌≡◌, ◌⊎◌, ◌++◌, ◌∷◌, [], Some, None, false, pos, IfOk, OnOk, IfErr};
 ghost use Rattle.lan.specs.Worlds.Made.{Makes};
 ghost use Rattle.lan.specs.Worlds.Set.{slots};
 ghost use Rattle.lan.specs.declared.at_link.history.answer.Refused.TheVariants.{Memory};
@@ -100,6 +100,8 @@ impl Header {
 
     // A host of this interface and these sockets, at a device that wasn't used.
     fn host(&self, alloc: Global, interface: Interface, sockets: SocketSet<Socket>) -> Host
+        requires silent { interface.reports ≡ None }
+        requires alone { interface.inner.host_requirements ≡ false }
         ensures { result ≡ record { host = interface; slots = slots sockets; link = unused_end (device_of self.now.medium self.now.mtu) } }
     {
         Host {

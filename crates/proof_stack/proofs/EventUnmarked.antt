@@ -313,7 +313,7 @@ module _ {D : Type 0} (moves : D → Move → D → Type 0) (t : ℤ) where
   takes : (s s' : State D) (answer : Option Bool) → AreUnmarked s.slots → Takes moves s answer s' → AreUnmarked s'.slots
   takes s s' None all is = subst (λ (x : State D). AreUnmarked x.slots) (sym is.1) all
   takes s s' (Some false) all is = subst (λ (x : State D). AreUnmarked x.slots) (sym is.3) all
-  takes s s' (Some true) all (frame, mid, took, reads, (content, read, receives)) =
+  takes s s' (Some true) all (frame, mid, took, reads, (content, read, receives, hears)) =
       subst AreUnmarked (sym receives.2) (brings s.host.inner s.slots _ receives.0 receives.1.1 all)
 
   kept : IsKept moves t Waitless

@@ -262,12 +262,12 @@ module _ (i0 : InnerValue) (t : ℤ) (waits sent : List (List ℕ)) (pair : Four
   narrowed F F' i i' back ps good = at_so (Good pair (Knows F i)) (Good pair (Knows F' i')) (narrower pair (Knows F i) (Knows F' i') back) ps n good
 
   read : (s s' : State PortValue) → RunsAt t s.host.inner → Stays s → (took : Takes PortMove s (Some true) s') → Stays s'
-  read s s' runs q (frame, mid, took, is_read, (content, is, receives)) =
+  read s s' runs q (frame, mid, took, is_read, (content, is, receives, hears)) =
       let a = receives.0 in
       let same = receives_same PortMove content (at_device s mid) s' receives in
       let with_it : Frames = and_taken q.frames frame in
       let out : Sent T with_it s'.device =
-      reads PortMove (Sent T with_it) (on with_it) s s' (frame, mid, took, is_read, (content, is, receives))
+      reads PortMove (Sent T with_it) (on with_it) s s' (frame, mid, took, is_read, (content, is, receives, hears))
       (none with_it mid ((taking_ports waits sent).takes s.device mid s.host.inner.instant frame q.frames took q.taken)) in
       let F : Frames = and_gone with_it out.more in
       let brings_it = receives.1.1 in

@@ -60,3 +60,4 @@ pub mod EventNow
 pub mod MovedOn
 pub mod AtEdges
 mod Duplicates
+pub mod RequestsCounted

@@ -8,6 +8,7 @@ use Rattle.app_tun_services.specs.Backlogs.{HostState}
 use Rattle.app_tun_services.specs.Turns.{TakesTurn, with_packet, budget}
 use Rattle.app_tun_services.specs.Link.Drain.{DrainValue, DrainMove, brought, received, unless_empty, one_more}
 use Rattle.proof_stack.specs.PeerHost.ReceivedPackets.{WasBrought}
+use Rattle.interface.proofs.Worked.{worked_keeps}
 use Rattle.proof_stack.proofs.Peers.Devices.{reached_keeps, polled_keeps}
 
 -- what waits at the device is this packet
@@ -47,11 +48,18 @@ frame_is packet instant from ip payload waits b =
 
 module _ (old new : HostState) (instant : ℤ) (packet : List ℕ) (next : Option ℤ) (turn : TakesTurn old instant packet next new) (ip : IpRepr)
     (payload : List ℕ) where
-  pub frame_in : (b : WasBrought DrainMove instant (with_packet old.net packet) ip payload) → b.frame ≡ packet
-  frame_in b = frame_is packet instant (with_packet old.net packet) ip payload (brought_is packet old.net.device) b
+  -- where the first poll begins, and the second
+  waits_begun : IsOf packet turn.begun.device
+  waits_begun =
+      worked_keeps DrainMove (IsOf packet) (moves_keep packet) instant (with_packet old.net packet) turn.begun turn.works (brought_is packet old.net.device)
 
-  pub frame_out : (b : WasBrought DrainMove instant (state turn.come.device turn.come.host turn.done.sockets) ip payload) → b.frame ≡ packet
-  frame_out b =
-      frame_is packet instant (state turn.come.device turn.come.host turn.done.sockets) ip payload
-      (polled_keeps DrainMove (IsOf packet) (moves_keep packet) instant budget (with_packet old.net packet) turn.come turn.changed
-      (brought_is packet old.net.device) turn.takes) b
+  waits_again : IsOf packet turn.begun_again.device
+  waits_again =
+      worked_keeps DrainMove (IsOf packet) (moves_keep packet) instant (state turn.come.device turn.come.host turn.done.sockets) turn.begun_again turn.works_again
+      (polled_keeps DrainMove (IsOf packet) (moves_keep packet) instant budget turn.begun turn.come turn.changed waits_begun turn.takes)
+
+  pub frame_in : (b : WasBrought DrainMove instant turn.begun ip payload) → b.frame ≡ packet
+  frame_in b = frame_is packet instant turn.begun ip payload waits_begun b
+
+  pub frame_out : (b : WasBrought DrainMove instant turn.begun_again ip payload) → b.frame ≡ packet
+  frame_out b = frame_is packet instant turn.begun_again ip payload waits_again b

@@ -5,12 +5,11 @@ ghost use Rattle.net_base.specs.Time.{IsMoment};
 ghost use Rattle.iface_tables.specs.Inner.{at_instant};
 ghost use Rattle.iface_egress.specs.Departing.{HasSettingsOf};
 ghost use Rattle.iface_egress.specs.Set.{slots, is_fixed};
-ghost use Rattle.interface.specs.Egress.{EgressStep};
 ghost use Rattle.interface.specs.Host.{host_at, maintained};
 ghost use Rattle.interface.specs.Ingress.{IngressStep};
-ghost use Rattle.interface.specs.Instant.{poll_instant};
+ghost use Rattle.interface.specs.Instant.{host_instant};
 ghost use Rattle.interface.specs.Made.{delay_by};
-ghost use Rattle.interface.specs.Polls.{answer_of, single_answer};
+ghost use Rattle.interface.specs.Polls.{HostSends, answer_of, single_answer};
 ghost use Rattle.interface.specs.QuietStep.{AreUnchanged};
 ghost use Rattle.interface.specs.SameHost.{IsSameHost};
 ghost use Rattle.interface.specs.State.{state};
@@ -38,7 +37,7 @@ pub fn take_one<D: Device>(
     interface.poll_ingress_single(timestamp, device, sockets)
 }
 
-/// At most one fragment goes, and then at most one packet of each socket.
+/// The host does what it does of its own; then at most one fragment goes, and then at most one packet of each socket.
 pub fn send_once<D: Device>(
     interface: &mut Interface,
     timestamp: Instant,
@@ -46,7 +45,7 @@ pub fn send_once<D: Device>(
     sockets: &mut SocketSet<Socket>,
 ) -> PollResult
     requires { IsMoment timestamp }
-    ensures step { EgressStep D.moves timestamp (state device.old interface.old (slots sockets.old)) (answer_of result)
+    ensures step { HostSends D.moves timestamp (state device.old interface.old (slots sockets.old)) (answer_of result)
         (state device.new interface.new (slots sockets.new)) }
     ensures unchanged { result ≡ PollResult.None → AreUnchanged (slots sockets.old) (slots sockets.new) }
     ensures host { IsSameHost (at_instant timestamp interface.old.inner) interface.new.inner }
@@ -71,7 +70,7 @@ pub fn time_to_poll(
     sockets: &SocketSet<Socket>,
 ) -> Option<Duration>
     requires { IsMoment timestamp }
-    ensures value { result ≡ delay_by timestamp (poll_instant (at_instant timestamp interface.old.inner) interface.old.left (slots sockets.now)) }
+    ensures value { result ≡ delay_by timestamp (host_instant (host_at timestamp interface.old) (slots sockets.now)) }
     ensures after { interface.new ≡ host_at timestamp interface.old }
 {
     interface.poll_delay(timestamp, sockets)

@@ -1,5 +1,5 @@
 //! What `==` says of a poll's answers, and how an interface begins.
-ghost use Rattle.std.specs.Prelude.{◌≡◌, ◌↔◌, ◌<◌, if◌then◌else◌, IsTrue, pos, [], None, false, true, length, max, IsErr, IfOk};
+ghost use Rattle.std.specs.Prelude.{◌≡◌, ◌↔◌, ◌<◌, if◌then◌else◌, IsTrue, pos, [], None, false, true, length, max, is_some, IsErr, IfOk};
 ghost use Rattle.net_base.specs.Capabilities.{ip_mtu};
 ghost use Rattle.ip_wire.specs.HardwareAddress.{HardwareAddress};
 ghost use Rattle.iface_tables.specs.Settings.{default_config, network_config};
@@ -28,7 +28,7 @@ pub fn host_numbers()
 
 /// An interface that begins has no addresses, no routes, no neighbours and no silence, and room for as many routes and neighbours as its
 /// configuration says, for one neighbour at least; two datagrams can come in fragments, or as many as on a network of many, each of
-/// which is waited for a minute. There is none at a device whose longest IP packet is below 576 or above 65,535 bytes.
+/// which is waited for a minute. No group is joined, and they are told of as it says. There is none at a device whose longest IP packet is below 576 or above 65,535 bytes.
 pub fn begins<D: Device>(
     alloc: Global,
     config: &Config,
@@ -51,6 +51,8 @@ pub fn begins<D: Device>(
     ensures left { IfOk result (λ h. h.left ≡ None) }
     ensures assemblers { IfOk result (λ h. length h.assemblers ≡ assembler_count config.now) }
     ensures timeout { IfOk result (λ h. h.timeout ≡ 60000000) }
+    ensures groups { IfOk result (λ h. h.inner.groups ≡ record { entries = []; most = config.now.max_group_count }) }
+    ensures reports { IfOk result (λ h. is_some h.reports ≡ config.now.multicast_reports) }
     ensures short { ip_mtu (D.described device.now) < 576 → IsErr result }
     ensures long { 65535 < ip_mtu (D.described device.now) → IsErr result }
 {

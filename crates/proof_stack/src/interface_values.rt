@@ -45,10 +45,20 @@ pub fn interface_texts()
     ensures assemblers { (e : AssemblerFullError) → ⟦<AssemblerFullError as Display>⟧.output e ≡ Some (codes "AssemblerFullError") }
 {}
 
-/// The configuration with this hardware address, random words of the seed 0, tables of four neighbours and four routes, and smoltcp's ways.
+/// The configuration with this hardware address, random words of the seed 0, tables of four neighbours and four routes, smoltcp's ways, eight
+/// groups at most, and no reports of them.
 pub fn configured(hardware_addr: HardwareAddress) -> Config
     ensures { result ≡
-        record { random_seed = 0; hardware_addr = hardware_addr; isn_key = None; neighbor_cache_count = 4; max_route_count = 4; host_requirements = false } }
+        record {
+          random_seed = 0;
+          hardware_addr = hardware_addr;
+          isn_key = None;
+          neighbor_cache_count = 4;
+          max_route_count = 4;
+          host_requirements = false;
+          multicast_reports = false;
+          max_group_count = 8;
+        } }
 {
     Config::new(hardware_addr)
 }

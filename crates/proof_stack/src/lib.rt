@@ -33,6 +33,7 @@ pub mod peer_host;
 pub mod peer_turns;
 pub mod progress;
 pub mod refusals;
+pub mod requests;
 pub mod script_end;
 pub mod script_equal;
 pub mod told_errors;

@@ -11,6 +11,7 @@ ghost use Rattle.std.specs.Prelude.{◌≡◌, ℕ, ℤ, Bool, List};
 ghost use Rattle.net_base.specs.Time.{IsMoment};
 ghost use Rattle.tcp_block.specs.Value.{TcpValue};
 ghost use Rattle.socket_datagram.specs.Udp.{UdpValue};
+ghost use Rattle.interface.specs.OwnWork.{OwnWork};
 ghost use Rattle.interface.specs.Polls.{Polls, is_change};
 ghost use Rattle.interface.specs.State.{State, state};
 ghost use Rattle.iface_egress.specs.Set.{slots};
@@ -34,12 +35,13 @@ pub fn polls_proceed<D: Device>()
         → IsUdpAt s.slots i v → Polls D.moves t budget s changed s' → DatagramsProceed D.moves t s i v s' }
 {}
 
-/// Law: wherever a poll has come, and where it ends, nothing but moves of its device led the device there. So what each move keeps of a
-/// device holds all through a poll.
+/// Law: wherever a poll has come, and where it ends, nothing but moves of its device led the device there; and so what the host does of its own
+/// before it, which touches no socket. So what each move keeps of a device holds all through a poll.
 pub fn devices_only_move<D: Device>()
     ensures on_the_way { (t : ℤ) (s s' : State D) → Reaches D.moves t s s' → MovedTo D.moves s.device s'.device }
     ensures at_the_end { (t : ℤ) (budget : ℕ) (s s' : State D) (changed : Bool)
         → Polls D.moves t budget s changed s' → MovedTo D.moves s.device s'.device }
+    ensures before_it { (t : ℤ) (s s' : State D) → OwnWork D.moves t s s' → (s'.slots ≡ s.slots) × MovedTo D.moves s.device s'.device }
 {}
 
 /// Law: after every run of a host, with its polls, the calls of one of its TCP sockets, and whatever else happens at it: what that socket saw
@@ -58,7 +60,7 @@ pub fn hosts_are_safe_where_it_counts<D: Device>()
         → ActsAll D.moves i acts s s' → IsTcpAt s.slots i v → IsSafeWhereTaken D.moves i acts s v s' }
 {}
 
-/// Polls an interface, which leads each socket on so.
+/// Polls an interface, which leads each socket on so, from where the host has done what it does of its own.
 pub fn poll<D: Device>(
     interface: &mut Interface,
     timestamp: Instant,
@@ -67,14 +69,13 @@ pub fn poll<D: Device>(
     budget: u16,
 ) -> PollResult
     requires { IsMoment timestamp }
-    ensures steps { Polls D.moves timestamp budget (state device.old interface.old (slots sockets.old)) (is_change result)
-        (state device.new interface.new (slots sockets.new)) }
-    ensures streams { (i : ℕ) (v : TcpValue) → IsTcpAt (slots sockets.old) i v
-        → StreamProceeds D.moves timestamp (state device.old interface.old (slots sockets.old)) i v
-        (state device.new interface.new (slots sockets.new)) }
-    ensures datagrams { (i : ℕ) (v : UdpValue) → IsUdpAt (slots sockets.old) i v
-        → DatagramsProceed D.moves timestamp (state device.old interface.old (slots sockets.old)) i v
-        (state device.new interface.new (slots sockets.new)) }
+    ensures { (begun : State D) × OwnWork D.moves timestamp (state device.old interface.old (slots sockets.old)) begun
+        × (begun.slots ≡ slots sockets.old)
+        × Polls D.moves timestamp budget begun (is_change result) (state device.new interface.new (slots sockets.new))
+        × ((i : ℕ) (v : TcpValue) → IsTcpAt (slots sockets.old) i v
+        → StreamProceeds D.moves timestamp begun i v (state device.new interface.new (slots sockets.new)))
+        × ((i : ℕ) (v : UdpValue) → IsUdpAt (slots sockets.old) i v
+        → DatagramsProceed D.moves timestamp begun i v (state device.new interface.new (slots sockets.new))) }
 {
     interface.poll(timestamp, device, sockets, budget)
 }

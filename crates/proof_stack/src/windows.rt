@@ -2,7 +2,7 @@
 ghost use Rattle.std.specs.Prelude.{◌≡◌, ◌≤◌, ◌*◌, ◌+◌, ℕ, pos, min, true, false, Some, None};
 ghost use Rattle.tcp_state.specs.Cubic.{CubicValue};
 ghost use Rattle.tcp_state.specs.Reno.{RenoValue, acknowledged, avoidance, hundred_segments, inflated, initial, lost, most, timed_out};
-ghost use crate::specs::Duplicates.{inflated_by};
+ghost use Rattle.proof_stack.specs.Duplicates.{inflated_by};
 
 /// Law: each further duplicate acknowledgement in fast recovery widens the window by a segment (RFC 5681, 3.2, step 4), up to the largest
 /// window, and leaves the threshold.

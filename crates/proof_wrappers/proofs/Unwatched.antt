@@ -4,9 +4,9 @@ use Rattle.net_base.specs.Device.{Move}
 use Rattle.base_wrappers.specs.Trace.{Traces}
 use Rattle.base_wrappers.specs.TracerValue.{TracerValue}
 use Rattle.base_wrappers.specs.declared.writer.Direction.{Direction}
-use Rattle.interface.specs.Polls.{Polls}
+use Rattle.interface.specs.Polls.{Polls, HostPolls}
 use Rattle.interface.specs.State.{State}
-use Rattle.interface.proofs.Mapping.{IsMapped, polls_there}
+use Rattle.interface.proofs.Mapping.{IsMapped, host_polls_there, polls_there}
 use Rattle.proof_wrappers.specs.Unwatched.{unwatched}
 
 module _ {D S W : Type 0} (moves : D → Move → D → Type 0) (taken : S → List ℕ) (takes : W → Direction → Bool)
@@ -18,4 +18,10 @@ module _ {D S W : Type 0} (moves : D → Move → D → Type 0) (taken : S → L
       → Polls (Traces moves taken takes writes) t budget s changed s' → Polls moves t budget (unwatched s) changed (unwatched s')
   polls_within t budget s s' changed polls =
       polls_there (λ (v : TracerValue D S W). v.inner) (Traces moves taken takes writes) moves (λ v. Unit {0}) (λ v. Unit {0}) mapped t budget s s' changed
+      polls tt tt
+
+  pub host_polls_within : (t : ℤ) (budget : ℕ) (s s' : State (TracerValue D S W)) (changed : Bool)
+      → HostPolls (Traces moves taken takes writes) t budget s changed s' → HostPolls moves t budget (unwatched s) changed (unwatched s')
+  host_polls_within t budget s s' changed polls =
+      host_polls_there (λ (v : TracerValue D S W). v.inner) (Traces moves taken takes writes) moves (λ v. Unit {0}) (λ v. Unit {0}) mapped t budget s s' changed
       polls tt tt

@@ -4,4 +4,6 @@
 #[cfg(test)]
 mod queries;
 #[cfg(test)]
+mod reports;
+#[cfg(test)]
 mod routers;

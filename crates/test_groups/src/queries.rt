@@ -12,7 +12,7 @@ use wire_igmp::{IgmpPacket, IgmpRepr};
 use wire_mld::{MldPacket, MldRepr};
 
 /// What it is, the packet, and whether a member of 239.1.2.3 at 192.168.1.2 answers.
-const IGMP: [(&str, &str, bool); 21] = [
+pub(crate) const IGMP: [(&str, &str, bool); 21] = [
     (
         "general, as it should be",
         "46c00020000040000102426dc0a80101e000000194040000110aeef500000000",
@@ -122,7 +122,7 @@ const IGMP: [(&str, &str, bool); 21] = [
 ];
 
 /// What it is, the packet, and whether a listener of ff15::1:2:3 at fe80::ff:fe00:12 answers.
-const MLD: [(&str, &str, bool); 19] = [
+pub(crate) const MLD: [(&str, &str, bool); 19] = [
     (
         "general, as it should be",
         "6000000000200001fe800000000000000000000000000001ff0200000000000000000000000000013a0005020000010082007c3f03e8000000000000000000000000000000000000",

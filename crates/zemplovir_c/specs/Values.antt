@@ -175,6 +175,7 @@ settings_by (Ok hardware) s = Ok (record {
   isn_key = key_in s;
   frames = s.frames;
   host_requirements = s.without_host_requirements == 0;
+  multicast_reports = s.without_multicast_reports == 0;
 })
 
 abbrev pub settings_in : Settings → Result Host.Settings Code

@@ -59,6 +59,7 @@ fn settings_in(settings: &Settings) -> Result<c_calls::Settings, Code>
             isn_key: key_in(settings),
             frames: settings.frames,
             host_requirements: settings.without_host_requirements == 0,
+            multicast_reports: settings.without_multicast_reports == 0,
         }),
         Err(code) => Err(code),
     }

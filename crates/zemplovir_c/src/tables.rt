@@ -5,8 +5,8 @@ ghost use Rattle.ip_wire.specs.IpCidr.{IpCidr as Cidr};
 ghost use Rattle.std.specs.Prelude.{Result, Ok};
 ghost use Rattle.c_calls.specs.declared.code.Code.{Code as Refusal};
 ghost use Rattle.c_calls.specs.Tables.{is_done, own_with, own_without, routes_with, routes_without, with_own, with_table, route_to, hardware_answer, group_answer};
-ghost use Rattle.c_calls.specs.Tables.{UpdatesHardware, SetsSlots, hardware_refusal, join_refusal, leave_refusal, with_any_ip, with_group, with_hardware, with_inner};
-ghost use Rattle.c_calls.specs.Tables.{with_timeout, without_group};
+ghost use Rattle.c_calls.specs.Tables.{UpdatesHardware, SetsSlots, hardware_refusal, host_join_refusal, leave_refusal, with_any_ip, with_hardware, with_inner, with_joined, with_left};
+ghost use Rattle.c_calls.specs.Tables.{with_timeout};
 ghost use Rattle.zemplovir_c.specs.Answers.{all_done, answer_by, after_by, checked_answer, checked, Acts, Gives};
 ghost use Rattle.zemplovir_c.specs.Hosts.{IsCidrBy};
 ghost use Rattle.zemplovir_c.specs.Values.{required_in, is_on};
@@ -120,14 +120,14 @@ pub extern "C" fn zv_route_remove(
     done(answer)
 }
 
-/// Listens to this multicast group from now on.
+/// Listens to this multicast group from now on, and tells of it.
 #[unsafe(no_mangle)]
 pub extern "C" fn zv_group_join(alloc: Global, handle: &mut Handle, group: &Address) -> u32
     ensures answer { result ≡
-        checked_answer (required_in group.now) (λ to. answer_by handle.old.inside (λ host. group_answer (join_refusal host.host.inner.groups to))) }
+        checked_answer (required_in group.now) (λ to. answer_by handle.old.inside (λ host. group_answer (host_join_refusal host.host to))) }
     ensures after { handle.new.inside ≡
         checked (required_in group.now)
-        (λ to. after_by handle.old.inside (λ host. record host { host = with_inner host.host (with_group host.host.inner to) }))
+        (λ to. after_by handle.old.inside (λ host. record host { host = with_joined host.host to }))
         handle.old.inside }
 {
     let group = match required(group) {
@@ -142,14 +142,14 @@ pub extern "C" fn zv_group_join(alloc: Global, handle: &mut Handle, group: &Addr
     done(answer)
 }
 
-/// Listens to this multicast group no longer.
+/// Listens to this multicast group no longer, and tells of that.
 #[unsafe(no_mangle)]
 pub extern "C" fn zv_group_leave(alloc: Global, handle: &mut Handle, group: &Address) -> u32
     ensures answer { result ≡
         checked_answer (required_in group.now) (λ to. answer_by handle.old.inside (λ host. group_answer (leave_refusal to))) }
     ensures after { handle.new.inside ≡
         checked (required_in group.now)
-        (λ to. after_by handle.old.inside (λ host. record host { host = with_inner host.host (without_group host.host.inner to) }))
+        (λ to. after_by handle.old.inside (λ host. record host { host = with_left host.host to }))
         handle.old.inside }
 {
     let group = match required(group) {

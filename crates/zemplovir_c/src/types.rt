@@ -47,6 +47,8 @@ pub struct Settings {
     pub isn_key: [u8; 16],
     /// 0 for a host that does what RFC 1122 and the standards after it ask on a network of many.
     pub without_host_requirements: u8,
+    /// 0 for a host that tells routers and switches which multicast groups it listens to.
+    pub without_multicast_reports: u8,
 }
 
 /// What a host has counted.

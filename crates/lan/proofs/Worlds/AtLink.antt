@@ -29,6 +29,7 @@ pub mod Ready
 pub mod Growing
 pub mod Counting
 pub mod Setting
+pub mod Silent
 pub mod Called
 pub mod Refusing
 pub mod Linked

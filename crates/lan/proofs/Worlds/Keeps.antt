@@ -311,6 +311,8 @@ pub is_link : (q : Party) (others base : List Outgoing) (first : ℕ) (before : 
 is_link q others base first before start next other = record {
   more = more_linked q others base first before;
   grown = λ n. grown q others base first before n;
+  hears = λ n s p reports l.
+      record { out = l.out; more = l.more; sender = l.sender; receiver = l.receiver; count = l.count; tied = l.tied };
   maintenance = λ n. maintenance q others base first before n;
   looks = λ n. looks q others base first before n;
   skips = λ n s p frame d move unread l. skips q others base first before n s p frame d move l;

@@ -7,7 +7,8 @@ use sim_link::Port;
 use sockets::Socket;
 use std::marker::Model;
 
-/// A host at the link: its interface, its sockets, and the port through which its frames come and go.
+/// A host at the link: its interface, its sockets, and the port through which its frames come and go. Its interface has no host requirements, and
+/// tells nothing of multicast groups.
 #[derive(Drop)]
 pub struct Host {
     pub interface: Interface,
@@ -16,12 +17,15 @@ pub struct Host {
 }
 
 impl Model for Host {
+    ghost use Rattle.std.specs.Prelude.{◌≡◌, None, false};
     ghost use Rattle.interface.specs.Set.{slots};
     ghost use Rattle.lan.specs.Worlds.AtLink.Node.{NodeValue};
 
     ghost Value = { NodeValue };
 
     ghost view = { λ h. record { host = h.interface; slots = slots h.sockets; link = h.port.link } };
+
+    ghost invariant = { λ h. (h.interface.reports ≡ None) × (h.interface.inner.host_requirements ≡ false) };
 }
 
 impl Host {

@@ -1,5 +1,5 @@
 //! A poll of a host, for which room is made first.
-ghost use Rattle.std.specs.Prelude.{◌≡◌, false, ◌+◌, ◌*◌, ◌≤◌, IfOk, IfSome, OnErr, length};
+ghost use Rattle.std.specs.Prelude.{◌≡◌, false, None, ◌+◌, ◌*◌, ◌≤◌, IfOk, IfSome, OnErr, length};
 ghost use Rattle.net_base.specs.Time.{IsMoment};
 ghost use Rattle.interface.specs.Departing.{link_room};
 ghost use Rattle.interface.specs.Set.{slots};
@@ -46,11 +46,15 @@ fn poll_ready(
     budget: u16,
 ) -> bool
     requires instant { IsMoment instant }
+    requires silent { interface.old.reports ≡ None }
+    requires alone { interface.old.inner.host_requirements ≡ false }
     requires count { budget * (length (slots sockets.old) + 2) ≤ port.old.ready }
     requires size { link_room interface.old.inner.hardware + interface.old.inner.mtu ≤ port.old.size }
     requires least { 576 ≤ interface.old.inner.mtu }
     ensures polls { Polls PortMove instant budget (state port.old interface.old (slots sockets.old)) result
         (state port.new interface.new (slots sockets.new)) }
+    ensures silent { interface.new.reports ≡ None }
+    ensures alone { interface.new.inner.host_requirements ≡ false }
     ensures none_denied { interface.old.inner.host_requirements ≡ false → port.new.link.refusals ≡ port.old.link.refusals }
 {
     match interface.poll(instant, port, sockets, budget) {

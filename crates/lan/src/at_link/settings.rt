@@ -1,5 +1,5 @@
 //! The settings of a host, the room of its device, and when it wants to be polled.
-ghost use Rattle.std.specs.Prelude.{◌≡◌, if◌then◌else◌};
+ghost use Rattle.std.specs.Prelude.{◌≡◌, if◌then◌else◌, None};
 ghost use Rattle.net_base.specs.Time.{IsMoment};
 ghost use Rattle.ip_wire.specs.IpAddress.TheVariants as address;
 ghost use Rattle.lan.specs.Worlds.AtLink.Kinds as sets;
@@ -29,7 +29,9 @@ pub fn set_hardware_addr(interface: &mut Interface, address: EthernetAddress) ->
 }
 
 /// Sets the own addresses, in place of those that the host had.
+#[tactic(auto, using(crate::proofs::Worlds::AtLink::Silent::own_silently))]
 pub fn set_addrs(interface: &mut Interface, blocks: &ArrayVec<IpCidr, 4>) -> Brief
+    requires { interface.old.reports ≡ None }
     ensures answer { brief result ≡ setting_answer interface.old (sets.Addrs blocks.now.items) }
     ensures after { SetsTo interface.old (sets.Addrs blocks.now.items) interface.new }
 {

@@ -3,6 +3,8 @@ use Rattle.std.proofs.Common.{ℕ, zero, suc, ℤ, Bool, inl, inr, List, [], ◌
 use Rattle.net_base.specs.Device.{Move}
 use Rattle.interface.proofs.Keep.{polls_keep}
 use Rattle.interface.proofs.Kept.{IsKept}
+use Rattle.interface.proofs.Worked.{worked_keeps}
+use Rattle.interface.specs.OwnWork.{OwnWork}
 use Rattle.interface.specs.Polls.{Polls}
 use Rattle.interface.specs.State.{State}
 use Rattle.lan.proofs.Worlds.Moves.Devices.{fragment_leaves, parked, slot_turns, same, takes}
@@ -69,3 +71,7 @@ module _ {D : Type 0} (moves : D → Move → D → Type 0) where
   pub polled_by_moves : (t : ℤ) (budget : ℕ) (s s' : State D) (changed : Bool) → Polls moves t budget s changed s' → MovedTo moves s.device s'.device
   polled_by_moves t budget s s' changed polls =
       polled_keeps moves (λ (d : D). MovedTo moves s.device d) (moved_on s.device) t budget s s' changed (not_moved s.device) polls
+
+  pub worked_by_moves : (t : ℤ) (s s' : State D) → OwnWork moves t s s' → MovedTo moves s.device s'.device
+  worked_by_moves t s s' work =
+      worked_keeps moves (λ (d : D). MovedTo moves s.device d) (moved_on s.device) t s s' work (not_moved s.device)

@@ -72,7 +72,7 @@ module _ (w : UdpValue) where
     takes_one : (s s' : State E) (answer : Option Bool) → Takes moves s answer s' → HoldsAt Was s.slots m → HoldsAt IsThen s'.slots m
     takes_one s s' None is was = stays s s' (ap (λ (x : State E). x.slots) is.1) was
     takes_one s s' (Some false) is was = stays s s' (ap (λ (x : State E). x.slots) is.3) was
-    takes_one s s' (Some true) (frame, mid, taken, read, (content, is, receives)) was =
+    takes_one s s' (Some true) (frame, mid, taken, read, (content, is, receives, hears)) was =
         subst (λ (slots : Slots). HoldsAt IsThen slots m) (sym receives.2)
         (brings_holds Came ⊥ Was IsThen arrivals m s.host.inner s.slots _ receives.0 (λ ip payload packet ours. tt) receives.1.1 was)
 

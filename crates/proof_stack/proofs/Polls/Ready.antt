@@ -99,7 +99,7 @@ module _ (most : ℕ) where
     took f before s s' (Some false) only is has =
         at_so ⊥ (IsRoomy (suc (suc (length before)))) (IsRoomy (suc (length before))) (fewer (suc (length before))) s'.slots m
         (subst (λ (x : State E). HoldsAt (IsRoomy (suc (suc (length before)))) x.slots m) (sym is.3) has.room)
-    took f before s s' (Some true) only (frame, mid, taken, read, (content, is, receives)) has =
+    took f before s s' (Some true) only (frame, mid, taken, read, (content, is, receives, hears)) has =
         let short : length frame ≤ most = subst (λ (g : List ℕ). length g ≤ most) (sym (only frame mid taken)) has.frames.0 in
         subst (λ (slots : Slots). RoomyIn before slots) (sym receives.2)
         (brings_holds Came ⊥ (IsRoomy (suc (suc (length before)))) (IsRoomy (suc (length before))) (arrivals (suc (length before))) m s.host.inner s.slots _

@@ -80,6 +80,7 @@ step_in = (
       refl,
       refl,
     ),
+    refl,
   ),
 )
 

@@ -89,6 +89,7 @@ answers = (
       (true, (refl, refl), refl, refl),
       refl,
     ),
+    refl,
   ),
 )
 
@@ -120,6 +121,7 @@ hears = (
       refl,
       refl,
     ),
+    refl,
   ),
 )
 
@@ -209,6 +211,7 @@ reads = (
       refl,
       refl,
     ),
+    refl,
   ),
 )
 

@@ -84,6 +84,7 @@ step_in = (
       refl,
       refl,
     ),
+    refl,
   ),
 )
 

@@ -197,6 +197,7 @@ step_in = (
       refl,
       refl,
     ),
+    refl,
   ),
 )
 

@@ -87,6 +87,7 @@ step_in = (
       inr (Outcome.Gone, (((refl, refl), refl), refl), last_formed, refl),
       refl,
     ),
+    refl,
   ),
 )
 

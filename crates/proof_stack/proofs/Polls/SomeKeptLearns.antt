@@ -83,6 +83,7 @@ step_in = (
       refl,
       refl,
     ),
+    refl,
   ),
 )
 

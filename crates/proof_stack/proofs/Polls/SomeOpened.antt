@@ -82,6 +82,7 @@ step_in = (
       refl,
       refl,
     ),
+    refl,
   ),
 )
 

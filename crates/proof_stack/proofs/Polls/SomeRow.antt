@@ -245,6 +245,7 @@ first_read = (
       refl,
       refl,
     ),
+    refl,
   ),
 )
 
@@ -272,6 +273,7 @@ next_read = (
       refl,
       refl,
     ),
+    refl,
   ),
 )
 

@@ -200,6 +200,7 @@ step_in = (
       refl,
       refl,
     ),
+    refl,
   ),
 )
 

@@ -54,7 +54,11 @@ fn interface(alloc: Global, n: u8, port: &Port, medium: Medium) -> Option<Interf
 /// Host n over this device, without sockets.
 fn host(alloc: Global, n: u8, described: DeviceCapabilities) -> Option<Host> {
     let port = Port::new(alloc, described);
-    interface(alloc, n, &port, described.medium).map(|interface| Host {
+    let interface = interface(alloc, n, &port, described.medium)?;
+    if interface.multicast_reports() || interface.host_requirements() {
+        return None;
+    }
+    Some(Host {
         interface,
         sockets: SocketSet::new(ManagedSlice::Owned(Vec::new(alloc))),
         port,
@@ -76,19 +80,6 @@ fn spoil(alloc: Global, a: &mut Host, wrong: &str) -> bool {
         "any IP" => {
             a.interface.set_any_ip(true);
             true
-        }
-        "host requirements" => {
-            let config = Config {
-                host_requirements: true,
-                ..config(1, Medium::Ip)
-            };
-            match Interface::new(alloc, &config, &a.port, Instant::ZERO) {
-                Ok(interface) => {
-                    a.interface = interface;
-                    true
-                }
-                Err(_) => false,
-            }
         }
         _ => true,
     }
@@ -135,7 +126,6 @@ static HOSTS: [(&str, Option<WorldError>); 8] = [
     ("its MTU", Some(WorldError::Mtu)),
     ("any IP", Some(WorldError::NotFresh)),
     ("a frame waits", Some(WorldError::NotFresh)),
-    ("host requirements", Some(WorldError::NotFresh)),
 ];
 
 #[test]

@@ -6,7 +6,7 @@ use Rattle.interface.specs.Set.{slots}
 use Rattle.interface.specs.State.{state}
 use Rattle.app_tun_services.specs.Link.Drain.{DrainMove}
 use Rattle.proof_wrappers.specs.Unwatched.{unwatched}
-use Rattle.proof_wrappers.proofs.Unwatched.{polls_within}
+use Rattle.proof_wrappers.proofs.Unwatched.{host_polls_within}
 use Rattle.app_tun.proofs.taps.poll_through.Goals as goal
 
 pub returns : goal.returns
@@ -14,5 +14,5 @@ returns c =
     let s = state c.args.tap.now c.args.interface.now (slots c.args.sockets.now) in
     let s' = state c.poll.new.device c.poll.new.self (slots c.poll.new.sockets) in
     let changed = is_change c.poll.result in
-    polls_within DrainMove _ captures IsRecord c.args.now c.args.budget (unwatched s) (unwatched s') changed
-    (polls_within (Traces DrainMove _ captures IsRecord) _ Lines.ghosts.takes Lines.ghosts.writes c.args.now c.args.budget s s' changed c.poll.ensures.steps)
+    host_polls_within DrainMove _ captures IsRecord c.args.now c.args.budget (unwatched s) (unwatched s') changed
+    (host_polls_within (Traces DrainMove _ captures IsRecord) _ Lines.ghosts.takes Lines.ghosts.writes c.args.now c.args.budget s s' changed c.poll.ensures.steps)

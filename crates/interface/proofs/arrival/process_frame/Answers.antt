@@ -13,7 +13,7 @@ pub returns-then-process_frame_fast-clause-reads : goal.returns-then-process_fra
 returns-then-process_frame_fast-clause-reads g c =
     let a = arrived c.process_frame_fast.new.inner c.process_frame_fast.new.slots (reply_of c.process_frame_fast.new.reply) in
     let came = c.if-process_frame_fast.ensures.taken refl c.args.timeout c.args.assemblers.now in
-    (came.0, came.1, (a, came.2, refl, c.answer_if_any.ensures.replied, refl))
+    (came.0, came.1, (a, came.2, refl, c.answer_if_any.ensures.replied, refl), refl)
 
 pub returns-then-process_frame_fast-clause-settings : goal.returns-then-process_frame_fast-clause-settings
 returns-then-process_frame_fast-clause-settings g c =

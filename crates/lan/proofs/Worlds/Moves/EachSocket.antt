@@ -190,7 +190,7 @@ module _ (W : Socket → Type 0) where
       takes : (s s' : State D) (answer : Option Bool) → OfEach W s.slots → Takes moves s answer s' → OfEach W s'.slots
       takes s s' None all is = subst (λ (x : State D). OfEach W x.slots) (sym is.1) all
       takes s s' (Some false) all is = subst (λ (x : State D). OfEach W x.slots) (sym is.3) all
-      takes s s' (Some true) all (frame, mid, took, reads, (content, read, receives)) =
+      takes s s' (Some true) all (frame, mid, took, reads, (content, read, receives, hears)) =
           subst (OfEach W) (sym receives.2) (brings s.host.inner s.slots _ receives.0 receives.1.1 all)
 
       -- TURNS

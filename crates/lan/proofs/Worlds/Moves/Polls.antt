@@ -15,7 +15,7 @@ use Rattle.iface_ingress.specs.Arrives.{ReplyValue}
 use Rattle.interface.specs.Host.{HostValue, Sender, sender}
 use Rattle.interface.specs.Ingress.{is_read, Takes, Reads, Replied, is_awaited, sender_of, would_solicit}
 use Rattle.interface.specs.Polls.{Polls, begun}
-use Rattle.interface.specs.State.{State, state, at_device}
+use Rattle.interface.specs.State.{State, state, at_device, telling}
 use Rattle.interface.specs.EgressPath.{FragmentLeaves}
 use Rattle.interface.specs.State.{sending_as}
 use Rattle.interface.proofs.Kept.{IsKept}
@@ -139,11 +139,11 @@ module _ {D : Type 0} (moves : D → Move → D → Type 0) (t : ℤ) (names : L
   read : (n : ℕ) (s s' : State D) (frame : List ℕ) (mid : D) → moves s.device (Took s.host.inner.instant frame) mid → is_read frame ≡ true →
       Reads moves frame (at_device s mid) s' →
       IsAsAt i0 t s.host.inner → Begun s.device → At n s → At (n + 1) s'
-  read n s s' frame mid took reads (content, is, receives) like begins f =
+  read n s s' frame mid took reads (content, is, receives, hears) like begins f =
       let a = receives.0 in
       let back : Stays i0 s'.host.inner → Stays i0 a.inner =
       stays_before i0 a.inner s'.host.inner (receives_same moves content (at_device s mid) s' receives).1 in
-      let gave = takes moves (GaveAt s.device) (gave_back s.device) s s' (Some true) (frame, mid, took, reads, (content, is, receives)) (λ g. g) in
+      let gave = takes moves (GaveAt s.device) (gave_back s.device) s s' (Some true) (frame, mid, took, reads, (content, is, receives, hears)) (λ g. g) in
       let same = (receives_same moves content (at_device s mid) s' receives).0 in
       let with_it : Frames = and_taken f.frames frame in
       let later : IpAddress → HardwareAddress → Type 0 = Knows with_it s'.host.inner in
@@ -179,10 +179,18 @@ module _ {D : Type 0} (moves : D → Move → D → Type 0) (t : ℤ) (names : L
       let told : L (n + 1) (sending_as g (sender_of moves s') s.slots) p' =
       replied n g s.slots x (sender_of moves s') p' (is_awaited a) a.reply tell (brings_wide s.host.inner s.slots (brought s content) a receives.1.1) end.made
       (same.host_requirements ∙ like.settings.host_requirements ∙ alone) receives.3 given in
-      let placed : L (n + 1) (sending_as g (sender_of moves s') s'.slots) p' =
-      link.grown (n + 1) (sending_as g (sender_of moves s') s.slots) s'.slots p' p' (grows_not p') told in
-      let there : sending_as g (sender_of moves s') s'.slots ≡ s' =
-      λ k. state s'.device (record { inner = s'.host.inner; left = s'.host.left; assemblers = s'.host.assemblers; timeout = sym receives.4 k }) s'.slots in
+      let heard : L (n + 1) (sending_as (telling g s'.host.reports) (sender_of moves s') s.slots) p' =
+      link.hears (n + 1) (sending_as g (sender_of moves s') s.slots) p' s'.host.reports told in
+      let placed : L (n + 1) (sending_as (telling g s'.host.reports) (sender_of moves s') s'.slots) p' =
+      link.grown (n + 1) (sending_as (telling g s'.host.reports) (sender_of moves s') s.slots) s'.slots p' p' (grows_not p') heard in
+      let there : sending_as (telling g s'.host.reports) (sender_of moves s') s'.slots ≡ s' =
+      λ k. state s'.device (record {
+        inner = s'.host.inner;
+        left = s'.host.left;
+        assemblers = s'.host.assemblers;
+        timeout = sym receives.4 k;
+        reports = s'.host.reports;
+      }) s'.slots in
       record {
         now = end.moved.next;
         frames = and_gone with_it out.more;
@@ -253,7 +261,7 @@ module _ {D : Type 0} (moves : D → Move → D → Type 0) (t : ℤ) (names : L
   since_arrivals : (s s' : State D) (answer : Option Bool) → Since s → Takes moves s answer s' → Since s'
   since_arrivals s s' None since takes = subst Since (sym takes.1) since
   since_arrivals s s' (Some false) since takes = subst Since (sym takes.3) since
-  since_arrivals s s' (Some true) since (frame, mid, took, reads, (content, is, receives)) =
+  since_arrivals s s' (Some true) since (frame, mid, took, reads, (content, is, receives, hears)) =
       let same = receives_same moves content (at_device s mid) s' receives in
       since_out i0 receives.0.inner s'.host.inner same.1 (since_arrival i0 s.host.inner receives.0.inner same.0
       (brings_later s.host.inner s.slots (brought s content) receives.0 receives.1.1) since)

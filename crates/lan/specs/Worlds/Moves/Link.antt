@@ -17,7 +17,8 @@ use Rattle.iface_ingress.specs.Incoming.{IncomingValue, IsContent}
 use Rattle.iface_ingress.specs.Reassembled.{Assemblers}
 use Rattle.interface.specs.Ingress.{is_read}
 use Rattle.interface.specs.Polls.{begun}
-use Rattle.interface.specs.State.{State, state, at_device}
+use Rattle.interface.specs.Host.{ReportsValue}
+use Rattle.interface.specs.State.{State, state, at_device, telling}
 use Rattle.interface.specs.Serve.{is_done}
 use Rattle.lan.specs.Worlds.AtLink.Parties.{Party}
 use Rattle.lan.specs.Worlds.Moves.Made.{Grows, IsMade, IsWide, BringsMade}
@@ -49,6 +50,8 @@ module _ {D : Type 0} (moves : D → Move → D → Type 0) where
   pub record IsLink (q : Party) (L : ℕ → State D → Party → Type 0) : Type 0 where
     pub more : (n m : ℕ) (s : State D) (p : Party) → n ≤ m → L n s p → L m s p
     pub grown : (n : ℕ) (s : State D) (slots : List (SocketStorage Socket)) (p p' : Party) → Grows p p' → L n s p → L n (state s.device s.host slots) p'
+    -- nor of what is told of multicast groups
+    pub hears : (n : ℕ) (s : State D) (p : Party) (reports : Option ReportsValue) → L n s p → L n (state s.device (telling s.host reports) s.slots) p
     pub maintenance : (n : ℕ) (t : ℤ) (s : State D) (p : Party) → L n s p → L n (begun t s) p
     pub looks : (n : ℕ) (s : State D) (p : Party) (d : D) → moves s.device (Empty s.host.inner.instant) d → L n s p → L n (at_device s d) p
     pub skips : (n : ℕ) (s : State D) (p : Party) (frame : List ℕ) (d : D) → moves s.device (Took s.host.inner.instant frame) d → is_read frame ≡ false →

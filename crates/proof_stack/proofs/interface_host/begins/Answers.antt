@@ -1,6 +1,7 @@
 use Rattle.std.proofs.Common.{◌≡◌, ℕ, pos, Bool, if◌then◌else◌, [], None, true, false, length, refl}
-use Rattle.std.specs.Prelude.{max}
+use Rattle.std.specs.Prelude.{max, is_some, Some}
 use Rattle.std.proofs.lemmas.List.{length-replicate}
+use Rattle.iface_tables.specs.Groups.{no_groups}
 use Rattle.iface_tables.specs.Neighbor as Neighbors
 use Rattle.iface_tables.specs.Neighbor.{CacheValue}
 use Rattle.iface_tables.specs.Reassembly.{initial}
@@ -16,6 +17,10 @@ cache many room = record { entries = []; room = room; silent = pos 0; searches =
 for_many : (many : Bool) (room : ℕ) → neighbors_for many (Neighbors.initial room) ≡ cache many room
 for_many true room = refl
 for_many false room = refl
+
+tells : {X : Type 0} (is : Bool) (x : X) → is_some (if is then Some x else None) ≡ is
+tells true x = refl
+tells false x = refl
 
 pub returns : goal.returns
 returns g c =
@@ -37,6 +42,8 @@ returns g c =
       assemblers = made-has config device instant result (λ (h : HostValue). length h.assemblers ≡ assembler_count config) made
           (length-replicate (assembler_count config) (initial 4096));
       timeout = made-has config device instant result (λ (h : HostValue). h.timeout ≡ 60000000) made refl;
+      groups = made-has config device instant result (λ (h : HostValue). h.inner.groups ≡ no_groups config.max_group_count) made refl;
+      reports = made-has config device instant result (λ (h : HostValue). is_some h.reports ≡ config.multicast_reports) made (tells config.multicast_reports _);
       short = refused-short config device instant result made;
       long = refused-long config device instant result made;
     }

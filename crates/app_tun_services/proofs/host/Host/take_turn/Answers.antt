@@ -4,7 +4,7 @@ use Rattle.std.proofs.lemmas.List.{with_items_is}
 use Rattle.std.specs.Vec.{with_items}
 use Rattle.app_tun_services.specs.declared.site.Session.{Session}
 use Rattle.interface.specs.Host.{HostValue}
-use Rattle.interface.specs.Polls.{Polls, is_change}
+use Rattle.interface.specs.Polls.{HostPolls, is_change}
 use Rattle.interface.specs.State.{state}
 use Rattle.interface.specs.Set.{slots}
 use Rattle.app_tun_services.specs.Link.Drain.{DrainValue, DrainMove}
@@ -32,20 +32,25 @@ returns-clause-turn g c =
       sessions = ys;
       tally = c.serve.new.tally;
     } in
+    let taken = subst (λ (d : DrainValue). HostPolls DrainMove c.args.now budget (state d before.interface (slots before.sockets)) (is_change c.poll.result) come)
+    c.put.ensures c.poll.ensures in
     record {
       come = come;
       done = done;
       gone = gone;
       changed = is_change c.poll.result;
       changed_again = is_change c.poll-2.result;
-      takes = subst (λ (d : DrainValue). Polls DrainMove c.args.now budget (state d before.interface (slots before.sockets)) (is_change c.poll.result) come)
-          c.put.ensures c.poll.ensures;
+      begun = taken.0;
+      works = taken.1;
+      takes = taken.2;
       tally = c.serve.new.tally;
       serves = subst (λ (xs : List Session). AreServed c.args.now c.poll.new.drain (was xs before.sessions.items) before.tally done c.serve.new.tally)
           c.as_mut_slice.ensures.value
           (subst (λ (xs : List Session). AreServed c.args.now c.poll.new.drain (was c.as_mut_slice.result.now xs) before.tally done c.serve.new.tally)
           c.as_mut_slice-2.ensures.value c.serve.ensures.serve);
-      sends = c.poll-2.ensures;
+      begun_again = c.poll-2.ensures.0;
+      works_again = c.poll-2.ensures.1;
+      sends = c.poll-2.ensures.2;
       asked = c.poll_at.ensures.value;
       after = ap (λ (xs : List Session). ended c.poll_at.new.self xs (with_items before.sessions c.serve.new.sessions).items) echo_sessions
           ∙ (ap (ended c.poll_at.new.self done.echo_sessions) sessions ∙

@@ -1,0 +1,3 @@
+mod LastThree
+mod Alerts
+pub mod Quiet

@@ -1,0 +1,5 @@
+pub mod Reports
+pub mod Heard
+pub mod Told
+pub mod Frames
+pub mod Transmits
