@@ -396,7 +396,7 @@ impl Device for Kept {
 #[test]
 fn a_device_takes_what_it_has_room_for() {
     let mut device = Kept { came: Vec::new(), went: Vec::new(), room: 3 };
-    let ethernet = Config { medium: Medium::Ethernet([2, 0, 0, 0, 0, 1]), max_transmission_unit: 0, random_seed: 1, isn_key: None, frames: 2, host_requirements: true };
+    let ethernet = Config { medium: Medium::Ethernet([2, 0, 0, 0, 0, 1]), max_transmission_unit: 0, random_seed: 1, isn_key: None, frames: 2, host_requirements: true, multicast_reports: true };
     assert_eq!(Interface::on_device(&ethernet, &device, Instant::ZERO).err(), Some(Error::Medium));
     let mut host = Interface::on_device(&Config { medium: Medium::Ip, ..ethernet }, &device, Instant::ZERO).unwrap();
     host.add_ip_addr(FIRST, 24).unwrap();
@@ -417,7 +417,7 @@ fn a_device_takes_what_it_has_room_for() {
 #[test]
 fn a_stream_goes_round_a_loopback() {
     let mut device = Loopback::new(phy::Medium::Ip);
-    let config = Config { medium: Medium::Ip, max_transmission_unit: 0, random_seed: 1, isn_key: None, frames: 4, host_requirements: false };
+    let config = Config { medium: Medium::Ip, max_transmission_unit: 0, random_seed: 1, isn_key: None, frames: 4, host_requirements: false, multicast_reports: false };
     let mut host = Interface::on_device(&config, &device, Instant::ZERO).unwrap();
     host.add_ip_addr(IpAddr::V4(Ipv4Addr::LOCALHOST), 8).unwrap();
     let (client, server) = (host.add_tcp(4096, 4096).unwrap(), host.add_tcp(4096, 4096).unwrap());
