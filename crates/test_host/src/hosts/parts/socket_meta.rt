@@ -1,9 +1,9 @@
 //! Tests of the mark of a socket that waits for its neighbour.
 use crate::cases::{Goes, Life, all_live, first_wrong};
-use iface_egress::Meta;
+use interface::Meta;
 use ip_wire::{IpAddress, Ipv4Address};
 use net_base::{Duration, Instant};
-use socket_context::PollAt;
+use sockets::PollAt;
 use std::alloc::Global;
 
 const NEIGHBOR: IpAddress = IpAddress::Ipv4(Ipv4Address([192, 168, 1, 2]));
