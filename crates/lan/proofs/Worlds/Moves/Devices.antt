@@ -104,7 +104,7 @@ module _ {D : Type 0} (moves : D → Move → D → Type 0) (Q : D → Type 0) (
 
   -- from where it was taken
   pub reads : (s s' : State D) (is : Takes moves s (Some true) s') → Q is.1 → Q s'.device
-  reads s s' (frame, mid, took, read, (content, so, receives)) holds =
+  reads s s' (frame, mid, took, read, (content, so, receives, hears)) holds =
       replied (is_awaited receives.0) receives.0.reply (record { device = mid; inner = receives.0.inner; left = s.host.left }) (sender_of moves s') receives.3 holds
 
   -- A TURN
