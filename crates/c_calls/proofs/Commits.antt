@@ -1,12 +1,11 @@
 -- Bytes that a program writes where they are queued.
-use Rattle.std.proofs.Common.{◌≡◌, ℕ, ◌+◌, ◌≤◌, Bool, true, false, List, inl, inr, refl, sym, ap, ◌∙◌, arith}
+use Rattle.std.proofs.Common.{◌≡◌, ℕ, ◌+◌, ◌≤◌, ◌⊎◌, Bool, true, false, List, [], ◌∷◌, inl, inr, refl, sym, ap, ◌∙◌, arith}
 use Rattle.std.proofs.lemmas.List.{append-nil, length-append, take-append-drop, take_all}
+use Rattle.std.proofs.Math.Dec.{eqb-suc-zero}
 use Rattle.std.proofs.Math.Nat.{min-eq_left}
 use Rattle.std.proofs.Math.Seq.{take-append_seam, drop-append_seam}
 use Rattle.std.specs.Prelude.{◌++◌, ◌-◌, ◌&&◌, nat_le, min, length, take, drop, if◌then◌else◌}
-use Rattle.net_base.specs.Ring.{Ring, anchored, capacity, extended, enqueued, overwritten, ring}
-use Rattle.base_buffer.proofs.PacketSteps.{anchored-queue_same}
-use Rattle.base_buffer.proofs.RingSteps.{anchored-cases}
+use Rattle.net_base.specs.Ring.{Ring, anchored, capacity, cleared, extended, enqueued, overwritten, ring}
 use Rattle.sockets.specs.TcpCalls.{send_after, sent_more}
 use Rattle.sockets.specs.TcpStates.{takes_writes}
 use Rattle.sockets.specs.TcpValue.{TcpValue, unoffered}
@@ -24,9 +23,23 @@ same_room r k = same_by r.queue r.free (take k r.free) (drop k r.free) r.start (
 pub none_more : (r : Ring ℕ) → extended r 0 ≡ r
 none_more r = rw (append-nil r.queue) refl
 
+-- an empty ring begins anew, and another stays as it is
+anchored_by : (q f : List ℕ) (s : ℕ) → ((q ≡ []) × (anchored (ring q f s) ≡ cleared (ring q f s))) ⊎ (anchored (ring q f s) ≡ ring q f s)
+anchored_by [] f s = inl (refl, refl)
+anchored_by (x ∷ xs) f s = inr (rw (eqb-suc-zero (length xs)) refl)
+
+anchored_cases : (r : Ring ℕ) → ((r.queue ≡ []) × (anchored r ≡ cleared r)) ⊎ (anchored r ≡ r)
+anchored_cases r = anchored_by r.queue r.free r.start
+
+anchored_queue : (r : Ring ℕ) → (anchored r).queue ≡ r.queue
+anchored_queue r = elim (anchored_cases r) [
+  | inl none ↦ ap (λ s. s.queue) none.1 ∙ sym none.0
+  | inr same ↦ ap (λ s. s.queue) same
+]
+
 -- WHAT IS LENT isn't queued
 pub kept_queue : (b : Bool) (v : TcpValue) → (if b then sent_more v (anchored v.queued) else unoffered v).queued.queue ≡ v.queued.queue
-kept_queue true v = anchored-queue_same v.queued
+kept_queue true v = anchored_queue v.queued
 kept_queue false v = refl
 
 -- WHAT IS COMMITTED
@@ -39,7 +52,7 @@ rotated_len k xs =
 
 -- an empty ring has as much room wherever it begins
 anchored_len : (r : Ring ℕ) → length (anchored r).free ≡ length r.free
-anchored_len r = elim (anchored-cases r) [
+anchored_len r = elim (anchored_cases r) [
   | inl none ↦ ap (λ s. length s.free) none.1 ∙ rotated_len (capacity r - r.start) (r.queue ++ r.free) ∙ ap (λ q. length (q ++ r.free)) none.0
   | inr same ↦ ap (λ s. length s.free) same
 ]
