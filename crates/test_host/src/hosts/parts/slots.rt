@@ -1,5 +1,5 @@
 //! Tests of slots that are found by a key, and of how many sockets a search looks at.
-use interface::{Idle, SocketSet, SocketStorage, Wanted};
+use iface_egress::{Idle, SocketSet, SocketStorage, Wanted};
 use net_base::ManagedSlice;
 use std::alloc::Global;
 use std::cell::Cell;

@@ -1,9 +1,9 @@
 //! Tests of the mark of a socket that waits for its neighbour.
 use crate::cases::{Goes, Life, all_live, first_wrong};
-use interface::Meta;
+use iface_egress::Meta;
 use ip_wire::{IpAddress, Ipv4Address};
 use net_base::{Duration, Instant};
-use sockets::PollAt;
+use socket_context::PollAt;
 use std::alloc::Global;
 
 const NEIGHBOR: IpAddress = IpAddress::Ipv4(Ipv4Address([192, 168, 1, 2]));

@@ -1,6 +1,6 @@
 //! Tests of a host's set of sockets.
 use crate::cases::{Goes, Life, all_live, first_wrong};
-use interface::{AddError, Idle, SocketHandle, SocketSet, SocketStorage};
+use iface_egress::{AddError, Idle, SocketHandle, SocketSet, SocketStorage};
 use net_base::ManagedSlice;
 use std::alloc::Global;
 
