@@ -4,3 +4,4 @@ mod Others
 mod Strays
 mod Room
 mod Answers
+mod DueRows

@@ -4,3 +4,4 @@
 pub mod bounded;
 pub mod heard;
 pub mod told;
+pub mod tried;
