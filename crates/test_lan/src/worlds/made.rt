@@ -118,7 +118,7 @@ fn refused(rt: &HostRuntime, wrong: &str) -> Result<Option<WorldError>, Fail> {
 }
 
 /// What is wrong with A, and why the two make no world, if they don't. (Scripts have the bounds of an MTU and of buffers.)
-static HOSTS: [(&str, Option<WorldError>); 8] = [
+static HOSTS: [(&str, Option<WorldError>); 7] = [
     ("nothing", None),
     ("its medium", Some(WorldError::Media)),
     ("its checksums", Some(WorldError::Checksums)),
