@@ -61,3 +61,4 @@ pub mod MovedOn
 pub mod AtEdges
 mod Duplicates
 pub mod RequestsCounted
+pub mod LostPackets

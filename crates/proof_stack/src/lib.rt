@@ -27,6 +27,7 @@ pub mod interface_refusals;
 pub mod interface_values;
 pub mod lan_facade;
 pub mod links;
+pub mod lost_packets;
 pub mod packets;
 pub mod passed_on;
 pub mod peer_host;
